@@ -10,6 +10,7 @@ and docs/LOGIC.md, and with the client in examples/ the texts and bytes of state
 
 It reads right texts alone: a line whose statement or proof has a fault, one of its limits included, is answered `?`.
 """
+import datetime
 import random
 import re
 import sys
@@ -514,8 +515,21 @@ def permission(word):
     return word
 
 
+def dated(word):
+    """The second with which a date begins, or that of a date with a time of day."""
+    form = "%Y-%m-%d" if len(word) == 10 else "%Y-%m-%dT%H:%M:%SZ"
+    need(re.fullmatch("[0-9]{4}-[0-9]{2}-[0-9]{2}(T[0-9]{2}:[0-9]{2}:[0-9]{2}Z)?", word))
+    try:
+        moment = datetime.datetime.strptime(word, form)
+    except ValueError:
+        raise Bad() from None
+    return (moment - datetime.datetime(1970, 1, 1)) // datetime.timedelta(seconds=1)
+
+
 def second(word):
-    need(re.fullmatch("-?[0-9]{1,18}", word) and FIRST <= int(word) <= LAST)
+    if re.fullmatch("-?[0-9]{1,18}", word) is None:
+        return dated(word)
+    need(FIRST <= int(word) <= LAST)
     return int(word)
 
 
@@ -1079,7 +1093,8 @@ class Drawn:
             elif kind == "checkpoint":
                 yield self.tell("checkpoint")
             elif kind == "at":
-                yield self.tell(f"at {self.draw.choice([0, 100, 100, 150, 200, 290, 301] if self.draw.random() < 0.2 else [100, 150, 200])}")
+                seldom = [0, 100, 150, 290, 301, "1970-01-01T00:01:40Z", "1970-01-01", "1970-02-30"]
+                yield self.tell(f"at {self.draw.choice(seldom if self.draw.random() < 0.2 else [100, 150, 200])}")
             else:
                 yield self.tell(self.operation())
 

@@ -21,12 +21,13 @@ use Rattle.access_history.specs.declared.reply.DenialCause.TheVariants as causes
 use Rattle.access_history.specs.Base.{BaseView}
 use Rattle.access_history.specs.Numbered.{IsNumbered}
 use Rattle.access_history.specs.Authority.{sayings}
+use Rattle.access_history.specs.Books.{book_of, statements_in}
 use Rattle.access_history.specs.Citing.{IsGoodIssue}
 use Rattle.access_history.specs.Admission.{wanted_goal, causes_from, denial_causes, Passes, Admits, Denies, IsNeedMet, IsAdmitted, IsDenied}
 use Rattle.access_history.specs.Lawful.{IsDerived, AreDerived}
 use Rattle.access_history.proofs.ListLemmas.{AllByRecursion-parts, AllByRecursion-weaker, AllByRecursion-contains}
 use Rattle.access_history.proofs.NumberedLemmas.{numbered_item, none_fails, first_failing}
-use Rattle.access_history.proofs.CitingLemmas.{Includes-cited}
+use Rattle.access_history.proofs.CitingLemmas.{Includes-cited, SoundGrant-granted}
 
 module _ (key : List ℕ) (state : BaseView) (moment : ℤ) (goal : Goal) (p : Procap) where
   times_hold : (place : ℕ) (times : List Constraint) → AllByRecursion (Passes key state moment goal p) (causes_from causes.Time place times) → AllByRecursion (HoldsAt moment) times
@@ -72,12 +73,13 @@ Allows-named statements state moment goal g sound who file perm holds =
 
 IsDerived-met : (key : List ℕ) (state : BaseView) (caller : List ℕ) (procaps : List Procap) (moment : ℤ) → AllByRecursion (IsGoodIssue (sayings state.statements)) state.issues → (need : Need) → IsNeedMet key state caller procaps moment need → IsDerived state caller procaps moment need
 IsDerived-met key state caller procaps moment good need met p brought was =
-    let statements = sayings state.statements in
+    let registered = sayings state.statements in
+    let statements = statements_in (book_of state) in
     let same : met.procap ≡ p = numbered_item procaps need.place met.procap p met.brought brought in
     let admits : Admits key state moment (wanted_goal caller need) p = subst (Admits key state moment (wanted_goal caller need)) same met.admits in
-    let issue : IsGoodIssue statements was.issue = AllByRecursion-contains (IsGoodIssue statements) state.issues was.issue good was.among in
+    let issue : IsGoodIssue registered was.issue = AllByRecursion-contains (IsGoodIssue registered) state.issues was.issue good was.among in
     let sound : SoundGrant statements was.issue.grant =
-    SoundGrant-more (statements_of issue.cites) statements was.issue.grant (Includes-cited statements issue.cites issue.stand) issue.granted.sound in
+    SoundGrant-more (statements_of issue.cites) statements was.issue.grant (Includes-cited (book_of state) issue.cites issue.stand) (SoundGrant-granted issue.cites was.issue.proof was.issue.grant issue.granted) in
     Allows-named statements state moment (wanted_goal caller need) p.grant (subst (SoundGrant statements) was.grant_is sound) admits.1.0 admits.1.1.0 admits.1.1.1.0 (Holds-admits key state moment (wanted_goal caller need) p admits)
 
 -- what an admitted operation needs is derivable, if the grants were issued

@@ -24,12 +24,14 @@ use Rattle.access_history.specs.declared.reply.StepReply.TheVariants as replies
 use Rattle.access_history.specs.Base.{BaseView}
 use Rattle.access_history.specs.Numbered.{IsNumbered}
 use Rattle.access_history.specs.Authority.{Authority, IsSignedStatement, MayBeRegistered, sayings, procap_of}
-use Rattle.access_history.specs.Citing.{StandsUnderNumber, IsMoved, numbers_of}
+use Rattle.access_history.specs.Books.{book_of}
+use Rattle.access_history.specs.Citing.{StandsUnderNumber, IsMoved, issued_grant, numbers_of}
 use Rattle.access_history.specs.Replay.{replay}
 use Rattle.access_history.specs.Admission.{IsAdmitted, IsDenied}
 use Rattle.access_history.specs.Answer.{moment_of, IsShown, Answers, unsigned, duplicate, registry_full, registered, moved, issued, denied, refused, acted, not_shown, shown}
 use Rattle.access_history.specs.Lawful.{IsLawful}
 use Rattle.access_history.proofs.AdmissionLemmas.{admitted_or_denied, one_denial}
+use Rattle.access_history.proofs.CitingLemmas.{said_length}
 use Rattle.access_history.proofs.LawfulLemmas.{IsLawfulBase-lawful}
 use Rattle.access_history.proofs.NumberedLemmas.{Contains-numbered, numbered_item, distinct_number, none_fails, first_failing}
 
@@ -50,31 +52,31 @@ module _ (authority : Authority) (state : BaseView) (pass : ℕ) (clock : ℤ) w
   only_duplicate statement signature number distinct signed numbered _ _ (duplicate _ _ other signed' numbered') =
       (ap (λ (n : ℕ). replies.Rejected (Duplicate n)) (distinct_number (sayings state.statements) number other statement distinct numbered numbered'), refl)
   only_duplicate statement signature number distinct signed numbered _ _ (registry_full _ _ signed' new full) = absurd (new (Contains-numbered (sayings state.statements) number statement numbered))
-  only_duplicate statement signature number distinct signed numbered _ _ (registered _ _ may) = absurd (may.new (Contains-numbered (sayings state.statements) number statement numbered))
+  only_duplicate statement signature number distinct signed numbered _ _ (registered _ _ may) = absurd (may.can.new (Contains-numbered (sayings state.statements) number statement numbered))
 
   only_full : (statement : StatementView) (signature : List ℕ) → IsSignedStatement authority statement signature → (Contains (sayings state.statements) statement → ⊥) → 4096 ≤ length state.statements
       → IsOnly (requests.Register statement signature) (replies.Rejected RegistryFull) None
   only_full statement signature signed new full _ _ (unsigned _ _ not_signed) = absurd (not_signed signed)
   only_full statement signature signed new full _ _ (duplicate _ _ other signed' numbered) = absurd (new (Contains-numbered (sayings state.statements) other statement numbered))
   only_full statement signature signed new full _ _ (registry_full _ _ signed' new' full') = (refl, refl)
-  only_full statement signature signed new full _ _ (registered _ _ may) = absurd (omega (arith, full, may.room))
+  only_full statement signature signed new full _ _ (registered _ _ may) = absurd (omega (arith, full, may.can.room, said_length state.statements))
 
   only_registered : (statement : StatementView) (signature : List ℕ) → MayBeRegistered authority state.statements statement signature
       → IsOnly (requests.Register statement signature) (replies.Statement (length state.statements + 1)) (Some (events.Registered pass statement signature))
   only_registered statement signature may _ _ (unsigned _ _ not_signed) = absurd (not_signed may.signed)
-  only_registered statement signature may _ _ (duplicate _ _ other signed numbered) = absurd (may.new (Contains-numbered (sayings state.statements) other statement numbered))
-  only_registered statement signature may _ _ (registry_full _ _ signed new full) = absurd (omega (arith, full, may.room))
+  only_registered statement signature may _ _ (duplicate _ _ other signed numbered) = absurd (may.can.new (Contains-numbered (sayings state.statements) other statement numbered))
+  only_registered statement signature may _ _ (registry_full _ _ signed new full) = absurd (omega (arith, full, may.can.room, said_length state.statements))
   only_registered statement signature may _ _ (registered _ _ may') = (refl, refl)
 
-  only_moved : (checked : CheckedView) (number : ℕ) → IsMoved (sayings state.statements) checked.cited number → IsOnly (requests.Issue checked) (replies.Absent number) None
+  only_moved : (checked : CheckedView) (number : ℕ) → IsMoved (book_of state) checked.cited number → IsOnly (requests.Issue checked) (replies.Absent number) None
   only_moved checked number first _ _ (moved _ number' first') =
-      let same = first_failing (StandsUnderNumber (sayings state.statements)) checked.cited first.place first'.place first.cite first'.cite first.first first'.first in
+      let same = first_failing (StandsUnderNumber (book_of state)) checked.cited first.place first'.place first.cite first'.cite first.first first'.first in
       (ap replies.Absent (first.number_is ∙ (ap (λ (c : Cite). c.number) same.1 ∙ sym first'.number_is)), refl)
-  only_moved checked number first _ _ (issued _ rising granted stand) = absurd (none_fails (StandsUnderNumber (sayings state.statements)) checked.cited first.place first.cite stand first.first)
+  only_moved checked number first _ _ (issued _ rising granted stand) = absurd (none_fails (StandsUnderNumber (book_of state)) checked.cited first.place first.cite stand first.first)
 
-  only_issued : (checked : CheckedView) → AllByRecursion (StandsUnderNumber (sayings state.statements)) checked.cited
-      → IsOnly (requests.Issue checked) (replies.Issue (length state.issues + 1) (length checked.grant.times) (length checked.grant.states)) (Some (events.Issued pass (numbers_of checked.cited) checked.proof checked.grant))
-  only_issued checked stand _ _ (moved _ number first) = absurd (none_fails (StandsUnderNumber (sayings state.statements)) checked.cited first.place first.cite stand first.first)
+  only_issued : (checked : CheckedView) → AllByRecursion (StandsUnderNumber (book_of state)) checked.cited
+      → IsOnly (requests.Issue checked) (replies.Issue (length state.issues + 1) (length checked.grant.times) (length checked.grant.states)) (Some (events.Issued pass (numbers_of checked.cited) checked.proof (issued_grant checked.grant (numbers_of checked.cited))))
+  only_issued checked stand _ _ (moved _ number first) = absurd (none_fails (StandsUnderNumber (book_of state)) checked.cited first.place first.cite stand first.first)
   only_issued checked stand _ _ (issued _ rising granted stand') = (refl, refl)
 
   abbrev denial_of : ℕ → DenialCause → StepReply

@@ -31,10 +31,12 @@ use Rattle.access_history.specs.declared.reply.StepReply.{StepReply}
 use Rattle.access_history.specs.Base.{BaseView}
 use Rattle.access_history.specs.Numbered.{IsNumbered}
 use Rattle.access_history.specs.Authority.{Authority, IsSignedStatement, sayings}
-use Rattle.access_history.specs.Citing.{StandsUnderNumber}
+use Rattle.access_history.specs.Books.{book_of}
+use Rattle.access_history.specs.Citing.{StandsUnderNumber, IsHeld}
 use Rattle.access_history.specs.Admission.{wanted_goal, denial_causes, Passes, Admits, IsNeedMet, IsAdmitted}
 use Rattle.access_history.specs.Answer.{moment_of, MaySee, Answers, unsigned, duplicate, registry_full, registered, moved, issued, denied, refused, acted, not_shown, shown}
 use Rattle.access_history.specs.WellFormed.{IsWellFormed}
+use Rattle.access_history.proofs.CitingLemmas.{held_or_not, one_held, said_length}
 use Rattle.access_history.proofs.ListLemmas.{AllByRecursion-contains}
 use Rattle.access_history.proofs.NumberedLemmas.{numbered_item, none_fails, Contains-failing}
 use Rattle.access_history.proofs.EitherLemmas.{OrNot, or_not, true_or_not, few_or_full, same_bytes, same_coded, contains_or, HasFailing, all_or_failing, HasItem, item_or_none, item_of_number, number_of, holds_or}
@@ -106,7 +108,7 @@ pub record HasAnswer (authority : Authority) (state : BaseView) (pass : ℕ) (cl
 module _ (authority : Authority) (state : BaseView) (pass : ℕ) (clock : ℤ) where
   module _ (statement : StatementView) (signature : List ℕ) (formed : IsStatement statement) (signed : IsSignedStatement authority statement signature) where
     new_answer : (Contains (sayings state.statements) statement → ⊥) → (length state.statements < 4096) ⊎ (4096 ≤ length state.statements) → HasAnswer authority state pass clock (Register statement signature)
-    new_answer new (inl room) = record { reply = _; event = _; answers = registered statement signature (record { statement = formed; signed = signed; new = new; room = room }) }
+    new_answer new (inl room) = record { reply = _; event = _; answers = registered statement signature (record { statement = formed; signed = signed; can = record { new = new; room = omega (arith, room, said_length state.statements) } }) }
     new_answer new (inr full) = record { reply = _; event = _; answers = registry_full statement signature signed new full }
 
     signed_answer : OrNot (Contains (sayings state.statements) statement) → HasAnswer authority state pass clock (Register statement signature)
@@ -118,18 +120,18 @@ module _ (authority : Authority) (state : BaseView) (pass : ℕ) (clock : ℤ) w
   register_answer statement signature formed (inl signed) = signed_answer statement signature formed signed (contains_or (same_coded statement_code) (sayings state.statements) statement)
   register_answer statement signature formed (inr not_signed) = record { reply = _; event = _; answers = unsigned statement signature not_signed }
 
-  same_as : (cite : Cite) (found : HasItem (sayings state.statements) cite.number) → OrNot (found.item ≡ cite.statement) → OrNot (StandsUnderNumber (sayings state.statements) cite)
-  same_as cite found (inl same) = inl (subst (IsNumbered (sayings state.statements) cite.number) same found.numbered)
-  same_as cite found (inr other) = inr (λ stands. other (numbered_item (sayings state.statements) cite.number found.item cite.statement found.numbered stands))
+  same_as : (cite : Cite) (held : IsHeld (book_of state) cite.number) → OrNot (held.0 ≡ cite.statement) → OrNot (StandsUnderNumber (book_of state) cite)
+  same_as cite held (inl same) = inl (subst (λ (s : StatementView). IsNumbered (book_of state) cite.number (Some s)) same held.1)
+  same_as cite held (inr other) = inr (λ stands. other (one_held (book_of state) cite.number held.0 cite.statement held.1 stands))
 
-  stands_at : (cite : Cite) → HasItem (sayings state.statements) cite.number ⊎ ((s : StatementView) → IsNumbered (sayings state.statements) cite.number s → ⊥) → OrNot (StandsUnderNumber (sayings state.statements) cite)
-  stands_at cite (inl found) = same_as cite found (same_coded statement_code found.item cite.statement)
-  stands_at cite (inr none) = inr (none cite.statement)
+  stands_at : (cite : Cite) → OrNot (IsHeld (book_of state) cite.number) → OrNot (StandsUnderNumber (book_of state) cite)
+  stands_at cite (inl held) = same_as cite held (same_coded statement_code held.0 cite.statement)
+  stands_at cite (inr none) = inr (λ stands. none (cite.statement, stands))
 
-  stands_or : (cite : Cite) → OrNot (StandsUnderNumber (sayings state.statements) cite)
-  stands_or cite = stands_at cite (item_or_none (sayings state.statements) cite.number)
+  stands_or : (cite : Cite) → OrNot (StandsUnderNumber (book_of state) cite)
+  stands_or cite = stands_at cite (held_or_not (book_of state) cite.number)
 
-  issue_answer : (checked : CheckedView) → IsWellFormed (IssueOf checked) → AllByRecursion (StandsUnderNumber (sayings state.statements)) checked.cited ⊎ HasFailing (StandsUnderNumber (sayings state.statements)) checked.cited
+  issue_answer : (checked : CheckedView) → IsWellFormed (IssueOf checked) → AllByRecursion (StandsUnderNumber (book_of state)) checked.cited ⊎ HasFailing (StandsUnderNumber (book_of state)) checked.cited
       → HasAnswer authority state pass clock (IssueOf checked)
   issue_answer checked formed (inl stand) = record { reply = _; event = _; answers = issued checked formed.0 formed.1 stand }
   issue_answer checked formed (inr lacking) =
@@ -158,7 +160,7 @@ module _ (authority : Authority) (state : BaseView) (pass : ℕ) (clock : ℤ) w
   act_answer caller op procaps formed (inl admitted) = admitted_answer caller op procaps admitted (refusal state.world op) refl
   act_answer caller op procaps formed (inr lacking) =
       let within : IsWithin (slots op) lacking.item = AllByRecursion-contains (IsWithin (slots op)) (needs state.world op) lacking.item (needs_within state.world op) (Contains-failing _ _ lacking.place lacking.item lacking.first) in
-      let found : HasItem procaps lacking.item.place = item_of_number procaps lacking.item.place within.0 (omega (arith, within.1, formed.slots)) in
+      let found : HasItem procaps lacking.item.place = item_of_number procaps lacking.item.place within.0 (omega (arith, within.1, formed.brought.slots)) in
       denied_answer caller op procaps lacking found (admits_or_fails authority.key state caller procaps (moment_of state clock) (wanted_goal caller lacking.item) found.item)
 
   may_see_or : (who : Option (List ℕ)) (g : GrantView) → OrNot (MaySee who g)
@@ -180,7 +182,7 @@ module _ (authority : Authority) (state : BaseView) (pass : ℕ) (clock : ℤ) w
 
   some_answer : (request : StepRequest) → IsWellFormed request → HasAnswer authority state pass clock request
   some_answer (Register statement signature) formed = register_answer statement signature formed (true_or_not _)
-  some_answer (IssueOf checked) formed = issue_answer checked formed (all_or_failing (StandsUnderNumber (sayings state.statements)) stands_or checked.cited)
+  some_answer (IssueOf checked) formed = issue_answer checked formed (all_or_failing (StandsUnderNumber (book_of state)) stands_or checked.cited)
   some_answer (Act caller op procaps) formed =
       act_answer caller op procaps formed
       (all_or_failing (IsNeedMet authority.key state caller procaps (moment_of state clock)) (met_or authority.key state caller procaps (moment_of state clock)) (needs state.world op))

@@ -1,27 +1,236 @@
--- Statements keep their numbers if more are added, and so an issue stays good.
-use Rattle.std.proofs.Common.{◌≡◌, ℕ, zero, suc, List, [], ◌∷◌, ◌++◌, Some, refl, ap, subst}
+-- Statements by their numbers: what a number holds, what numbers come to, and that an issue stays good if statements are added.
+use Rattle.std.proofs.Common.{◌≡◌, ◌∙◌, ◌⊎◌, inl, inr, ℕ, zero, suc, List, [], ◌∷◌, ◌++◌, length, Option, Some, None, Result, Ok, Err, refl, sym, ap, subst, ⊎_elim, arith}
 use Rattle.std.specs.Prelude.{Contains}
 use Rattle.std.specs.List.{AllByRecursion, slice_get}
+use Rattle.std.specs.Option.{option_map}
+use Rattle.std.proofs.lemmas.List.{length-map, map-append}
+use Rattle.std.proofs.lemmas.List.Elements.{Contains-append_right}
+use Rattle.std.proofs.lemmas.Option.{none-some, same_Some, slice_get-map}
+use Rattle.bl_syntax.specs.Citable.{AreCitable, DoRise}
+use Rattle.bl_syntax.specs.declared.grant.Goal.{Goal}
+use Rattle.bl_syntax.specs.Grant.{GrantView, IsGrant}
 use Rattle.bl_syntax.specs.Statement.{StatementView}
+use Rattle.bl_syntax.proofs.GrantLemmas.{Contains-head}
+use Rattle.bl_rules.specs.Allowed.{SoundGrant}
 use Rattle.bl_rules.specs.Richer.{Includes}
 use Rattle.policy_statement.specs.Registered.{RegisteredView}
+use Rattle.proof_term.specs.Proof.{ProofView}
 use Rattle.proof_verifier.specs.declared.cites.Cite.{Cite}
-use Rattle.proof_verifier.specs.Cited.{statements_of}
+use Rattle.proof_verifier.specs.Cited.{AreCited, DoCitesRise, statements_of}
+use Rattle.proof_verifier.specs.CheckedView.{CheckedView, IsChecked, IsGranted}
+use Rattle.proof_verifier.specs.Run.{IsFault}
+use Rattle.proof_verifier.specs.Verdict.{verdict}
+use Rattle.proof_verifier.specs.declared.fault.CheckFault.{CheckFault}
+use Rattle.proof_verifier.specs.declared.fault.CheckFault.TheVariants as checks
 use Rattle.access_history.specs.declared.event.Issue.{Issue}
 use Rattle.access_history.specs.Authority.{sayings}
-use Rattle.access_history.specs.Citing.{StandsUnderNumber, IsGoodIssue}
-use Rattle.access_history.proofs.ListLemmas.{AllByRecursion-weaker, AllByRecursion-contains, IsImage-from_map}
-use Rattle.access_history.proofs.NumberedLemmas.{Contains-numbered}
+use Rattle.access_history.specs.Base.{BaseView}
+use Rattle.access_history.specs.Books.{Book, whole_book, statements_in, book_of}
+use Rattle.access_history.specs.Citing.{numbers_of, StandsUnderNumber, IsHeld, AreFound, IsAbsent, IsGrantOf, as_proved, issued_grant, IsGrantedFrom, IsGoodIssue, MayBeIssued}
+use Rattle.access_history.specs.Numbered.{IsNumbered, HasNumber}
+use Rattle.access_history.proofs.EitherLemmas.{OrNot, HasFailing, all_or_failing, HasItem, item_or_none}
+use Rattle.access_history.proofs.ListLemmas.{AllByRecursion-weaker, AllByRecursion-contains}
+use Rattle.access_history.proofs.NumberedLemmas.{HasNumber-item, numbered_item, none_fails, first_failing}
+
+-- ---- what a number holds
 
 slice_get-more : {A : Type 0} (xs ys : List A) (place : ℕ) (x : A) → slice_get xs place ≡ Some x → slice_get (xs ++ ys) place ≡ Some x
 slice_get-more [] ys place x found = cc
 slice_get-more (first ∷ xs) ys zero x found = found
 slice_get-more (first ∷ xs) ys (suc place) x found = slice_get-more xs ys place x found
 
+IsNumbered-more : {A : Type 0} (xs ys : List A) (number : ℕ) (x : A) → IsNumbered xs number x → IsNumbered (xs ++ ys) number x
+IsNumbered-more xs ys number x numbered = record { place = numbered.place; from_one = numbered.from_one; found = slice_get-more xs ys numbered.place x numbered.found }
+
+-- a number holds one statement
+pub one_held : (book : Book) (number : ℕ) (first second : StatementView) → IsNumbered book number (Some first) → IsNumbered book number (Some second) → first ≡ second
+one_held book number first second one other = same_Some first second (numbered_item book number (Some first) (Some second) one other)
+
+held_item : (book : Book) (number : ℕ) (item : Option StatementView) → IsNumbered book number item → OrNot (IsHeld book number)
+held_item book number (Some s) numbered = inl (s, numbered)
+held_item book number None numbered = inr (λ held. none-some held.0 (numbered_item book number None (Some held.0) numbered held.1))
+
+held_or : (book : Book) (number : ℕ) → HasItem book number ⊎ ((item : Option StatementView) → IsNumbered book number item → ⊥) → OrNot (IsHeld book number)
+held_or book number (inl found) = held_item book number found.item found.numbered
+held_or book number (inr none) = inr (λ held. none (Some held.0) held.1)
+
+-- a number holds a statement, or it does not
+pub held_or_not : (book : Book) (number : ℕ) → OrNot (IsHeld book number)
+held_or_not book number = held_or book number (item_or_none book number)
+
+-- what is held is among the statements of the book
+Contains-held : (book : Book) (place : ℕ) (s : StatementView) → slice_get book place ≡ Some (Some s) → Contains (statements_in book) s
+Contains-held [] place s found = absurd cc
+Contains-held (None ∷ book) zero s found = absurd cc
+Contains-held (None ∷ book) (suc place) s found = Contains-held book place s found
+Contains-held (Some t ∷ book) zero s found =
+    let same : t ≡ s = cc in Contains-head s t (statements_in book) same
+Contains-held (Some t ∷ book) (suc place) s found = Contains-append_right (t ∷ []) (statements_in book) s (Contains-held book place s found)
+
+-- ---- statements of entries
+
+abbrev statement_of : RegisteredView → StatementView
+statement_of entry = entry.statement
+
+-- a statement has the number of its entry
+pub said_numbered : (entries : List RegisteredView) (number : ℕ) (entry : RegisteredView) → IsNumbered entries number entry → IsNumbered (sayings entries) number entry.statement
+said_numbered entries number entry n = record { place = n.place; from_one = n.from_one; found = slice_get-map statement_of entries n.place ∙ ap (option_map statement_of) n.found }
+
+-- there are as many statements as entries
+pub said_length : (entries : List RegisteredView) → length (sayings entries) ≡ length entries
+said_length entries = length-map entries statement_of
+
+pub said_has : (entries : List RegisteredView) (number : ℕ) → HasNumber (sayings entries) number → HasNumber entries number
+said_has entries number has = (has.0, omega (arith, has.1, said_length entries))
+
+-- ---- books in which each number holds a statement
+
+abbrev held_as : StatementView → Option StatementView
+held_as s = Some s
+
+-- what such a book holds is the statement of that number
+pub IsNumbered-whole : (statements : List StatementView) (number : ℕ) (s : StatementView) → IsNumbered statements number s → IsNumbered (whole_book statements) number (Some s)
+IsNumbered-whole statements number s numbered =
+    record { place = numbered.place; from_one = numbered.from_one; found = slice_get-map held_as statements numbered.place ∙ ap (option_map held_as) numbered.found }
+
+held_twice : (found : Option StatementView) (s : StatementView) → option_map held_as found ≡ Some (Some s) → found ≡ Some s
+held_twice None s is = cc
+held_twice (Some t) s is = same_Some (Some t) (Some s) is
+
+pub IsNumbered-from_whole : (statements : List StatementView) (number : ℕ) (s : StatementView) → IsNumbered (whole_book statements) number (Some s) → IsNumbered statements number s
+IsNumbered-from_whole statements number s numbered =
+    record { place = numbered.place; from_one = numbered.from_one; found = held_twice (slice_get statements numbered.place) s (sym (slice_get-map held_as statements numbered.place) ∙ numbered.found) }
+
+-- its numbers are those of the statements
+pub HasNumber-held : (statements : List StatementView) (number : ℕ) → IsHeld (whole_book statements) number → HasNumber statements number
+HasNumber-held statements number held = HasNumber-item statements number held.0 (IsNumbered-from_whole statements number held.0 held.1)
+
+-- and the numbers of the entries of which they are the statements
+pub entry_held : (entries : List RegisteredView) (number : ℕ) (entry : RegisteredView) → IsNumbered entries number entry → IsNumbered (whole_book (sayings entries)) number (Some entry.statement)
+entry_held entries number entry numbered = IsNumbered-whole (sayings entries) number entry.statement (said_numbered entries number entry numbered)
+
+pub held_has : (entries : List RegisteredView) (number : ℕ) → IsHeld (whole_book (sayings entries)) number → HasNumber entries number
+held_has entries number held = said_has entries number (HasNumber-held (sayings entries) number held)
+
+-- its statements are these
+pub statements_in-whole : (statements : List StatementView) → statements_in (whole_book statements) ≡ statements
+statements_in-whole [] = refl
+statements_in-whole (s ∷ statements) = ap (λ (ss : List StatementView). s ∷ ss) (statements_in-whole statements)
+
+-- what holds of each registered statement holds of those that stand
+pub all_standing : (P : StatementView → Type 0) (state : BaseView) → AllByRecursion P (sayings state.statements) → AllByRecursion P (statements_in (book_of state))
+all_standing P state all = subst (AllByRecursion P) (sym (statements_in-whole (sayings state.statements))) all
+
+-- each statement that stands in a state is one that was registered under that number
+pub stand_registered : (state : BaseView) (cites : List Cite) → AllByRecursion (StandsUnderNumber (book_of state)) cites → AllByRecursion (StandsUnderNumber (whole_book (sayings state.statements))) cites
+stand_registered state cites stand = stand
+
+-- ---- what numbers come to
+
+pub have_numbers : (book : Book) (cites : List Cite) → AllByRecursion (StandsUnderNumber book) cites → AllByRecursion (IsHeld book) (numbers_of cites)
+have_numbers book [] stand = tt
+have_numbers book (cite ∷ cites) stand = ((cite.statement, stand.0), have_numbers book cites stand.1)
+
+abbrev cite_of : ℕ → StatementView → Cite
+cite_of number statement = record { number = number; statement = statement }
+
+-- numbers have one list of statements that stand under them
+pub same_cites : (book : Book) (xs ys : List Cite) → numbers_of xs ≡ numbers_of ys → AllByRecursion (StandsUnderNumber book) xs → AllByRecursion (StandsUnderNumber book) ys → xs ≡ ys
+same_cites book [] [] numbers one other = refl
+same_cites book [] (b ∷ ys) numbers one other = absurd cc
+same_cites book (a ∷ xs) [] numbers one other = absurd cc
+same_cites book (a ∷ xs) (b ∷ ys) numbers one other =
+    let number : a.number ≡ b.number = cc in
+    let others : numbers_of xs ≡ numbers_of ys = cc in
+    let statement : a.statement ≡ b.statement = one_held book b.number a.statement b.statement (subst (λ (n : ℕ). IsNumbered book n (Some a.statement)) number one.0) other.0 in
+    ap (λ (n : ℕ). cite_of n a.statement ∷ xs) number ∙ ap (λ (s : StatementView). cite_of b.number s ∷ xs) statement ∙ ap (λ (cs : List Cite). b ∷ cs) (same_cites book xs ys others one.1 other.1)
+
+pub found_once : (book : Book) (numbers : List ℕ) (xs ys : List Cite) → AreFound book numbers xs → AreFound book numbers ys → xs ≡ ys
+found_once book numbers xs ys one other = same_cites book xs ys (one.numbers_are ∙ sym other.numbers_are) one.stand other.stand
+
+pub absent_once : (book : Book) (numbers : List ℕ) (first second : ℕ) → IsAbsent book numbers first → IsAbsent book numbers second → first ≡ second
+absent_once book numbers first second one other = (first_failing (IsHeld book) numbers one.place other.place first second one.first other.first).1
+
+-- what is found holds a statement by each number
+pub found_held : (book : Book) (numbers : List ℕ) (cites : List Cite) → AreFound book numbers cites → AllByRecursion (IsHeld book) numbers
+found_held book numbers cites found = subst (AllByRecursion (IsHeld book)) found.numbers_are (have_numbers book cites found.stand)
+
+pub absent_not_found : (book : Book) (numbers : List ℕ) (number : ℕ) (cites : List Cite) → IsAbsent book numbers number → AreFound book numbers cites → ⊥
+absent_not_found book numbers number cites absent found = none_fails (IsHeld book) numbers absent.place number (found_held book numbers cites found) absent.first
+
+all_found : (book : Book) (numbers : List ℕ) → AllByRecursion (IsHeld book) numbers → (cites : List Cite) × AreFound book numbers cites
+all_found book [] all = ([], record { numbers_are = refl; stand = tt })
+all_found book (number ∷ numbers) all =
+    let rest = all_found book numbers all.1 in
+    (cite_of number all.0.0 ∷ rest.0, record { numbers_are = ap (λ (ns : List ℕ). number ∷ ns) rest.1.numbers_are; stand = (all.0.1, rest.1.stand) })
+
+-- the statements of the numbers, or the first number that holds none
+abbrev pub IsToldOfNumbers : Book → List ℕ → Type 0
+IsToldOfNumbers book numbers = ((cites : List Cite) × AreFound book numbers cites) ⊎ ((number : ℕ) × IsAbsent book numbers number)
+
+by_failing : (book : Book) (numbers : List ℕ) → AllByRecursion (IsHeld book) numbers ⊎ HasFailing (IsHeld book) numbers → IsToldOfNumbers book numbers
+by_failing book numbers (inl all) = inl (all_found book numbers all)
+by_failing book numbers (inr failing) = inr (failing.item, record { place = failing.place; first = failing.first })
+
+pub found_or_absent : (book : Book) (numbers : List ℕ) → IsToldOfNumbers book numbers
+found_or_absent book numbers = by_failing book numbers (all_or_failing (IsHeld book) (held_or_not book) numbers)
+
+-- ---- numbers that can be cited
+
+numbers_rise : (cites : List Cite) → DoCitesRise cites → DoRise (numbers_of cites)
+numbers_rise [] rises = tt
+numbers_rise (first ∷ []) rises = tt
+numbers_rise (first ∷ second ∷ others) rises = (rises.0, numbers_rise (second ∷ others) rises.1)
+
+cites_rise : (cites : List Cite) → DoRise (numbers_of cites) → DoCitesRise cites
+cites_rise [] rises = tt
+cites_rise (first ∷ []) rises = tt
+cites_rise (first ∷ second ∷ others) rises = (rises.0, cites_rise (second ∷ others) rises.1)
+
+-- what can be cited has numbers that can be cited, and the other way round
+pub AreCitable-numbers : (cites : List Cite) → AreCited cites → AreCitable (numbers_of cites)
+AreCitable-numbers cites are =
+    let count : length (numbers_of cites) ≡ length cites = length-map cites (λ (c : Cite). c.number) in
+    record { some = omega (arith, count, are.some); few = omega (arith, count, are.few); rising = numbers_rise cites are.rising }
+
+pub AreCited-numbers : (cites : List Cite) → AreCitable (numbers_of cites) → AreCited cites
+AreCited-numbers cites are =
+    let count : length (numbers_of cites) ≡ length cites = length-map cites (λ (c : Cite). c.number) in
+    record { some = omega (arith, count, are.some); few = omega (arith, count, are.few); rising = cites_rise cites are.rising }
+
+-- what is found of numbers that can be cited can be cited
+pub AreCited-found : (book : Book) (numbers : List ℕ) (cites : List Cite) → AreFound book numbers cites → AreCitable numbers → AreCited cites
+AreCited-found book numbers cites found citable = AreCited-numbers cites (subst AreCitable (sym found.numbers_are) citable)
+
+-- ---- the statements that are cited
+
+-- what holds of each statement of a book holds of those that are cited from it
+pub all_cited : (P : StatementView → Type 0) (book : Book) (cites : List Cite) → AllByRecursion P (statements_in book) → AllByRecursion (StandsUnderNumber book) cites → AllByRecursion P (statements_of cites)
+all_cited P book [] all stand = tt
+all_cited P book (cite ∷ cites) all stand =
+    (AllByRecursion-contains P (statements_in book) cite.statement all (Contains-held book stand.0.place cite.statement stand.0.found), all_cited P book cites all stand.1)
+
+each_among : (xs all : List StatementView) → ((s : StatementView) → Contains xs s → Contains all s) → AllByRecursion (Contains all) xs
+each_among [] all among = tt
+each_among (s ∷ xs) all among = (among s (Contains-head s s xs refl), each_among xs all (λ t here. among t (Contains-append_right (s ∷ []) xs t here)))
+
+-- they are among the statements of the book
+pub Includes-cited : (book : Book) (cites : List Cite) → AllByRecursion (StandsUnderNumber book) cites → Includes (statements_in book) (statements_of cites)
+Includes-cited book cites stand x among =
+    let statements = statements_in book in
+    let all : AllByRecursion (Contains statements) (statements_of cites) = all_cited (Contains statements) book cites (each_among statements statements (λ s here. here)) stand in
+    AllByRecursion-contains (Contains statements) (statements_of cites) x all among
+
+-- ---- issues
+
 -- one more statement with its signature is one more statement
 pub sayings-more : (entries : List RegisteredView) (statement : StatementView) (signature : List ℕ) → sayings (entries ++ record { statement = statement; signature = signature } ∷ []) ≡ sayings entries ++ statement ∷ []
 sayings-more [] statement signature = refl
 sayings-more (entry ∷ entries) statement signature = ap (λ (ss : List StatementView). entry.statement ∷ ss) (sayings-more entries statement signature)
+
+stands_more : (statements more : List StatementView) (cite : Cite) → StandsUnderNumber (whole_book statements) cite → StandsUnderNumber (whole_book (statements ++ more)) cite
+stands_more statements more cite stands =
+    subst (λ (book : Book). StandsUnderNumber book cite) (sym (map-append held_as statements more)) (IsNumbered-more (whole_book statements) (whole_book more) cite.number (Some cite.statement) stands)
 
 -- an issue stays good if statements are added
 pub IsGoodIssue-more : (statements more : List StatementView) (issue : Issue) → IsGoodIssue statements issue → IsGoodIssue (statements ++ more) issue
@@ -29,14 +238,59 @@ IsGoodIssue-more statements more issue good = record {
   cites = good.cites;
   cited = good.cited;
   rising = good.rising;
-  stand = AllByRecursion-weaker (StandsUnderNumber statements) (StandsUnderNumber (statements ++ more)) good.cites
-      (λ cite stands. record { place = stands.place; from_one = stands.from_one; found = slice_get-more statements more stands.place cite.statement stands.found }) good.stand;
+  stand = AllByRecursion-weaker (StandsUnderNumber (whole_book statements)) (StandsUnderNumber (whole_book (statements ++ more))) good.cites (stands_more statements more) good.stand;
   granted = good.granted;
 }
 
--- the statements that stand are of the list
-pub Includes-cited : (statements : List StatementView) (cites : List Cite) → AllByRecursion (StandsUnderNumber statements) cites → Includes statements (statements_of cites)
-Includes-cited statements cites stand x among =
-    let image = IsImage-from_map (λ (c : Cite). c.statement) cites x among in
-    let stands : StandsUnderNumber statements image.item = AllByRecursion-contains (StandsUnderNumber statements) cites image.item stand image.contained in
-    subst (Contains statements) image.same (Contains-numbered statements image.item.number image.item.statement stands)
+-- a grant is issued as it was proved
+pub form_is : (proved g : GrantView) (numbers : List ℕ) → IsGrantOf proved numbers g → proved ≡ g
+form_is proved _ numbers as_proved = refl
+
+-- what is issued of a sound grant is sound, and a grant
+SoundGrant-form : (statements : List StatementView) (proved g : GrantView) (numbers : List ℕ) → IsGrantOf proved numbers g → SoundGrant statements proved → SoundGrant statements g
+SoundGrant-form statements proved _ numbers as_proved sound = sound
+
+IsGrant-form : (proved g : GrantView) (numbers : List ℕ) → IsGrantOf proved numbers g → IsGrant proved → IsGrant g
+IsGrant-form proved _ numbers as_proved is = is
+
+pub SoundGrant-granted : (cites : List Cite) (proof : ProofView) (g : GrantView) → IsGrantedFrom cites proof g → SoundGrant (statements_of cites) g
+SoundGrant-granted cites proof g granted = SoundGrant-form (statements_of cites) granted.proved g (numbers_of cites) granted.form granted.granted.sound
+
+pub IsGrant-granted : (cites : List Cite) (proof : ProofView) (g : GrantView) → IsGrantedFrom cites proof g → IsGrant g
+IsGrant-granted cites proof g granted = IsGrant-form granted.proved g (numbers_of cites) granted.form granted.granted.is_grant
+
+-- what a proof grants is granted from what it cites
+pub granted_as : (cites : List Cite) (goal : Goal) (proof : ProofView) (proved g : GrantView) → IsGranted (statements_of cites) goal proof proved → goal ≡ g.goal → proved ≡ g → IsGrantedFrom cites proof g
+granted_as cites goal proof proved g granted of_goal same = record {
+  proved = proved;
+  granted = subst (λ (w : Goal). IsGranted (statements_of cites) w proof proved) of_goal granted;
+  form = subst (IsGrantOf proved (numbers_of cites)) same as_proved;
+}
+
+-- the grant of a checked proof is, in the form in which it is issued
+pub IsGrantedFrom-checked : (checked : CheckedView) → IsChecked checked → IsGrantedFrom checked.cited checked.proof (issued_grant checked.grant (numbers_of checked.cited))
+IsGrantedFrom-checked checked is = granted_as checked.cited checked.goal checked.proof checked.grant checked.grant is (sym is.same_goal) refl
+
+abbrev graded : GrantView → Result GrantView CheckFault
+graded g = Ok g
+
+abbrev refusal_of : CheckFault → Result GrantView CheckFault
+refusal_of fault = Err fault
+
+same_graded : (first second : GrantView) → graded first ≡ graded second → first ≡ second
+same_graded first second same = cc
+
+-- and nothing else is
+pub granted_is : (cites : List Cite) (goal : Goal) (proof : ProofView) (proved g : GrantView) → verdict (statements_of cites) goal proof ≡ Ok proved → goal ≡ g.goal → IsGrantedFrom cites proof g → proved ≡ g
+granted_is cites goal proof proved g is of_goal from =
+    let both : graded proved ≡ graded from.proved = sym is ∙ ap (λ (w : Goal). verdict (statements_of cites) w proof) of_goal ∙ from.granted.verdict_is in
+    same_graded proved from.proved both ∙ form_is from.proved g (numbers_of cites) from.form
+
+-- a proof that is refused grants nothing
+pub refused_grants_none : (cites : List Cite) (proof : ProofView) (g : GrantView) (fault : CheckFault) → (fault ≡ checks.NoMemory → ⊥) → IsFault fault (verdict (statements_of cites) g.goal proof) → IsGrantedFrom cites proof g → ⊥
+refused_grants_none cites proof g fault not_memory fails from =
+    ⊎_elim (λ memory. not_memory memory) (λ is. let both : graded from.proved ≡ refusal_of fault = sym from.granted.verdict_is ∙ is in absurd cc) fails
+
+-- an issue that is good may come next, since each number of a statement holds it
+pub MayBeIssued-good : (state : BaseView) (issue : Issue) → IsGoodIssue (sayings state.statements) issue → MayBeIssued state issue
+MayBeIssued-good state issue good = record { good = good; held = subst (AllByRecursion (IsHeld (book_of state))) (sym good.cited) (have_numbers (book_of state) good.cites good.stand) }

@@ -25,6 +25,7 @@ use Rattle.access_history.specs.HistoryParts.{kept_by, shown_state, IsKeeping}
 use Rattle.access_history.specs.Keeping.{HasMomentInRange, HasPlaceAmong}
 use Rattle.access_history.specs.Lawful.{IsLawful, one_more, MayFollow}
 use Rattle.access_history.specs.Replay.{world_next, moment_next, statements_with, issues_with, addition_of, replay, next_state}
+use Rattle.access_history.proofs.CitingLemmas.{said_length}
 use Rattle.access_history.proofs.ReplayLemmas.{replay-more, count-replay}
 
 -- a push that did not fail
@@ -75,7 +76,7 @@ HasMoment-follows authority state (Acted pass caller op procaps moment) may = ma
 
 -- and there is a place for its statement, if it has one
 pub HasPlace-follows : (authority : Authority) (state : BaseView) (event : Event) → MayFollow authority state event → HasPlaceAmong state.statements (addition_of event)
-HasPlace-follows authority state (Registered pass statement signature) may = may.room
+HasPlace-follows authority state (Registered pass statement signature) may = omega (arith, may.can.room, said_length state.statements)
 HasPlace-follows authority state (Issued pass cited proof grant) may = tt
 HasPlace-follows authority state (Acted pass caller op procaps moment) may = tt
 

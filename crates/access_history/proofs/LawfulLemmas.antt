@@ -15,13 +15,13 @@ use Rattle.access_history.specs.declared.event.Event.{Event}
 use Rattle.access_history.specs.declared.event.Event.TheVariants.{Registered, Issued, Acted}
 use Rattle.access_history.specs.Base.{BaseView}
 use Rattle.access_history.specs.Authority.{Authority, MayBeRegistered, IsSignedEntry, sayings}
-use Rattle.access_history.specs.Citing.{IsGoodIssue}
+use Rattle.access_history.specs.Citing.{IsGoodIssue, MayBeIssued}
 use Rattle.access_history.specs.Replay.{next_state, replay}
 use Rattle.access_history.specs.Lawful.{MayAct, MayFollow, AreLawful, no_event, one_more, IsLawfulBase, IsLawful}
 use Rattle.bl_syntax.proofs.GrantLemmas.{AllByRecursion-push, AreDistinct-push}
 use Rattle.access_history.proofs.ListLemmas.{AllByRecursion-weaker}
 use Rattle.access_history.proofs.ReplayLemmas.{world_left-after, replay-more, count-replay}
-use Rattle.access_history.proofs.CitingLemmas.{sayings-more, IsGoodIssue-more}
+use Rattle.access_history.proofs.CitingLemmas.{said_length, sayings-more, IsGoodIssue-more}
 
 module _ (authority : Authority) (state : BaseView) (base : IsLawfulBase authority state) (below : state.count < 2 ^ 48 - 1) where
   registered_base : (pass : ℕ) (statement : StatementView) (signature : List ℕ) → MayBeRegistered authority state.statements statement signature → IsLawfulBase authority (next_state state (Registered pass statement signature))
@@ -30,25 +30,25 @@ module _ (authority : Authority) (state : BaseView) (base : IsLawfulBase authori
       let more : sayings (state.statements ++ entry ∷ []) ≡ sayings state.statements ++ statement ∷ [] = sayings-more state.statements statement signature in
       record {
         tree = base.tree;
-        statements_differ = subst (λ (ss : List StatementView). AreDistinct ss) (sym more) (AreDistinct-push (sayings state.statements) statement base.statements_differ may.new);
+        statements_differ = subst (λ (ss : List StatementView). AreDistinct ss) (sym more) (AreDistinct-push (sayings state.statements) statement base.statements_differ may.can.new);
         statements_formed = subst (λ (ss : List StatementView). AllByRecursion IsStatement ss) (sym more) (AllByRecursion-push IsStatement (sayings state.statements) statement base.statements_formed may.statement);
         statements_signed = AllByRecursion-push (IsSignedEntry authority) state.statements entry base.statements_signed may.signed;
-        statements_fit = omega (arith, may.room, length-append state.statements (entry ∷ []));
+        statements_fit = omega (arith, may.can.room, said_length state.statements, length-append state.statements (entry ∷ []));
         moment_in_range = base.moment_in_range;
         good_issues = subst (λ (ss : List StatementView). AllByRecursion (IsGoodIssue ss) state.issues) (sym more)
             (AllByRecursion-weaker (IsGoodIssue (sayings state.statements)) (IsGoodIssue (sayings state.statements ++ statement ∷ [])) state.issues (IsGoodIssue-more (sayings state.statements) (statement ∷ [])) base.good_issues);
         counted = omega (arith, below);
       }
 
-  issued_base : (pass : ℕ) (cited : List ℕ) (proof : ProofView) (g : GrantView) → IsGoodIssue (sayings state.statements) (record { cited = cited; proof = proof; grant = g }) → IsLawfulBase authority (next_state state (Issued pass cited proof g))
-  issued_base pass cited proof g good = record {
+  issued_base : (pass : ℕ) (cited : List ℕ) (proof : ProofView) (g : GrantView) → MayBeIssued state (record { cited = cited; proof = proof; grant = g }) → IsLawfulBase authority (next_state state (Issued pass cited proof g))
+  issued_base pass cited proof g may = record {
     tree = base.tree;
     statements_differ = base.statements_differ;
     statements_formed = base.statements_formed;
     statements_signed = base.statements_signed;
     statements_fit = base.statements_fit;
     moment_in_range = base.moment_in_range;
-    good_issues = AllByRecursion-push (IsGoodIssue (sayings state.statements)) state.issues (record { cited = cited; proof = proof; grant = g }) base.good_issues good;
+    good_issues = AllByRecursion-push (IsGoodIssue (sayings state.statements)) state.issues (record { cited = cited; proof = proof; grant = g }) base.good_issues may.good;
     counted = omega (arith, below);
   }
 

@@ -11,4 +11,5 @@ pub mod LawfulLemmas
 pub mod ListLemmas
 pub mod MayFollowLemmas
 pub mod NumberedLemmas
+pub mod PassLemmas
 pub mod ReplayLemmas

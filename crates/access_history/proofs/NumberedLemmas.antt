@@ -1,12 +1,12 @@
 -- Items by their numbers, and the first item that lacks a property.
-use Rattle.std.proofs.Common.{◌≡◌, ℕ, zero, suc, Some, List, [], ◌∷◌, ◌++◌, length, refl, sym, ◌∙◌, ap, subst, arith}
+use Rattle.std.proofs.Common.{◌≡◌, ◌≤◌, ◌<◌, ◌-◌, ℕ, zero, suc, Some, List, [], ◌∷◌, ◌++◌, length, get_or, refl, sym, ◌∙◌, ap, subst, arith}
 use Rattle.std.specs.Prelude.{Contains}
 use Rattle.std.specs.List.{AllByRecursion, slice_get}
 use Rattle.std.proofs.lemmas.List.Elements.{Contains-append_right}
-use Rattle.std.proofs.lemmas.Option.{slice_get_within, get_or_from_slice_get}
+use Rattle.std.proofs.lemmas.Option.{slice_get_read, slice_get_within, get_or_from_slice_get}
 use Rattle.bl_syntax.specs.FirstFailing.{IsFirstFailing}
 use Rattle.bl_syntax.specs.Grant.{AreDistinct}
-use Rattle.access_history.specs.Numbered.{IsNumbered, HasNumber}
+use Rattle.access_history.specs.Numbered.{IsNumbered, HasNone, HasNumber}
 use Rattle.bl_syntax.proofs.GrantLemmas.{Contains-head}
 use Rattle.access_history.proofs.ListLemmas.{AllByRecursion-contains}
 
@@ -21,6 +21,27 @@ pub HasNumber-item : {A : Type 0} (items : List A) (number : ℕ) (item : A) →
 HasNumber-item items number item numbered =
     let within = slice_get_within items numbered.place item numbered.found in
     (omega (arith, numbered.from_one), omega (arith, within, numbered.from_one))
+
+-- the item before the place of that number
+pub numbered_at : {A : Type 0} (items : List A) (number : ℕ) (item : A) → (number ≡ 0 → ⊥) → slice_get items (number - 1) ≡ Some item → IsNumbered items number item
+numbered_at items number item some found = record { place = number - 1; from_one = omega (arith, some); found = found }
+
+-- no item has the number 0
+pub no_zero : {A : Type 0} (items : List A) (number : ℕ) → number ≡ 0 → HasNumber items number → ⊥
+no_zero items number none has = omega (arith, none, has.0)
+
+-- no item has a number beyond the last
+pub none_beyond : {A : Type 0} (items shown : List A) (number : ℕ) → shown ≡ items → length shown < number → HasNumber items number → ⊥
+none_beyond items shown number same more has = omega (arith, more, has.1, ap length same)
+
+-- the item that was read
+pub numbered_in : {A : Type 0} (items shown : List A) (number : ℕ) (item : A) → shown ≡ items → (number ≡ 0 → ⊥) → number ≤ length shown → item ≡ get_or shown (number - 1) item → IsNumbered items number item
+numbered_in {A} items shown number item same some within at =
+    numbered_at items number item some (subst (λ (xs : List A). slice_get xs (number - 1) ≡ Some item) same (slice_get_read shown (length shown) (number - 1) item refl (omega (arith, some, within)) at))
+
+-- a number that the list has not has no item
+pub none_of_number : {A : Type 0} (items : List A) (number : ℕ) → (HasNumber items number → ⊥) → HasNone items number
+none_of_number items number none item numbered = none (HasNumber-item items number item numbered)
 
 -- a number has one item
 pub numbered_item : {A : Type 0} (items : List A) (number : ℕ) (first second : A) → IsNumbered items number first → IsNumbered items number second → first ≡ second

@@ -22,7 +22,8 @@ use Rattle.access_history.specs.declared.reply.StepReply.{StepReply}
 use Rattle.access_history.specs.declared.reply.StepReply.TheVariants as replies
 use Rattle.access_history.specs.Base.{BaseView}
 use Rattle.access_history.specs.Numbered.{IsNumbered}
-use Rattle.access_history.specs.Citing.{StandsUnderNumber, IsMoved, numbers_of}
+use Rattle.access_history.specs.Books.{book_of}
+use Rattle.access_history.specs.Citing.{StandsUnderNumber, IsMoved, issued_grant, numbers_of}
 use Rattle.access_history.specs.Authority.{Authority, IsSignedStatement, MayBeRegistered, sayings, procap_of}
 use Rattle.access_history.specs.Admission.{IsAdmitted, IsDenied}
 
@@ -50,11 +51,11 @@ pub data Answers (authority : Authority) (state : BaseView) (pass : ℕ) (clock 
       Answers authority state pass clock (requests.Register statement signature) (replies.Rejected RegistryFull) None
   registered : (statement : StatementView) (signature : List ℕ) → MayBeRegistered authority state.statements statement signature →
       Answers authority state pass clock (requests.Register statement signature) (replies.Statement (length state.statements + 1)) (Some (events.Registered pass statement signature))
-  moved : (checked : CheckedView) (number : ℕ) → IsMoved (sayings state.statements) checked.cited number →
+  moved : (checked : CheckedView) (number : ℕ) → IsMoved (book_of state) checked.cited number →
       Answers authority state pass clock (requests.Issue checked) (replies.Absent number) None
-  issued : (checked : CheckedView) → AreCited checked.cited → IsChecked checked → AllByRecursion (StandsUnderNumber (sayings state.statements)) checked.cited →
+  issued : (checked : CheckedView) → AreCited checked.cited → IsChecked checked → AllByRecursion (StandsUnderNumber (book_of state)) checked.cited →
       Answers authority state pass clock (requests.Issue checked) (replies.Issue (length state.issues + 1) (length checked.grant.times) (length checked.grant.states))
-      (Some (events.Issued pass (numbers_of checked.cited) checked.proof checked.grant))
+      (Some (events.Issued pass (numbers_of checked.cited) checked.proof (issued_grant checked.grant (numbers_of checked.cited))))
   denied : (caller : List ℕ) (op : Op) (procaps : List Procap) (place : ℕ) (cause : DenialCause) → IsDenied authority.key state caller procaps (moment_of state clock) (needs state.world op) place cause →
       Answers authority state pass clock (requests.Act caller op procaps) (replies.Denied (record { need = place; cause = cause; at = state.count })) None
   refused : (caller : List ℕ) (op : Op) (procaps : List Procap) (why : Refusal) → IsAdmitted authority.key state caller op procaps (moment_of state clock) → refusal state.world op ≡ Some why →

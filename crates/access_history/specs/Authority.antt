@@ -24,12 +24,16 @@ IsSignedEntry authority entry = IsSignedStatement authority entry.statement entr
 abbrev pub sayings : List RegisteredView → List StatementView
 sayings entries = map (λ (entry : RegisteredView). entry.statement) entries
 
--- the statement may be registered beside these: it may be said, its signature is accepted, no equal one is there, and there is room
+-- the statement can be added to these: no equal one is among them, and there is room
+pub record CanRegister (statements : List StatementView) (said : StatementView) : Type 0 where
+  pub new : Contains statements said → ⊥
+  pub room : length statements < 4096
+
+-- the statement may be registered beside these: it may be said, its signature is accepted, and it can be added
 pub record MayBeRegistered (authority : Authority) (entries : List RegisteredView) (said : StatementView) (signature : List ℕ) : Type 0 where
   pub statement : IsStatement said
   pub signed : IsSignedStatement authority said signature
-  pub new : Contains (sayings entries) said → ⊥
-  pub room : length entries < 4096
+  pub can : CanRegister (sayings entries) said
 
 -- the procap of a grant under a key: the grant with its seal
 abbrev pub procap_of : List ℕ → GrantView → Procap

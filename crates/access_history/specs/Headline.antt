@@ -14,12 +14,13 @@ use Rattle.access_history.specs.declared.event.Event.{Event}
 use Rattle.access_history.specs.declared.event.Event.TheVariants.{Acted}
 use Rattle.access_history.specs.Base.{BaseView}
 use Rattle.access_history.specs.Numbered.{IsNumbered}
-use Rattle.access_history.specs.Authority.{Authority, sayings}
+use Rattle.access_history.specs.Authority.{Authority}
+use Rattle.access_history.specs.Books.{book_of, statements_in}
 use Rattle.access_history.specs.Replay.{replay}
 use Rattle.access_history.specs.Lawful.{IsLawful, WasIssued}
 
 -- for a permission that the caller needs on a file, a procap was brought that is sealed under the key, names caller, file and permission, and whose conditions on time and on the state held in that state at
--- that moment; and if that procap was issued, the logic derives the permission from the statements registered then, over the facts of that state, at that moment
+-- that moment; and if that procap was issued, the logic derives the permission from the statements that stood then, over the facts of that state, at that moment
 pub record WasRightful (key : List ℕ) (state : BaseView) (caller : List ℕ) (procaps : List Procap) (moment : ℤ) (need : Need) : Type 0 where
   pub procap : Procap
   pub brought : IsNumbered procaps need.place procap
@@ -29,7 +30,7 @@ pub record WasRightful (key : List ℕ) (state : BaseView) (caller : List ℕ) (
   pub names_permission : procap.grant.goal.perm ≡ need.permission
   pub times_held : AllByRecursion (HoldsAt moment) procap.grant.times
   pub states_held : AllByRecursion (Contains (facts state.world)) procap.grant.states
-  pub derivable : WasIssued state.issues procap.grant → Allows (sayings state.statements) (facts state.world) moment caller need.file need.permission
+  pub derivable : WasIssued state.issues procap.grant → Allows (statements_in (book_of state)) (facts state.world) moment caller need.file need.permission
 
 -- The history of these events replays from its base to that world, which keeps its limits. And whichever operation in it is taken: over the state to which the events before it lead, and at its one
 -- moment, each permission that it needs was rightful.

@@ -37,9 +37,8 @@ world_of h = record { world = (state_of h).world; ready = h.ready }
 
 -- the world is ready for the event, if it is an operation
 abbrev pub IsReadyIn : WorldState → Event → Type 0
-IsReadyIn world (events.Registered pass statement signature) = Unit {0}
-IsReadyIn world (events.Issued pass cited proof grant) = Unit {0}
 IsReadyIn world (events.Acted pass caller op procaps moment) = IsWorldReady caller world op
+IsReadyIn world _ = Unit {0}
 
 -- the history is ready for the event
 abbrev pub IsReadyFor : HistoryView → Event → Type 0

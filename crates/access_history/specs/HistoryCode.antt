@@ -2,6 +2,7 @@
 use Rattle.std.specs.Prelude.{ℕ, List, refl}
 use Rattle.std.specs.Coded.{Coded, code_by, coded×, coded_ℕ, coded_list}
 use Rattle.policy_statement.specs.Ring.{KeyView}
+use Rattle.policy_statement.specs.RingCode as ring_code
 use Rattle.world_state.specs.State.{Readiness}
 use Rattle.world_state.specs.StateCode.{readiness_code}
 use Rattle.access_history.specs.declared.event.Event.{Event}
@@ -11,11 +12,7 @@ use Rattle.access_history.specs.BaseCode.{base_code}
 use Rattle.access_history.specs.History.{HistoryView}
 
 abbrev pub key_code : Coded KeyView
-key_code =
-    code_by (List ℕ × List ℕ) (coded× (coded_list coded_ℕ) (coded_list coded_ℕ))
-    (λ k. (k.who, k.key))
-    (λ p. record { who = p.0; key = p.1 })
-    (λ _. refl)
+key_code = ring_code.key_code
 
 abbrev pub history_code : Coded HistoryView
 history_code =

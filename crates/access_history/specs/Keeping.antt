@@ -9,12 +9,10 @@ use Rattle.access_history.specs.declared.event.Addition.TheVariants as additions
 
 -- an event that has a moment has one of the range
 abbrev pub HasMomentInRange : Event → Type 0
-HasMomentInRange (events.Registered pass statement signature) = Unit {0}
-HasMomentInRange (events.Issued pass cited proof grant) = Unit {0}
 HasMomentInRange (events.Acted pass caller op procaps moment) = IsMoment moment
+HasMomentInRange _ = Unit {0}
 
 -- a statement more is within the limit
 abbrev pub HasPlaceAmong : List RegisteredView → Addition → Type 0
 HasPlaceAmong statements (additions.Statement statement signature) = length statements < 4096
-HasPlaceAmong statements (additions.Issue issue) = Unit {0}
-HasPlaceAmong statements additions.Operation = Unit {0}
+HasPlaceAmong statements _ = Unit {0}

@@ -17,7 +17,8 @@ use Rattle.access_history.specs.declared.event.Event.TheVariants.{Registered, Is
 use Rattle.access_history.specs.Base.{BaseView}
 use Rattle.access_history.specs.Numbered.{IsNumbered}
 use Rattle.access_history.specs.Authority.{Authority, MayBeRegistered, IsSignedEntry, sayings}
-use Rattle.access_history.specs.Citing.{IsGoodIssue}
+use Rattle.access_history.specs.Books.{book_of, statements_in}
+use Rattle.access_history.specs.Citing.{IsGoodIssue, MayBeIssued}
 use Rattle.access_history.specs.Admission.{IsAdmitted}
 use Rattle.access_history.specs.WellFormed.{IsWellFormedAct}
 use Rattle.access_history.specs.Replay.{replay}
@@ -28,10 +29,10 @@ pub record WasIssued (issues : List Issue) (g : GrantView) : Type 0 where
   pub among : Contains issues issue
   pub grant_is : issue.grant ≡ g
 
--- if the grant of the procap in the need's place was issued, the logic derives what the caller needs from the registered statements, over the facts of the state, at that moment
+-- if the grant of the procap in the need's place was issued, the logic derives what the caller needs from the statements that stand, over the facts of the state, at that moment
 abbrev pub IsDerived : BaseView → List ℕ → List Procap → ℤ → Need → Type 0
 IsDerived state caller procaps moment need =
-    (p : Procap) → IsNumbered procaps need.place p → WasIssued state.issues p.grant → Allows (sayings state.statements) (facts state.world) moment caller need.file need.permission
+    (p : Procap) → IsNumbered procaps need.place p → WasIssued state.issues p.grant → Allows (statements_in (book_of state)) (facts state.world) moment caller need.file need.permission
 
 -- each need is derived
 abbrev pub AreDerived : BaseView → List ℕ → Op → List Procap → ℤ → Type 0
@@ -49,7 +50,7 @@ pub record MayAct (authority : Authority) (state : BaseView) (caller : List ℕ)
 -- the event may come next
 abbrev pub MayFollow : Authority → BaseView → Event → Type 0
 MayFollow authority state (Registered pass statement signature) = MayBeRegistered authority state.statements statement signature
-MayFollow authority state (Issued pass cited proof g) = IsGoodIssue (sayings state.statements) (record { cited = cited; proof = proof; grant = g })
+MayFollow authority state (Issued pass cited proof g) = MayBeIssued state (record { cited = cited; proof = proof; grant = g })
 MayFollow authority state (Acted pass caller op procaps moment) = MayAct authority state caller op procaps moment
 
 -- each event could come where it came

@@ -3,14 +3,17 @@ pub mod Answer
 pub mod Authority
 pub mod Base
 pub mod BaseCode
+pub mod Books
 pub mod Citing
 pub mod Headline
 pub mod History
 pub mod HistoryCode
 pub mod HistoryParts
+pub mod Issued
 pub mod Keeping
 pub mod Lawful
 pub mod Laws
 pub mod Numbered
+pub mod Passes
 pub mod Replay
 pub mod WellFormed

@@ -8,6 +8,10 @@ pub record IsNumbered {A : Type 0} (items : List A) (number : ℕ) (item : A) : 
   pub from_one : number ≡ place + 1
   pub found : slice_get items place ≡ Some item
 
+-- there is no item of that number
+abbrev pub HasNone : {A : Type 0} → List A → ℕ → Type 0
+HasNone {A} items number = (item : A) → IsNumbered items number item → ⊥
+
 -- there is an item of that number
 abbrev pub HasNumber : {A : Type 0} → List A → ℕ → Type 0
 HasNumber items number = (1 ≤ number) × (number ≤ length items)

@@ -25,9 +25,8 @@ world_left world (replied reply after) = after
 
 -- the world after an event
 abbrev pub world_next : World → Event → World
-world_next world (Registered pass statement signature) = world
-world_next world (Issued pass cited proof grant) = world
 world_next world (Acted pass caller op procaps moment) = world_left world (effect caller op world)
+world_next world _ = world
 
 -- what the state keeps of an event beside the event
 abbrev pub addition_of : Event → Addition
@@ -38,20 +37,17 @@ addition_of (Acted pass caller op procaps moment) = additions.Operation
 -- the statements with what an event adds to them
 abbrev pub statements_with : List RegisteredView → Addition → List RegisteredView
 statements_with statements (additions.Statement statement signature) = statements ++ record { statement = statement; signature = signature } ∷ []
-statements_with statements (additions.Issue issue) = statements
-statements_with statements additions.Operation = statements
+statements_with statements _ = statements
 
 -- the issues with what an event adds to them
 abbrev pub issues_with : List Issue → Addition → List Issue
-issues_with issues (additions.Statement statement signature) = issues
 issues_with issues (additions.Issue issue) = issues ++ issue ∷ []
-issues_with issues additions.Operation = issues
+issues_with issues _ = issues
 
 -- the greatest moment after an event: an operation's moment
 abbrev pub moment_next : ℤ → Event → ℤ
-moment_next last (Registered pass statement signature) = last
-moment_next last (Issued pass cited proof grant) = last
 moment_next last (Acted pass caller op procaps moment) = moment
+moment_next last _ = last
 
 -- ---- states
 

@@ -11,12 +11,16 @@ use Rattle.file_world.specs.Needs.{slots, bytes_to_write}
 use Rattle.access_history.specs.declared.request.StepRequest.{StepRequest}
 use Rattle.access_history.specs.declared.request.StepRequest.TheVariants.{Register, Issue, Act, ShowProcap}
 
--- a principal's operation, with one procap for each of its slots, and at most 65,536 bytes to write
+-- an operation comes with one procap for each of its slots, and brings at most 65,536 bytes to write
+pub record BringsEnough (op : Op) (procaps : List Procap) : Type 0 where
+  pub slots : length procaps ≡ slots op
+  pub few_bytes : bytes_to_write op ≤ 65536
+
+-- a principal's operation, with what it has to bring
 pub record IsWellFormedAct (caller : List ℕ) (op : Op) (procaps : List Procap) : Type 0 where
   pub named : IsTrue (is_principal_name caller)
   pub operation : IsOperation op
-  pub slots : length procaps ≡ slots op
-  pub few_bytes : bytes_to_write op ≤ 65536
+  pub brought : BringsEnough op procaps
 
 -- a statement may be said; a proof was checked, and cites 1 to 64 statements by rising numbers; an operation is a principal's, with its procaps
 abbrev pub IsWellFormed : StepRequest → Type 0

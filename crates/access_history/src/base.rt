@@ -5,14 +5,12 @@ ghost use Rattle.access_history.specs.Replay.{fresh};
 
 use crate::copying::{copy_issues, copy_statements};
 use crate::event::{Issue, Issues, Statements};
+use bl_syntax::limits::FIRST_MOMENT;
 use bl_syntax::{NoMemory, Sequence};
 use policy_statement::Registered;
 use std::alloc::Global;
 use std::marker::Model;
 use world_state::World;
-
-/// The first second of the range of moments, 0001-01-01T00:00:00Z.
-const FIRST_MOMENT: i64 = -62135596800;
 
 /// A state: a world, the statements and issues by their numbers from 1, the greatest moment so far, and the number of
 /// the last event.

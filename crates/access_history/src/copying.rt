@@ -3,18 +3,9 @@
 ghost use Rattle.std.specs.Prelude.{◌≡◌, ◌≤◌, ◌<◌, ◌∷◌, ◌++◌, [], IfOk, OnOk, length};
 
 use crate::event::{Issue, Issues, Statements};
-use bl_syntax::{Bytes, NoMemory, Sequence};
+use bl_syntax::{NoMemory, Sequence, copy_bytes};
 use policy_statement::{Registered, Registry};
 use std::alloc::Global;
-
-// The same bytes, in memory of their own.
-fn copy_bytes(alloc: Global, bytes: &[u8]) -> Result<Bytes, NoMemory>
-    ensures { IfOk result (λ copied. copied ≡ bytes.now) }
-{
-    let mut copied = Bytes::new(alloc);
-    copied.extend(bytes)?;
-    Ok(copied)
-}
 
 // An equal statement with an equal signature, in memory of its own.
 fn copy_registered(alloc: Global, entry: &Registered) -> Result<Registered, NoMemory>

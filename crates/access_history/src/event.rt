@@ -1,10 +1,13 @@
 //! What the history keeps.
 
-use bl_syntax::{Bytes, Grant, Numbers, Principal, Sequence, Statement};
+ghost use Rattle.std.specs.Prelude.{◌≡◌, IfOk};
+
+use bl_syntax::{Bytes, Grant, NoMemory, Numbers, Principal, Sequence, Statement};
 use file_world::Op;
 use policy_statement::Registered;
 use procap::Procap;
 use proof_term::ProofTree;
+use std::alloc::Global;
 
 /// A grant that was issued, its proof, and the numbers of the statements that the proof cites.
 #[derive(Debug, Drop)]
@@ -35,6 +38,60 @@ pub enum Event {
         procaps: Procaps,
         moment: i64,
     },
+}
+
+impl Event {
+    /// An equal event in memory of its own.
+    pub fn copy(&self, alloc: Global) -> Result<Event, NoMemory>
+        ensures { IfOk result (λ copied. copied ≡ self.now) }
+    {
+        match self {
+            Event::Registered {
+                pass,
+                statement,
+                signature,
+            } => Ok(Event::Registered {
+                pass: *pass,
+                statement: statement.copy(alloc)?,
+                signature: signature.copy(alloc)?,
+            }),
+            Event::Issued {
+                pass,
+                cited,
+                proof,
+                grant,
+            } => Ok(Event::Issued {
+                pass: *pass,
+                cited: cited.copy(alloc)?,
+                proof: proof.copy(alloc)?,
+                grant: grant.copy(alloc)?,
+            }),
+            Event::Acted {
+                pass,
+                caller,
+                op,
+                procaps,
+                moment,
+            } => Ok(Event::Acted {
+                pass: *pass,
+                caller: *caller,
+                op: op.copy(alloc)?,
+                procaps: copy_procaps(alloc, procaps.as_slice())?,
+                moment: *moment,
+            }),
+        }
+    }
+}
+
+// Equal procaps, in memory of their own.
+fn copy_procaps(alloc: Global, procaps: &[Procap]) -> Result<Procaps, NoMemory>
+    ensures { IfOk result (λ copied. copied ≡ procaps.now) }
+{
+    let mut copied = Sequence::new(alloc);
+    for procap in procaps {
+        copied.push(procap.copy(alloc)?)?;
+    }
+    Ok(copied)
 }
 
 /// What the state keeps of an event beside the event.

@@ -1,12 +1,12 @@
 //! The history: a base, and the events since, each lawful where it came.
 
-ghost use Rattle.std.specs.Prelude.{◌≡◌, ◌≤◌, ◌<◌, ◌-◌, ◌^◌, ◌++◌, ◌∷◌, [], IfOk, OnOk, length};
+ghost use Rattle.std.specs.Prelude.{◌≡◌, ◌≤◌, ◌<◌, ◌-◌, ◌^◌, ◌++◌, ◌∷◌, [], IfOk, MatchOption, OnOk, length};
 
 use crate::base::Base;
 use crate::copying::{copy_issues, copy_statements, registry_of};
 use crate::event::{Addition, Event, Issue};
 use crate::keeping::{add_to_state, apply_event};
-use bl_syntax::{NoMemory, Principal};
+use bl_syntax::{Grant, NoMemory, Principal, Statement};
 use file_world::{Op, OpFault, OpReply};
 use policy_statement::{Keyring, Registered, Registry};
 use procap::SealKey;
@@ -50,6 +50,9 @@ impl History {
     ghost use Rattle.access_history.specs.Lawful.{IsLawful, IsLawfulBase, MayFollow};
     ghost use Rattle.access_history.specs.Replay.{fresh};
     ghost use Rattle.access_history.specs.Headline.{Headline};
+    ghost use Rattle.access_history.specs.Authority.{sayings};
+    ghost use Rattle.access_history.specs.Issued.{IsIssued};
+    ghost use Rattle.access_history.specs.Numbered.{HasNone, IsNumbered};
 
     /// The history of a store before its first event, under this key and this ring.
     pub fn fresh(alloc: Global, key: SealKey, ring: Keyring) -> Result<History, NoMemory>
@@ -163,6 +166,28 @@ impl History {
         ensures few { length result.now ≤ 4096 }
     {
         self.statements.entries()
+    }
+
+    /// The statement of that number; none exactly if no statement has it.
+    pub fn statement(&self, number: u32) -> Option<&Statement>
+        ensures { let statements = sayings (state_of self.now).statements in MatchOption result (HasNone statements number) (λ statement. IsNumbered statements number statement.now) }
+    {
+        let entries = self.statements.entries();
+        if number == 0 || entries.len() < number as usize {
+            return None;
+        }
+        Some(entries[number as usize - 1].statement())
+    }
+
+    /// The grant of the issue of that number; none exactly if there is no such issue.
+    pub fn issue(&self, number: u64) -> Option<&Grant>
+        ensures { let issues = (state_of self.now).issues in MatchOption result (HasNone issues number) (λ grant. IsIssued issues number grant.now) }
+    {
+        let issues = self.issues.as_slice();
+        if number == 0 || (issues.len() as u64) < number {
+            return None;
+        }
+        Some(&issues[number as usize - 1].grant)
     }
 
     /// The grants that were issued, by their numbers from 1.

@@ -171,6 +171,24 @@ fn a_new_condition_past_64_is_refused(rt: HostRuntime) -> Result<(), Fail> {
     Ok(())
 }
 
+// Whether grants under these conditions are the same; each has room for as many at once.
+fn are_same_grants(alloc: Global, forms: &[Form], others: &[Form]) -> Result<bool, Fail> {
+    let mut first = grant_under(alloc, forms)?;
+    let second = grant_under(alloc, others)?;
+    first.reserve_times(forms.len())?;
+    first.reserve_states(1)?;
+    Ok(first.is_same(&second))
+}
+
+#[test]
+fn grants_under_other_conditions_differ(rt: HostRuntime) -> Result<(), Fail> {
+    let both = [Form::From(5), Form::UpTo(9)];
+    assert!(rt; are_same_grants(rt.alloc(), &both, &both)?);
+    assert!(rt; !are_same_grants(rt.alloc(), &both, &both[..1])?);
+    assert!(rt; !are_same_grants(rt.alloc(), &both, &[Form::UpTo(9), Form::From(5)])?);
+    Ok(())
+}
+
 fn failing_place(alloc: Global, forms: &[Form], moment: i64) -> Result<Option<usize>, Fail> {
     let grant = grant_under(alloc, forms)?;
     Ok(first_failing_time(&grant, moment))

@@ -276,7 +276,7 @@ fn is_copied(alloc: Global, tree: &ProofTree) -> Result<bool, Fail> {
 
 fn is_made_and_copied(alloc: Global) -> Result<bool, Fail> {
     let p = Proof::OrR1(Box::new(alloc, Proof::TrueR)?);
-    match ProofTree::new(p) {
+    match ProofTree::new(Box::new(alloc, p)?) {
         Ok(tree) => is_copied(alloc, &tree),
         Err(_) => Ok(false),
     }

@@ -7,21 +7,16 @@ ghost use Rattle.bl_syntax.specs.Reading.{GivesReading, reading};
 ghost use Rattle.bl_syntax.specs.Codec.{GivesReadingOrReports, ReadsFront};
 ghost use Rattle.bl_syntax.specs.FormulaSpelling.{IsSpellableFormula, formula_spelling};
 ghost use Rattle.bl_codec.specs.Leaves.{is_leaf_tag, leaf_at, join_formulas, bind_formula};
-ghost use Rattle.bl_syntax.specs.FormulaReading.{is_term_tag, is_formula_tag, node_term_at, two_terms_at, three_terms_at, terms_at, count_at, atom_at, pair_at, binder_at, says_at, on_at, fields_at, no_more, node_at, formula_at, whole_formula_at};
+ghost use Rattle.bl_syntax.specs.FormulaReading.{is_term_tag, node_term_at, two_terms_at, three_terms_at, terms_at, count_at, atom_at, pair_at, binder_at, says_at, on_at, fields_at, no_more, node_at, formula_at, whole_formula_at};
 
 use bl_syntax::boxes::{
     atom_of, both_of, constraint_of, either_of, every_of, falsity_of, implies_of, on_of, says_of,
     some_of, state_of, truth_of,
 };
-use bl_syntax::fields::{place, predicate_at, sort_at, term_at};
+use bl_syntax::fields::{is_formula_tag, place, predicate_at, sort_at, term_at};
+use bl_syntax::limits::{MOST_ARGUMENTS, MOST_FORMULA_NODES};
 use bl_syntax::{CodecFault, Constraint, Formula, Sequence, Sort, StatePred, Term, Terms};
 use std::alloc::Global;
-
-/// The greatest number of nodes of a formula: its formulas and terms.
-const MOST_NODES: u16 = 512;
-
-/// The greatest number of arguments of an atom.
-const MOST_ARGUMENTS: u8 = 8;
 
 fn is_term_tag(tag: u8) -> bool
     ensures { result ≡ is_term_tag tag }
@@ -93,7 +88,7 @@ fn count_at(input: usize, bytes: &[u8]) -> Result<(u8, &[u8]), CodecFault>
     match bytes {
         [] => Err(CodecFault::Short),
         [count, rest @ ..] => {
-            if MOST_ARGUMENTS < *count {
+            if MOST_ARGUMENTS < *count as usize {
                 return Err(CodecFault::TooLarge(place(input, bytes)));
             }
             Ok((*count, rest))
@@ -320,12 +315,6 @@ fn on_at(
     }
 }
 
-fn is_formula_tag(tag: u8) -> bool
-    ensures { result ≡ is_formula_tag tag }
-{
-    16 <= tag && tag <= 29
-}
-
 /// The fields of a formula with that tag, which are its terms and formulas.
 #[cycle(formula)]
 #[tactic(auto, using(bl_syntax::proofs::ReportsFaultLemmas::hands_on, bl_syntax::proofs::ReportsFaultLemmas::stops), unfolding(bl_syntax::specs::FormulaReading::fields_at))]
@@ -426,7 +415,7 @@ pub fn whole_formula_at(
 ) -> Result<(Formula, &[u8]), CodecFault>
     ensures { GivesReadingOrReports (λ x. (formula_view x.0, x.1.now)) result (whole_formula_at input bytes.now) }
 {
-    match formula_at(alloc, input, MOST_NODES, MOST_NODES, bytes) {
+    match formula_at(alloc, input, MOST_FORMULA_NODES, MOST_FORMULA_NODES, bytes) {
         Err(fault) => Err(fault),
         Ok((f, _, rest)) => Ok((Box::into_inner(f), rest)),
     }

@@ -33,4 +33,4 @@ has_not_ended PosInf = []
 
 -- the goal, under the condition that the statement's interval holds the current time
 abbrev pub granted_by : StatementView → Goal → GrantView
-granted_by statement goal = record { goal = goal; times = has_begun statement.from ++ has_not_ended statement.to; states = [] }
+granted_by statement goal = record { goal = goal; times = has_begun statement.from ++ has_not_ended statement.to; states = []; cited = [] }

@@ -1,10 +1,10 @@
 -- `==` tells exactly whether two values are the same. Crates above cite these for `contains` or `==` over a slice of such values, as
 -- `contains_decides constraint_eq Decides-constraint_eq` with std's lemma on the elements of a list.
-use Rattle.std.proofs.Common.{◌≡◌, ◌∙◌, ℕ, List, ap, rules}
+use Rattle.std.proofs.Common.{◌≡◌, ◌∙◌, ℕ, List, refl, ap, rules}
 use Rattle.std.specs.Bool.{Decides}
 use Rattle.std.proofs.lemmas.Bool.Decides.{Decides-and, Decides-like}
 use Rattle.std.proofs.lemmas.Bool.{false≢true}
-use Rattle.std.proofs.lemmas.Slice.Eq.{bytes_eq-Decides}
+use Rattle.std.proofs.lemmas.Slice.Eq.{bytes_eq-Decides, slice_eq-Decides}
 use borrow.Author.Tests.{tests}
 use Rattle.bl_syntax.specs.declared.terms.NodeId.{NodeId}
 use Rattle.bl_syntax.specs.declared.terms.Perm.{Perm}
@@ -15,7 +15,8 @@ use Rattle.bl_syntax.specs.declared.terms.Constraint.{Constraint}
 use Rattle.bl_syntax.specs.declared.terms.StatePred.{StatePred}
 use Rattle.bl_syntax.specs.declared.terms.StatePred.TheVariants.{Owner, HasXattr, InDir}
 use Rattle.bl_syntax.specs.declared.grant.Goal.{Goal}
-use Rattle.bl_syntax.specs.Equality.{principal_eq, word_eq, text_eq, node_eq, perm_eq, sort_eq, time_point_eq, term_eq, constraint_eq, state_eq, goal_eq}
+use Rattle.bl_syntax.specs.Grant.{GrantView}
+use Rattle.bl_syntax.specs.Equality.{principal_eq, word_eq, text_eq, node_eq, perm_eq, sort_eq, time_point_eq, term_eq, constraint_eq, state_eq, goal_eq, grant_eq}
 
 pub Decides-principal_eq : (a b : List ℕ) → Decides (principal_eq a b) (a ≡ b)
 Decides-principal_eq a b = bytes_eq-Decides a b
@@ -76,3 +77,21 @@ Decides-goal_eq a b =
     Decides-like (goal_eq a b) (same_wanted a b)
     (λ e. (ap (λ (g : Goal). g.who) e, (ap (λ (g : Goal). g.file) e, ap (λ (g : Goal). g.perm) e)))
     (Decides-and _ _ (Decides-principal_eq a.who b.who) (Decides-and _ _ (Decides-node_eq a.file b.file) (Decides-perm_eq a.perm b.perm)))
+
+given : Goal → List Constraint → List StatePred → List ℕ → GrantView
+given goal times states cited = record { goal = goal; times = times; states = states; cited = cited }
+
+-- the same grant, by its parts
+pub same_grant : (a b : GrantView) → a.goal ≡ b.goal → a.times ≡ b.times → a.states ≡ b.states → a.cited ≡ b.cited → a ≡ b
+unfolding given
+same_grant a b goal times states cited =
+    ap (λ (g : Goal). given g a.times a.states a.cited) goal ∙ ap (λ (ts : List Constraint). given b.goal ts a.states a.cited) times
+    ∙ ap (λ (ss : List StatePred). given b.goal b.times ss a.cited) states ∙ ap (λ (ns : List ℕ). given b.goal b.times b.states ns) cited
+
+pub Decides-grant_eq : (a b : GrantView) → Decides (grant_eq a b) (a ≡ b)
+Decides-grant_eq a b =
+    Decides-like (grant_eq a b) (λ h. same_grant a b h.0 h.1.0 h.1.1.0 h.1.1.1)
+    (λ e. (ap (λ (g : GrantView). g.goal) e, (ap (λ (g : GrantView). g.times) e, (ap (λ (g : GrantView). g.states) e, ap (λ (g : GrantView). g.cited) e))))
+    (Decides-and _ _ (Decides-goal_eq a.goal b.goal)
+    (Decides-and _ _ (slice_eq-Decides Decides-constraint_eq a.times b.times _ refl)
+    (Decides-and _ _ (slice_eq-Decides Decides-state_eq a.states b.states _ refl) (bytes_eq-Decides a.cited b.cited))))

@@ -3,6 +3,7 @@ use Rattle.std.proofs.Common.{◌≡◌, ◌+◌, ◌<◌, List, [], ◌∷◌, 
 use Rattle.std.specs.Prelude.{Contains, OnOk, OnErr}
 use Rattle.std.specs.List.{AllByRecursion}
 use Rattle.std.proofs.lemmas.List.Elements.{Contains-push_cases, Contains-append_right}
+use Rattle.bl_syntax.specs.declared.limits.TheConstants.{MOST_CONDITIONS}
 use Rattle.bl_syntax.specs.declared.terms.Constraint.{Constraint}
 use Rattle.bl_syntax.specs.declared.terms.StatePred.{StatePred}
 use Rattle.bl_syntax.specs.declared.grant.Goal.{Goal}
@@ -23,29 +24,32 @@ AreDistinct-push (y ∷ ys) x distinct new = (
   AreDistinct-push ys x distinct.1 (λ h. new (Contains-append_right (y ∷ []) ys x h)),
 )
 
+-- a grant that names no statements
 abbrev pub granted : Goal → List Constraint → List StatePred → GrantView
-granted goal times states = record { goal = goal; times = times; states = states }
+granted goal times states = record { goal = goal; times = times; states = states; cited = [] }
 
-pub IsGrant-push_time : (goal : Goal) (times : List Constraint) (states : List StatePred) (c : Constraint)
-    → IsGrant (granted goal times states) → IsTimeCondition c → (Contains times c → ⊥) → length times + length states < 64
-    → IsGrant (granted goal (times ++ c ∷ []) states)
-IsGrant-push_time goal times states c old condition new room = record {
-  time_conditions = AllByRecursion-push IsTimeCondition times c old.time_conditions condition;
+pub IsGrant-push_time : (g : GrantView) (c : Constraint)
+    → IsGrant g → IsTimeCondition c → (Contains g.times c → ⊥) → length g.times + length g.states < MOST_CONDITIONS
+    → IsGrant (record g { times = g.times ++ c ∷ [] })
+IsGrant-push_time g c old condition new room = record {
+  time_conditions = AllByRecursion-push IsTimeCondition g.times c old.time_conditions condition;
   state_conditions = old.state_conditions;
-  distinct_times = AreDistinct-push times c old.distinct_times new;
+  distinct_times = AreDistinct-push g.times c old.distinct_times new;
   distinct_states = old.distinct_states;
-  count = omega (arith, length-append times (c ∷ []));
+  count = omega (arith, length-append g.times (c ∷ []));
+  names = old.names;
 }
 
-pub IsGrant-push_state : (goal : Goal) (times : List Constraint) (states : List StatePred) (s : StatePred)
-    → IsGrant (granted goal times states) → IsStateCondition s → (Contains states s → ⊥) → length times + length states < 64
-    → IsGrant (granted goal times (states ++ s ∷ []))
-IsGrant-push_state goal times states s old condition new room = record {
+pub IsGrant-push_state : (g : GrantView) (s : StatePred)
+    → IsGrant g → IsStateCondition s → (Contains g.states s → ⊥) → length g.times + length g.states < MOST_CONDITIONS
+    → IsGrant (record g { states = g.states ++ s ∷ [] })
+IsGrant-push_state g s old condition new room = record {
   time_conditions = old.time_conditions;
-  state_conditions = AllByRecursion-push IsStateCondition states s old.state_conditions condition;
+  state_conditions = AllByRecursion-push IsStateCondition g.states s old.state_conditions condition;
   distinct_times = old.distinct_times;
-  distinct_states = AreDistinct-push states s old.distinct_states new;
-  count = omega (arith, length-append states (s ∷ []));
+  distinct_states = AreDistinct-push g.states s old.distinct_states new;
+  count = omega (arith, length-append g.states (s ∷ []));
+  names = old.names;
 }
 
 -- what holds of the new list after a growth, and of the old one where the growth was refused, holds after the call

@@ -1,5 +1,6 @@
 -- The numbers of statements that may be cited together. The limits are this project's own.
 use Rattle.std.specs.Prelude.{◌<◌, ◌≤◌, ℕ, List, [], ◌∷◌, length}
+use Rattle.bl_syntax.specs.declared.limits.TheConstants.{MOST_CITED}
 
 -- each number is below the next
 abbrev pub DoRise : List ℕ → Type 0
@@ -10,5 +11,5 @@ DoRise (first ∷ second ∷ others) = (first < second) × DoRise (second ∷ ot
 -- 1 to 64 numbers, strictly rising
 pub record AreCitable (numbers : List ℕ) : Type 0 where
   pub some : 0 < length numbers
-  pub few : length numbers ≤ 64
+  pub few : length numbers ≤ MOST_CITED
   pub rising : DoRise numbers

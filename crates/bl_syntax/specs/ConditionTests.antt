@@ -1,6 +1,7 @@
 -- The tests of a grant's conditions. Each decides what the definition of its name says (this project's own).
-use Rattle.std.specs.Prelude.{ℤ, pos, negsuc, Bool, true, false, not, ◌&&◌, ◌||◌, int_lt}
+use Rattle.std.specs.Prelude.{ℤ, Bool, true, false, not, ◌&&◌, ◌||◌, int_lt}
 use Rattle.std.specs.List.{list_all}
+use Rattle.bl_syntax.specs.declared.limits.TheConstants.{FIRST_MOMENT, LAST_MOMENT}
 use Rattle.bl_syntax.specs.declared.terms.Term.{Term}
 use Rattle.bl_syntax.specs.declared.terms.Term.TheVariants.{Prin, File, Perm, Time, Text, Ctime, Param, Bound}
 use Rattle.bl_syntax.specs.declared.terms.TimePoint.{TimePoint}
@@ -26,7 +27,7 @@ is_up_to PosInf PosInf = true
 -- whether the time is in the range of moments
 abbrev pub is_in_range : TimePoint → Bool
 is_in_range NegInf = true
-is_in_range (At second) = is_at_most (negsuc 62135596799) second && is_at_most second (pos 253402300799)
+is_in_range (At second) = is_at_most FIRST_MOMENT second && is_at_most second LAST_MOMENT
 is_in_range PosInf = true
 
 -- whether the term is a constant, with its time in the range of moments

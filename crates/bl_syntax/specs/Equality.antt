@@ -1,5 +1,6 @@
--- Equality of names, terms, constraints, predicates on the server's state and goals, as `==` computes it (this project's own).
-use Rattle.std.specs.Prelude.{ℕ, List, Bool}
+-- Equality of names, terms, constraints, predicates on the server's state, goals and grants, as `==` computes it (this project's own).
+use Rattle.std.specs.Prelude.{ℕ, List, Bool, ◌&&◌, ◌==◌}
+use Rattle.std.specs.Cmp.Lexicographic.{pointwise}
 use Rattle.bl_syntax.specs.declared.terms.NodeId.{NodeId}
 use Rattle.bl_syntax.specs.declared.terms.Perm.{Perm}
 use Rattle.bl_syntax.specs.declared.terms.Sort.{Sort}
@@ -8,6 +9,7 @@ use Rattle.bl_syntax.specs.declared.terms.Term.{Term}
 use Rattle.bl_syntax.specs.declared.terms.Constraint.{Constraint}
 use Rattle.bl_syntax.specs.declared.terms.StatePred.{StatePred}
 use Rattle.bl_syntax.specs.declared.grant.Goal.{Goal}
+use Rattle.bl_syntax.specs.Grant.{GrantView}
 use Rattle.bl_syntax.specs.contracts.names.PrincipalPartialEq.TheImpl as principal
 use Rattle.bl_syntax.specs.contracts.names.WordPartialEq.TheImpl as word
 use Rattle.bl_syntax.specs.contracts.names.TextPartialEq.TheImpl as text
@@ -53,3 +55,8 @@ state_eq = state.ghosts.eq
 
 abbrev pub goal_eq : Goal → Goal → Bool
 goal_eq = goal.ghosts.eq
+
+-- the goals, the conditions in their order, and the numbers
+abbrev pub grant_eq : GrantView → GrantView → Bool
+grant_eq a b =
+    goal_eq a.goal b.goal && (pointwise constraint_eq a.times b.times && (pointwise state_eq a.states b.states && pointwise ◌==◌ a.cited b.cited))

@@ -1,6 +1,7 @@
 -- The first fault of a formula: of the limits, and then in preorder, each node before its parts, the parts from left to right. The order is this project's own.
 use Rattle.std.specs.Prelude.{◌≡◌, Result, MatchResult, List, [], ◌∷◌, Option, Some, None, nat_le, ◌&&◌, if◌then◌else◌}
 use Rattle.std.specs.Str.{bytes_eq}
+use Rattle.bl_syntax.specs.declared.limits.TheConstants.{MOST_FORMULA_NODES, MOST_ARGUMENTS}
 use Rattle.bl_syntax.specs.declared.terms.Sort.{Sort}
 use Rattle.bl_syntax.specs.declared.terms.Sort.TheVariants as sorts
 use Rattle.bl_syntax.specs.declared.terms.Term.{Term}
@@ -77,7 +78,7 @@ sorting_fault parameters binders (on a u v) = first_of (sorting_fault parameters
 -- the first fault: of the limits, and then of the rest
 abbrev pub formula_fault : List Sort → FormulaView → Option SyntaxFault
 formula_fault parameters f =
-    if nat_le (size f) 512 && nat_le (widest_atom f) 8 then sorting_fault parameters [] f else Some TooLarge
+    if nat_le (size f) MOST_FORMULA_NODES && nat_le (widest_atom f) MOST_ARGUMENTS then sorting_fault parameters [] f else Some TooLarge
 
 -- a check gives the fault that there is, and passes if there is none
 abbrev pub Finds : Result (Unit {0}) SyntaxFault → Option SyntaxFault → Type 0

@@ -2,6 +2,7 @@
 -- the node must be among those that may still come; then its fields are read in order. The order of the faults and the limits are this project's own.
 use Rattle.std.specs.Prelude.{◌-◌, ℕ, zero, suc, List, [], ◌∷◌, Bool, true, false, ◌&&◌, nat_lt, nat_le, ◌==◌, if◌then◌else◌, is_none, Result, Ok, Err}
 use Rattle.std.specs.List.{list_all}
+use Rattle.bl_syntax.specs.declared.limits.TheConstants.{MOST_FORMULA_NODES, MOST_ARGUMENTS}
 use Rattle.bl_syntax.specs.declared.codec_fault.CodecFault.{CodecFault}
 use Rattle.bl_syntax.specs.declared.codec_fault.CodecFault.TheVariants.{Short, BadTag, NotCanonical, TooLarge}
 use Rattle.bl_syntax.specs.declared.terms.Sort.{Sort}
@@ -62,7 +63,7 @@ terms_at (suc count) input left bytes = do
 -- the number of an atom's terms
 unfoldable pub count_at : ℕ → List ℕ → Reading ℕ
 count_at input [] = Err Short
-count_at input (count ∷ rest) = if nat_lt 8 count then Err (TooLarge (place input (count ∷ rest))) else Ok (count, rest)
+count_at input (count ∷ rest) = if nat_lt MOST_ARGUMENTS count then Err (TooLarge (place input (count ∷ rest))) else Ok (count, rest)
 
 -- the fields of an atom
 unfoldable pub atom_at : ℕ → ℕ → List ℕ → Counted FormulaView
@@ -134,7 +135,7 @@ formula_at input (suc depth) left bytes = node_at (λ n rest. formula_at input d
 
 -- a formula of at most 512 nodes; so it is nested at most 512 deep
 unfoldable pub whole_formula_at : ℕ → List ℕ → Reading FormulaView
-whole_formula_at input bytes = formula_at input 512 512 bytes >>= λ f. Ok (f.0, f.1.1)
+whole_formula_at input bytes = formula_at input MOST_FORMULA_NODES MOST_FORMULA_NODES bytes >>= λ f. Ok (f.0, f.1.1)
 
 -- each term passes the test
 abbrev pub all_terms : (Term → Bool) → FormulaView → Bool

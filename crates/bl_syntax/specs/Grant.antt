@@ -1,20 +1,22 @@
 -- What a verified proof grants: a goal, and the conditions on time and on the server's state that the proof left open (after procaps: Garg and Pfenning, A proof-carrying
 -- file system, 2010). The grammar and the limit of conditions are this project's own.
-use Rattle.std.specs.Prelude.{◌≡◌, ◌≤◌, ◌+◌, ◌⊎◌, ℤ, List, [], ◌∷◌, length, Contains}
+use Rattle.std.specs.Prelude.{◌≡◌, ◌≤◌, ◌+◌, ◌⊎◌, ℕ, ℤ, List, [], ◌∷◌, length, Contains}
 use Rattle.std.specs.List.{AllByRecursion}
 use Rattle.bl_syntax.specs.declared.terms.Term.{Term}
 use Rattle.bl_syntax.specs.declared.terms.Term.TheVariants.{Ctime}
 use Rattle.bl_syntax.specs.declared.terms.Constraint.{Constraint}
 use Rattle.bl_syntax.specs.declared.terms.StatePred.{StatePred}
 use Rattle.bl_syntax.specs.declared.grant.Goal.{Goal}
+use Rattle.bl_syntax.specs.declared.limits.TheConstants.{MOST_CONDITIONS}
 use Rattle.bl_syntax.specs.Terms.{IsConstant, HasTimeInRange, AreInOrder, constraint_at}
 use Rattle.bl_syntax.specs.WellSorted.{terms_of_state}
 
--- the goal, and the conditions in the order in which they came up
+-- the goal, the conditions in the order in which they came up, and the numbers of the statements that it names
 pub record GrantView : Type 0 where
   pub goal : Goal
   pub times : List Constraint
   pub states : List StatePred
+  pub cited : List ℕ
 
 -- the current time, or a constant
 abbrev pub IsCtimeOrConstant : Term → Type 0
@@ -38,13 +40,18 @@ abbrev pub AreDistinct : {A : Type 0} → List A → Type 0
 AreDistinct [] = Unit {0}
 AreDistinct (x ∷ xs) = (Contains xs x → ⊥) × AreDistinct xs
 
--- what a grant keeps: conditions of these forms, each once, at most 64 together
+-- which statements a grant may name: none
+abbrev pub MayName : List ℕ → Type 0
+MayName numbers = numbers ≡ []
+
+-- what a grant keeps: conditions of these forms, each once, at most 64 together, and numbers that it may name
 pub record IsGrant (g : GrantView) : Type 0 where
   pub time_conditions : AllByRecursion IsTimeCondition g.times
   pub state_conditions : AllByRecursion IsStateCondition g.states
   pub distinct_times : AreDistinct g.times
   pub distinct_states : AreDistinct g.states
-  pub count : length g.times + length g.states ≤ 64
+  pub count : length g.times + length g.states ≤ MOST_CONDITIONS
+  pub names : MayName g.cited
 
 -- the condition on time holds at a moment
 abbrev pub HoldsAt : ℤ → Constraint → Type 0

@@ -1,7 +1,8 @@
 -- The grammar of names and text constants. It is this project's own.
-use Rattle.std.specs.Prelude.{ℕ, List, [], ◌∷◌, length, codes, Bool, false, not, nat_le, ◌&&◌, ◌||◌, ◌==◌}
+use Rattle.std.specs.Prelude.{◌-◌, ℕ, List, [], ◌∷◌, length, codes, Bool, false, not, nat_le, ◌&&◌, ◌||◌, ◌==◌}
 use Rattle.std.specs.List.{list_all, list_any}
 use Rattle.std.specs.Str.{bytes_eq}
+use Rattle.bl_syntax.specs.declared.limits.TheConstants.{LONGEST_WORD, LONGEST_TEXT}
 
 -- from `a` to `z`
 abbrev pub is_lower_case : ℕ → Bool
@@ -22,7 +23,7 @@ is_name_byte byte = is_lower_case byte || is_digit byte || (byte == 95)
 -- a lower-case letter, and at most 31 further bytes of a name
 abbrev pub is_identifier : List ℕ → Bool
 is_identifier [] = false
-is_identifier (first ∷ others) = is_lower_case first && list_all is_name_byte others && nat_le (length others) 31
+is_identifier (first ∷ others) = is_lower_case first && list_all is_name_byte others && nat_le (length others) (LONGEST_WORD - 1)
 
 -- the words that are no names
 abbrev pub reserved_words : List (List ℕ)
@@ -51,4 +52,4 @@ is_text_byte byte = nat_le 32 byte && nat_le byte 126 && not (byte == 34) && not
 
 -- whether the bytes are a text constant: at most 128 of these
 abbrev pub is_text : List ℕ → Bool
-is_text bytes = list_all is_text_byte bytes && nat_le (length bytes) 128
+is_text bytes = list_all is_text_byte bytes && nat_le (length bytes) LONGEST_TEXT

@@ -2,8 +2,9 @@
 -- A field is a single byte with a table, a number, a point in time, or a name or text with its length byte. A field that is not there whole is Short;
 -- a whole field outside its table, grammar or range has its fault at its first byte. The length byte of a name or text, and the first byte of a point
 -- in time, are tested as soon as they are there.
-use Rattle.std.specs.Prelude.{◌≡◌, ◌-◌, ℕ, ℤ, pos, negsuc, int_le, List, [], ◌∷◌, length, take, drop, Bool, ◌&&◌, nat_lt, ◌==◌, if◌then◌else◌, Option, Some, None, Result, Ok, Err}
+use Rattle.std.specs.Prelude.{◌≡◌, ◌-◌, ℕ, ℤ, int_le, List, [], ◌∷◌, length, take, drop, Bool, ◌&&◌, nat_lt, ◌==◌, if◌then◌else◌, Option, Some, None, Result, Ok, Err}
 use Rattle.std.specs.Int.{Width, w32, w64, byte_len, from_be_bytes, cast_signed}
+use Rattle.bl_syntax.specs.declared.limits.TheConstants.{LONGEST_WORD, LONGEST_TEXT, FIRST_MOMENT, LAST_MOMENT}
 use Rattle.bl_syntax.specs.declared.codec_fault.CodecFault.{CodecFault}
 use Rattle.bl_syntax.specs.declared.codec_fault.CodecFault.TheVariants.{Short, BadTag, NotCanonical}
 use Rattle.bl_syntax.specs.declared.terms.Sort.{Sort}
@@ -55,19 +56,19 @@ word_at least most is_word input bytes = do
 
 -- a principal's name
 abbrev pub name_at : ℕ → List ℕ → Reading (List ℕ)
-name_at input bytes = word_at 1 32 is_principal_name input bytes
+name_at input bytes = word_at 1 LONGEST_WORD is_principal_name input bytes
 
 -- a predicate's name
 abbrev pub predicate_at : ℕ → List ℕ → Reading (List ℕ)
-predicate_at input bytes = word_at 1 32 is_predicate_name input bytes
+predicate_at input bytes = word_at 1 LONGEST_WORD is_predicate_name input bytes
 
 -- a text constant
 abbrev pub text_at : ℕ → List ℕ → Reading (List ℕ)
-text_at input bytes = word_at 0 128 is_text input bytes
+text_at input bytes = word_at 0 LONGEST_TEXT is_text input bytes
 
 -- a whole second of the years 1 to 9999
 abbrev pub is_moment : ℤ → Bool
-is_moment second = int_le (negsuc 62135596799) second && int_le second (pos 253402300799)
+is_moment second = int_le FIRST_MOMENT second && int_le second LAST_MOMENT
 
 -- a second in two's complement; its first byte stands one after that of the point in time
 unfoldable pub moment_at : ℕ → List ℕ → Reading TimePoint

@@ -1,5 +1,6 @@
 -- Points in time and their order: `-inf` first, `+inf` last, whole seconds between them. The range of moments is this project's own.
-use Rattle.std.specs.Prelude.{ℤ, pos, negsuc, ◌≤ℤ◌}
+use Rattle.std.specs.Prelude.{ℤ, ◌≤ℤ◌}
+use Rattle.bl_syntax.specs.declared.limits.TheConstants.{FIRST_MOMENT, LAST_MOMENT}
 use Rattle.bl_syntax.specs.declared.terms.TimePoint.{TimePoint}
 use Rattle.bl_syntax.specs.declared.terms.TimePoint.TheVariants.{NegInf, At, PosInf}
 
@@ -15,8 +16,8 @@ IsUpTo PosInf PosInf = Unit {0}
 
 -- a whole second from 0001-01-01T00:00:00Z to 9999-12-31T23:59:59Z, counted from 1970-01-01T00:00:00Z
 pub record IsMoment (second : ℤ) : Type 0 where
-  pub not_before : negsuc 62135596799 ≤ℤ second
-  pub not_after : second ≤ℤ pos 253402300799
+  pub not_before : FIRST_MOMENT ≤ℤ second
+  pub not_after : second ≤ℤ LAST_MOMENT
 
 -- a point in time lies in the range of moments
 abbrev pub IsInRange : TimePoint → Type 0

@@ -1,6 +1,7 @@
 -- Which formulas are closed and well sorted, and within the limits. The sorts of predicates and the limits are this project's own.
 use Rattle.std.specs.Prelude.{◌≡◌, ◌≤◌, ℕ, ◌+◌, max, List, [], ◌∷◌, length, codes, Some, IsSome}
 use Rattle.std.specs.List.{AllByRecursion}
+use Rattle.bl_syntax.specs.declared.limits.TheConstants.{MOST_FORMULA_NODES, MOST_ARGUMENTS}
 use Rattle.bl_syntax.specs.declared.terms.Sort.{Sort}
 use Rattle.bl_syntax.specs.declared.terms.Sort.TheVariants as sorts
 use Rattle.bl_syntax.specs.declared.terms.Term.{Term}
@@ -98,8 +99,8 @@ widest_atom (on a u v) = widest_atom a
 
 -- at most 512 nodes, and no atom with more than 8 arguments
 pub record IsWithinLimits (f : FormulaView) : Type 0 where
-  pub nodes : size f ≤ 512
-  pub arguments : widest_atom f ≤ 8
+  pub nodes : size f ≤ MOST_FORMULA_NODES
+  pub arguments : widest_atom f ≤ MOST_ARGUMENTS
 
 -- a formula that may be used where the parameters have these sorts
 pub record IsFormula (parameters : List Sort) (f : FormulaView) : Type 0 where

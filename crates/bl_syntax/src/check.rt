@@ -10,37 +10,37 @@ ghost use Rattle.bl_syntax.specs.FirstFault.{Finds, formula_fault, sorting_fault
 
 use crate::binders::Binders;
 use crate::formula::Formula;
+use crate::limits::{MOST_ARGUMENTS, MOST_FORMULA_NODES};
 use crate::names::Word;
 use crate::terms::{Sort, StatePred, Term};
+use thiserror::Error;
 
 /// The first fault of a formula: of its size, and then of its nodes from the root, each node before its parts.
-#[derive(Clone, Copy, Debug, PartialEq, Eq)]
+#[derive(Clone, Copy, Debug, PartialEq, Eq, Error)]
 pub enum SyntaxFault {
     /// A term has another sort than its place asks for.
+    #[error("a term has another sort than its place asks for")]
     WrongSort,
     /// A predicate has another number of arguments than it takes.
+    #[error("a predicate has another number of arguments than it takes")]
     WrongArity,
     /// A variable has no binder, or a parameter is out of scope.
+    #[error("a variable has no binder, or a parameter is out of scope")]
     Unbound,
     /// More than 512 nodes, or an atom with more than 8 arguments.
+    #[error("the formula has more than 512 nodes, or an atom with more than 8 arguments")]
     TooLarge,
 }
 
-/// The greatest number of nodes of a formula: its formulas and terms.
-const MOST_NODES: u16 = 512;
-
 /// The predicate by which a policy gives a principal a permission on a file.
 const MAY: &[u8] = b"may";
-
-/// The greatest number of arguments of an atom.
-const MOST_ARGUMENTS: usize = 8;
 
 /// Whether the formula is closed and well sorted within the limits, where the parameters have
 /// these sorts; else its first fault, that of the limits before any other.
 pub fn check_formula(f: &Formula, scope: &[Sort]) -> Result<(), SyntaxFault>
     ensures { Finds result (formula_fault scope.now (formula_view f.now)) }
 {
-    match nodes_left(f, MOST_NODES) {
+    match nodes_left(f, MOST_FORMULA_NODES) {
         Some(_) => check_sorts(f, scope, &Binders::Outermost),
         None => Err(SyntaxFault::TooLarge),
     }
@@ -49,7 +49,7 @@ pub fn check_formula(f: &Formula, scope: &[Sort]) -> Result<(), SyntaxFault>
 /// How many of so many nodes the formula leaves; none where it has more, or an atom with too many
 /// arguments. It calls itself no deeper than there are nodes left.
 fn nodes_left(f: &Formula, nodes: u16) -> Option<u16>
-    ensures { SomeIff result ((size (formula_view f.now) ≤ nodes) × (widest_atom (formula_view f.now) ≤ 8))
+    ensures { SomeIff result ((size (formula_view f.now) ≤ nodes) × (widest_atom (formula_view f.now) ≤ MOST_ARGUMENTS))
         (nodes - size (formula_view f.now)) }
 {
     match f {

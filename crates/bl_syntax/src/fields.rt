@@ -6,9 +6,11 @@
 ghost use Rattle.std.specs.Prelude.{◌≡◌, ◌++◌, OnOk, OnErr};
 ghost use Rattle.std.specs.Int.{w16, w32, w64, to_be_bytes, cast_unsigned};
 ghost use Rattle.bl_syntax.specs.Spelling.{permission_code, sort_code};
+ghost use Rattle.bl_syntax.specs.FormulaReading.{is_formula_tag};
 ghost use Rattle.bl_syntax.specs.Reading.{GivesReading, place, number_at, with_length_at, word_at, name_at, predicate_at, text_at, moment_at, time_at, permission_of, permission_at, sort_of, sort_at, field_at, term_at};
 
 use crate::codec_fault::CodecFault;
+use crate::limits::{LONGEST_TEXT, LONGEST_WORD};
 use crate::lists::{Bytes, NoMemory};
 use crate::names::{Principal, Text, Word};
 use crate::terms::{NodeId, Perm, Sort, Term, TimePoint};
@@ -62,7 +64,7 @@ pub fn u64_at(bytes: &[u8]) -> Result<(u64, &[u8]), CodecFault>
 
 /// A length byte from `least` to `most`, and that many bytes.
 #[tactic(auto, unfolding(crate::specs::Reading::with_length_at))]
-fn with_length_at(
+pub fn with_length_at(
     least: u8,
     most: u8,
     input: usize,
@@ -93,7 +95,7 @@ fn with_length_at(
 pub fn name_at(input: usize, bytes: &[u8]) -> Result<(Principal, &[u8]), CodecFault>
     ensures { GivesReading (λ x. (x.0, x.1.now)) result (name_at input bytes.now) }
 {
-    let (name, rest) = with_length_at(1, 32, input, bytes)?;
+    let (name, rest) = with_length_at(1, LONGEST_WORD as u8, input, bytes)?;
     match Principal::new(name) {
         Some(principal) => Ok((principal, rest)),
         None => Err(CodecFault::NotCanonical(place(input, bytes))),
@@ -105,7 +107,7 @@ pub fn name_at(input: usize, bytes: &[u8]) -> Result<(Principal, &[u8]), CodecFa
 pub fn predicate_at(input: usize, bytes: &[u8]) -> Result<(Word, &[u8]), CodecFault>
     ensures { GivesReading (λ x. (x.0, x.1.now)) result (predicate_at input bytes.now) }
 {
-    let (name, rest) = with_length_at(1, 32, input, bytes)?;
+    let (name, rest) = with_length_at(1, LONGEST_WORD as u8, input, bytes)?;
     match Word::new(name) {
         Some(word) => Ok((word, rest)),
         None => Err(CodecFault::NotCanonical(place(input, bytes))),
@@ -117,7 +119,7 @@ pub fn predicate_at(input: usize, bytes: &[u8]) -> Result<(Word, &[u8]), CodecFa
 pub fn text_at(input: usize, bytes: &[u8]) -> Result<(Text, &[u8]), CodecFault>
     ensures { GivesReading (λ x. (x.0, x.1.now)) result (text_at input bytes.now) }
 {
-    let (bytes_of_text, rest) = with_length_at(0, 128, input, bytes)?;
+    let (bytes_of_text, rest) = with_length_at(0, LONGEST_TEXT as u8, input, bytes)?;
     match Text::new(bytes_of_text) {
         Some(text) => Ok((text, rest)),
         None => Err(CodecFault::NotCanonical(place(input, bytes))),
@@ -150,6 +152,13 @@ pub fn time_at(input: usize, bytes: &[u8]) -> Result<(TimePoint, &[u8]), CodecFa
         [2, rest @ ..] => Ok((TimePoint::PosInf, rest)),
         [_, ..] => Err(CodecFault::NotCanonical(place(input, bytes))),
     }
+}
+
+/// Whether it is the tag of a formula.
+pub fn is_formula_tag(tag: u8) -> bool
+    ensures { result ≡ is_formula_tag tag }
+{
+    16 <= tag && tag <= 29
 }
 
 fn permission_of(code: u8) -> Option<Perm>

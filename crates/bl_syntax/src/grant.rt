@@ -1,5 +1,6 @@
 //! Goals, and grants with the conditions that a proof left open.
 
+use crate::limits::MOST_CONDITIONS;
 use crate::lists::{NoMemory, Sequence};
 use crate::names::Principal;
 use crate::terms::{Constraint, Constraints, NodeId, Perm, StatePred, StatePreds};
@@ -34,22 +35,24 @@ pub struct Grant {
 }
 
 impl Model for Grant {
+    ghost use Rattle.std.specs.Prelude.{[]};
     ghost use Rattle.bl_syntax.specs.Grant.{GrantView, IsGrant};
 
     ghost Value = { GrantView };
 
-    ghost view = { λ g. record { goal = g.goal; times = g.times; states = g.states } };
+    ghost view = { λ g. record { goal = g.goal; times = g.times; states = g.states; cited = [] } };
 
-    ghost invariant = { λ g. IsGrant (record { goal = g.goal; times = g.times; states = g.states }) };
+    ghost invariant = { λ g. IsGrant (record { goal = g.goal; times = g.times; states = g.states; cited = [] }) };
 }
 
 impl Grant {
-    ghost use Rattle.std.specs.Prelude.{◌≡◌, ◌+◌, ◌<◌, [], ◌∷◌, ◌++◌, length, Contains, OnOk, OnErr, IfOk};
+    ghost use Rattle.std.specs.Prelude.{◌≡◌, ◌↔◌, ◌+◌, ◌<◌, [], ◌∷◌, ◌++◌, length, Contains, IsTrue, OnOk, OnErr, IfOk};
+    ghost use Rattle.bl_syntax.specs.Equality.{grant_eq};
     ghost use Rattle.bl_syntax.specs.Grant.{IsGrant, IsTimeCondition, IsStateCondition};
 
     /// The goal without conditions. It takes no memory.
     pub fn new(alloc: Global, goal: Goal) -> Grant
-        ensures { result ≡ record { goal = goal; times = []; states = [] } }
+        ensures { result ≡ record { goal = goal; times = []; states = []; cited = [] } }
     {
         Grant {
             goal,
@@ -81,11 +84,25 @@ impl Grant {
         self.states.as_slice()
     }
 
+    /// Takes room for so many more conditions on time at once, and no more than that. The grant stays as it is.
+    pub fn reserve_times(&mut self, more: usize) -> Result<(), NoMemory>
+        ensures { self.new ≡ self.old }
+    {
+        self.times.reserve(more)
+    }
+
+    /// Takes room for so many more conditions on the server's state at once, and no more than that. The grant stays as it is.
+    pub fn reserve_states(&mut self, more: usize) -> Result<(), NoMemory>
+        ensures { self.new ≡ self.old }
+    {
+        self.states.reserve(more)
+    }
+
     /// Adds a new condition on time after the others.
     pub fn push_time(&mut self, c: Constraint) -> Result<(), NoMemory>
         requires condition { IsTimeCondition c }
         requires new { Contains self.old.times c → ⊥ }
-        requires room { length self.old.times + length self.old.states < 64 }
+        requires room { length self.old.times + length self.old.states < MOST_CONDITIONS }
         ensures ok { OnOk result (self.new ≡ record self.old { times = self.old.times ++ c ∷ [] }) }
         ensures err { OnErr result (self.new ≡ self.old) }
     {
@@ -97,11 +114,28 @@ impl Grant {
     pub fn push_state(&mut self, s: StatePred) -> Result<(), NoMemory>
         requires condition { IsStateCondition s }
         requires new { Contains self.old.states s → ⊥ }
-        requires room { length self.old.times + length self.old.states < 64 }
+        requires room { length self.old.times + length self.old.states < MOST_CONDITIONS }
         ensures ok { OnOk result (self.new ≡ record self.old { states = self.old.states ++ s ∷ [] }) }
         ensures err { OnErr result (self.new ≡ self.old) }
     {
         self.states.extend(&[s])
+    }
+
+    /// Whether it grants the same under the same conditions, which came up in the same order.
+    pub fn is_same(&self, other: &Grant) -> bool
+        ensures computed { result ≡ grant_eq self.now other.now }
+        ensures decides { IsTrue result ↔ (self.now ≡ other.now) }
+    {
+        self.has_same_parts(other)
+    }
+
+    // Whether the goals are the same, and the conditions in their order.
+    fn has_same_parts(&self, other: &Grant) -> bool
+        ensures { result ≡ grant_eq self.now other.now }
+    {
+        self.goal == other.goal
+            && self.times.as_slice() == other.times.as_slice()
+            && self.states.as_slice() == other.states.as_slice()
     }
 
     /// An equal grant in memory of its own.

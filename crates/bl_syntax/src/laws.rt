@@ -9,7 +9,8 @@ ghost use Rattle.bl_syntax.specs.declared.terms.Term.{Term};
 ghost use Rattle.bl_syntax.specs.declared.terms.Constraint.{Constraint};
 ghost use Rattle.bl_syntax.specs.declared.terms.StatePred.{StatePred};
 ghost use Rattle.bl_syntax.specs.declared.grant.Goal.{Goal};
-ghost use Rattle.bl_syntax.specs.Equality.{principal_eq, word_eq, text_eq, node_eq, perm_eq, sort_eq, time_point_eq, term_eq, constraint_eq, state_eq, goal_eq};
+ghost use Rattle.bl_syntax.specs.Equality.{principal_eq, word_eq, text_eq, node_eq, perm_eq, sort_eq, time_point_eq, term_eq, constraint_eq, state_eq, goal_eq, grant_eq};
+ghost use Rattle.bl_syntax.specs.Grant.{GrantView};
 ghost use Rattle.bl_syntax.specs.Formula.{FormulaView};
 ghost use Rattle.bl_syntax.specs.WellSorted.{HasSort, IsWellSorted, IsFormula, size, widest_atom};
 ghost use Rattle.bl_syntax.specs.Substitution.{instance_at};
@@ -35,6 +36,7 @@ pub fn equality_is_decided()
     ensures constraints { (a b : Constraint) → (constraint_eq a b ≡ true) ↔ (a ≡ b) }
     ensures states { (a b : StatePred) → (state_eq a b ≡ true) ↔ (a ≡ b) }
     ensures goals { (a b : Goal) → (goal_eq a b ≡ true) ↔ (a ≡ b) }
+    ensures grants { (a b : GrantView) → (grant_eq a b ≡ true) ↔ (a ≡ b) }
 {}
 
 /// A formula is closed and well sorted within the limits exactly if it has no first fault.

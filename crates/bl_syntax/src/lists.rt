@@ -5,9 +5,11 @@ ghost use Rattle.bl_syntax.specs.declared.lists.NoMemory.{NoMemory};
 
 use std::alloc::{AllocError, AllocFailed, Global};
 use std::marker::Model;
+use thiserror::Error;
 
 /// A growth was refused, and nothing was changed.
-#[derive(Clone, Copy, Debug, PartialEq, Eq)]
+#[derive(Clone, Copy, Debug, PartialEq, Eq, Error)]
+#[error("out of memory")]
 pub struct NoMemory;
 
 impl From<AllocError> for NoMemory {
@@ -38,6 +40,13 @@ impl<T> Model for Sequence<T> {
 
 /// Bytes.
 pub type Bytes = Sequence<u8>;
+
+/// The bytes in memory of their own.
+pub fn copy_bytes(alloc: Global, bytes: &[u8]) -> Result<Bytes, NoMemory>
+    ensures { IfOk result (λ owned. owned ≡ bytes.now) }
+{
+    Ok(Sequence::from_vec(Vec::from_slice(alloc, bytes)?))
+}
 
 /// Numbers, as of statements.
 pub type Numbers = Sequence<u32>;
@@ -88,6 +97,14 @@ impl<T: Drop> Sequence<T> {
         ensures err { OnErr result (self.new ≡ self.old) }
     {
         self.items.push(item)?;
+        Ok(())
+    }
+
+    /// Takes room for so many more items at once, and no more than that. The list stays as it is.
+    pub fn reserve(&mut self, more: usize) -> Result<(), NoMemory>
+        ensures { self.new ≡ self.old }
+    {
+        self.items.reserve_exact(more)?;
         Ok(())
     }
 

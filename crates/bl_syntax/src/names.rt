@@ -6,6 +6,7 @@ ghost use Rattle.std.specs.Str.{bytes_eq};
 ghost use Rattle.bl_syntax.specs.Names.{is_name_byte, is_identifier, is_principal_name, is_predicate_name, is_text_byte, is_text};
 
 use crate::byte_classes::{is_lower_case, is_name_byte, is_text_byte};
+use crate::limits::{LONGEST_TEXT, LONGEST_WORD};
 use crate::short::Short;
 use std::marker::Model;
 
@@ -38,7 +39,7 @@ const STATE_PREDICATES: [&str; 3] = ["owner", "has_xattr", "in_dir"];
 /// A principal's name: `[a-z][a-z0-9_]*`, 1 to 32 bytes, and no reserved word.
 #[derive(Clone, Copy, Debug, PartialEq, Eq)]
 pub struct Principal {
-    name: Short<32>,
+    name: Short<LONGEST_WORD>,
 }
 
 impl Model for Principal {
@@ -88,7 +89,7 @@ impl Principal {
 /// A predicate's name: as a principal's, but not `owner`, `has_xattr` or `in_dir`.
 #[derive(Clone, Copy, Debug, PartialEq, Eq)]
 pub struct Word {
-    name: Short<32>,
+    name: Short<LONGEST_WORD>,
 }
 
 impl Model for Word {
@@ -138,7 +139,7 @@ impl Word {
 /// A text constant: at most 128 bytes from 0x20 to 0x7e without `"` and `\`.
 #[derive(Clone, Copy, Debug, PartialEq, Eq)]
 pub struct Text {
-    text: Short<128>,
+    text: Short<LONGEST_TEXT>,
 }
 
 impl Model for Text {
@@ -197,7 +198,7 @@ fn is_identifier(bytes: &[u8]) -> bool
     match bytes {
         [] => false,
         [first, others @ ..] => {
-            is_lower_case(*first) && are_name_bytes(others) && others.len() <= 31
+            is_lower_case(*first) && are_name_bytes(others) && others.len() <= LONGEST_WORD - 1
         }
     }
 }
@@ -234,5 +235,5 @@ fn are_text_bytes(bytes: &[u8]) -> bool
 fn is_text(bytes: &[u8]) -> bool
     ensures { result ≡ is_text bytes.now }
 {
-    are_text_bytes(bytes) && bytes.len() <= 128
+    are_text_bytes(bytes) && bytes.len() <= LONGEST_TEXT
 }

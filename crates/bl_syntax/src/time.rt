@@ -3,13 +3,8 @@
 ghost use Rattle.std.specs.Prelude.{◌↔◌, IsTrue};
 ghost use Rattle.bl_syntax.specs.TimeOrder.{IsMoment, IsUpTo, IsInRange};
 
+use crate::limits::{FIRST_MOMENT, LAST_MOMENT};
 use crate::terms::TimePoint;
-
-/// 0001-01-01T00:00:00Z.
-const FIRST_MOMENT: i64 = -62_135_596_800;
-
-/// 9999-12-31T23:59:59Z.
-const LAST_MOMENT: i64 = 253_402_300_799;
 
 /// Whether a second, counted from 1970-01-01T00:00:00Z, lies in the years 1 to 9999.
 pub fn is_moment(second: i64) -> bool

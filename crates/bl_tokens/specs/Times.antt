@@ -22,12 +22,13 @@ abbrev pub at_end : ℕ → Token → TimePoint → Result TimePoint TextFault
 at_end at End point = Ok point
 at_end at _ point = Err (Unexpected at)
 
-abbrev whole : List ℕ → ℕ → Result TimePoint TextFault → Result TimePoint TextFault
-whole text end (Ok point) = at_end (token_from text end 0).at (token_from text end 0).token point
-whole text end (Err fault) = Err fault
+-- what was read up to there, if nothing stands after it
+abbrev pub up_to_end : List ℕ → ℕ → Result TimePoint TextFault → Result TimePoint TextFault
+up_to_end text end (Ok point) = at_end (token_from text end 0).at (token_from text end 0).token point
+up_to_end text end (Err fault) = Err fault
 
-abbrev from_first : List ℕ → Cursor → Result TimePoint TextFault
-from_first text first = whole text first.end (time_at first.at first.token)
+abbrev pub from_first : List ℕ → Cursor → Result TimePoint TextFault
+from_first text first = up_to_end text first.end (time_at first.at first.token)
 
 -- what the text says: one time token, and nothing after it but spaces
 abbrev pub time_reading : List ℕ → Result TimePoint TextFault

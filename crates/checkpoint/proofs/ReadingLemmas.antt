@@ -12,7 +12,7 @@ use Rattle.access_history.specs.Base.{BaseView}
 use Rattle.checkpoint_image.specs.ImageSpelling.{image_spelling}
 use Rattle.checkpoint_image.specs.ImageReading.{image_at}
 use Rattle.checkpoint_image.proofs.ImageLemmas.{image_codec, cut}
-use Rattle.checkpoint.specs.Reading.{IsImageOf, ReadsImage, field, no_world, left_over, whole, MakesState, GivesImage}
+use Rattle.checkpoint.specs.Reading.{IsSpelledAs, current, IsImageOf, ReadsImage, field, no_world, left_over, whole, MakesState, GivesImage}
 
 -- ---- one reading
 
@@ -62,20 +62,25 @@ image_from bytes _ fits (no_world base rest e not) = tt
 image_from bytes _ fits (left_over base byte rest e is) = tt
 image_from bytes _ fits (whole base e is) =
     let found = image_codec.found (length bytes) bytes [] base fits e in
-    record { spelled = found.0; world = is; image_is = found.1 ∙ append-nil (image_spelling base) }
+    record { world = is; spelled = subst (IsSpelledAs base) (sym (found.1 ∙ append-nil (image_spelling base))) (current found.0) }
 
 pub read_is_image : (bytes : List ℕ) (base : BaseView) → AreBytes bytes → ReadsImage bytes (Ok base) → IsImageOf base bytes
 read_is_image bytes base fits read = image_from bytes (Ok base) fits read
 
 -- what stands at the front of these bytes
-front_of : (base : BaseView) (image rest : List ℕ) → IsImageOf base image → image_at (length (image ++ rest)) (image ++ rest) ≡ Ok (base, rest)
-front_of base image rest is =
-    subst (λ (front : List ℕ). image_at (length (front ++ rest)) (front ++ rest) ≡ Ok (base, rest)) (sym is.image_is)
-    (image_codec.again (length (image_spelling base ++ rest)) base rest is.spelled)
+front_of : (base : BaseView) (image rest : List ℕ) → IsSpelledAs base image → image_at (length (image ++ rest)) (image ++ rest) ≡ Ok (base, rest)
+front_of base _ rest (current spelled) = image_codec.again (length (image_spelling base ++ rest)) base rest spelled
 
 pub image_is_read : (bytes : List ℕ) (base : BaseView) → IsImageOf base bytes → ReadsImage bytes (Ok base)
 image_is_read bytes base is =
-    whole base (subst (λ (all : List ℕ). image_at (length all) all ≡ Ok (base, [])) (append-nil bytes) (front_of base bytes [] is)) is.world
+    whole base (subst (λ (all : List ℕ). image_at (length all) all ≡ Ok (base, [])) (append-nil bytes) (front_of base bytes [] is.spelled)) is.world
+
+-- an image is that of one state
+pub one_state : (base other : BaseView) (image : List ℕ) → IsImageOf base image → IsImageOf other image → base ≡ other
+one_state base other image is other_is = same base other (one_reading image (Ok base) (Ok other) (image_is_read image base is) (image_is_read image other other_is))
+  where
+    same : (base other : BaseView) → (let one : Result BaseView CodecFault = Ok base in one) ≡ Ok other → base ≡ other
+    same base other e = cc
 
 pub fault_is_no_image : (bytes : List ℕ) (fault : CodecFault) (base : BaseView) → ReadsImage bytes (Err fault) → IsImageOf base bytes → ⊥
 fault_is_no_image bytes fault base read is = different fault base (one_reading bytes (Err fault) (Ok base) read (image_is_read bytes base is))
@@ -83,10 +88,11 @@ fault_is_no_image bytes fault base read is = different fault base (one_reading b
     different : (fault : CodecFault) (base : BaseView) → (let one : Result BaseView CodecFault = Err fault in one) ≡ Ok base → ⊥
     different fault base e = cc
 
+spelling_left_over : (base : BaseView) (image : List ℕ) (byte : ℕ) (rest : List ℕ) → IsSpelledAs base image → IsWorld base.world → ReadsImage (image ++ byte ∷ rest) (Err (NotCanonical (length image)))
+spelling_left_over base _ byte rest (current spelled) is = left_over base byte rest (front_of base (image_spelling base) (byte ∷ rest) (current spelled)) is
+
 pub more_is_left_over : (base : BaseView) (image : List ℕ) (byte : ℕ) (rest : List ℕ) → IsImageOf base image → ReadsImage (image ++ byte ∷ rest) (Err (NotCanonical (length image)))
-more_is_left_over base image byte rest is =
-    subst (λ (front : List ℕ). ReadsImage (image ++ byte ∷ rest) (Err (NotCanonical (length front)))) (sym is.image_is)
-    (left_over base byte rest (front_of base image (byte ∷ rest) is) is.world)
+more_is_left_over base image byte rest is = spelling_left_over base image byte rest is.spelled is.world
 
 -- a state is read only if the fields are
 only_whole : (bytes : List ℕ) (result : Result BaseView CodecFault) → IsErr (image_at (length bytes) bytes) → ReadsImage bytes result → IfOk result (λ base. ⊥)
@@ -99,8 +105,11 @@ only_whole bytes _ err (whole base e is) = none (image_at (length bytes) bytes) 
     none (Ok read) err e = absurd (false≢true err)
     none (Err fault) err e = cc
 
+cut_spelling : (base : BaseView) (image front : List ℕ) (byte : ℕ) (rest : List ℕ) → AreBytes front → IsSpelledAs base image → image ≡ front ++ byte ∷ rest → IsErr (image_at (length front) front)
+cut_spelling base _ front byte rest fits (current spelled) is = cut base (length front) front byte rest fits spelled is
+
 pub cut_is_none : (base other : BaseView) (front : List ℕ) (byte : ℕ) (rest : List ℕ) → AreBytes front → IsImageOf base (front ++ byte ∷ rest) → ReadsImage front (Ok other) → ⊥
-cut_is_none base other front byte rest fits is read = only_whole front (Ok other) (cut base (length front) front byte rest fits is.spelled (sym is.image_is)) read
+cut_is_none base other front byte rest fits is read = only_whole front (Ok other) (cut_spelling base (front ++ byte ∷ rest) front byte rest fits is.spelled refl) read
 
 -- ---- what a call finds
 

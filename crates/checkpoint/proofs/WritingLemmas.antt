@@ -1,16 +1,12 @@
 -- What a state is written of fits the fields of an image.
 use Rattle.std.proofs.Common.{◌≡◌, ℕ, ℤ, ◌<◌, ◌≤◌, ◌^◌, List, [], ◌∷◌, ◌++◌, length, map, Option, Some, None, false, true, refl, sym, ap, ap₂, ◌∙◌, subst, arith, append_assoc}
 use Rattle.std.specs.Prelude.{IsTrue}
-use Rattle.std.specs.Option.{option_map, option_map_or}
 use Rattle.std.specs.List.{AllByRecursion}
-use Rattle.std.specs.Str.{bytes_eq}
 use Rattle.std.proofs.lemmas.List.{length-map}
-use Rattle.std.proofs.lemmas.Slice.Eq.{bytes_eq-Decides}
-use Rattle.sha2.proofs.Facts256.{length-sha256}
-use Rattle.pcfs_hmac.specs.Hmac.{hmac}
 use Rattle.policy_statement.specs.Messages.{statement_message}
 use Rattle.policy_statement.specs.Registered.{RegisteredView}
-use Rattle.policy_statement.specs.Ring.{KeyView, key_of}
+use Rattle.policy_statement.specs.Ring.{KeyView}
+use Rattle.policy_statement.proofs.RingLemmas.{accepted_length}
 use Rattle.proof_verifier.specs.declared.cites.Cite.{Cite}
 use Rattle.file_world.specs.FileNames.{is_attribute_name}
 use Rattle.file_world.specs.Attributes.{Attributes}
@@ -29,11 +25,11 @@ use Rattle.node_rows.specs.declared.rows.MetaRow.{MetaRow}
 use Rattle.node_rows.specs.Rows.{item_rows, AreOfSameNodes}
 use Rattle.node_rows.proofs.NameLengthLemmas.{short_name_or_none, short_attribute_name}
 use Rattle.checkpoint_image.specs.NodeSpelling.{nodes_spelling, IsSpellableNode, AreSpellableNodes, HasFittingParts}
-use Rattle.checkpoint_image.specs.ImageSpelling.{head_spelling, statements_spelling, issues_spelling, image_spelling, IsSpellableEntry, IsSpellableIssue, HasFittingSignature, HasFewCited, HaveFittingRows}
+use Rattle.checkpoint_image.specs.ImageSpelling.{head_spelling, statements_spelling, issues_spelling, image_spelling, IsSpellableEntry, IsSpellableIssue, IsSpellableImage, HasFittingSignature, HasFewCited, HaveFittingRows}
 use Rattle.checkpoint_image.proofs.LoopLemmas.{as_many_rows}
 use Rattle.checkpoint_image.proofs.WorldLemmas.{worlds_have_images}
-use Rattle.checkpoint.specs.Reading.{IsImageOf}
-use Rattle.checkpoint.specs.Writing.{FitsImage, state_with, front_spelling}
+use Rattle.checkpoint.specs.Reading.{IsSpelledAs, current}
+use Rattle.checkpoint.specs.Writing.{FitsImage, IsWrittenImageOf, state_with, front_spelling}
 
 -- ---- nodes
 
@@ -75,34 +71,34 @@ image_written world statements issues moment count =
 -- a state that was written is spelled by its image
 pub is_image : (world : World) (statements : List RegisteredView) (issues : List Issue) (moment : ℤ) (count : ℕ) (image front : List ℕ) (rows : List (ℕ × Item)) → IsWorld world → FitsImage (state_with world statements issues moment count)
     → count < 2 ^ 64 → AllByRecursion IsSpellableEntry statements → AllByRecursion IsSpellableIssue issues → front ≡ front_spelling statements issues moment count world.next → rows ≡ world.rows → image ≡ front ++ nodes_spelling rows
-    → IsImageOf (state_with world statements issues moment count) image
+    → IsWrittenImageOf (state_with world statements issues moment count) image
 is_image world statements issues moment count image front rows is fits counted entries each front_is rows_are image_is = record {
-  spelled = record {
-    moment = fits.moment;
-    count = counted;
-    next = omega (arith, is.tree.next_fits);
-    statements = record { few = fits.statements.few; each = entries };
-    issues = record { few = fits.issues.few; each = each };
-    nodes = worlds_have_images world is;
-  };
-  world = is;
-  image_is = image_is ∙ (ap₂ (λ (bytes : List ℕ) (nodes : List (ℕ × Item)). bytes ++ nodes_spelling nodes) front_is rows_are ∙ image_written world statements issues moment count);
+  is_image = record { world = is; spelled = subst (IsSpelledAs state) (sym written) (current spellable) };
+  written = written;
 }
+  where
+    state : BaseView
+    state = state_with world statements issues moment count
+
+    written : image ≡ image_spelling state
+    written = image_is ∙ (ap₂ (λ (bytes : List ℕ) (nodes : List (ℕ × Item)). bytes ++ nodes_spelling nodes) front_is rows_are ∙ image_written world statements issues moment count)
+
+    spellable : IsSpellableImage state
+    spellable = record {
+      moment = fits.moment;
+      count = counted;
+      next = omega (arith, is.tree.next_fits);
+      statements = record { few = fits.statements.few; each = entries };
+      issues = record { few = fits.issues.few; each = each };
+      nodes = worlds_have_images world is;
+    }
 
 -- ---- signatures and cited numbers
-
-length-hmac : (key text : List ℕ) → length (hmac key text) ≡ 32
-unfolding hmac
-length-hmac key text = length-sha256 _
-
-accepted_length : (found : Option (List ℕ)) (message signature : List ℕ) → option_map_or (λ (tag : List ℕ). bytes_eq tag signature) (option_map (λ (key : List ℕ). hmac key message) found) false ≡ true → length signature ≡ 32
-accepted_length None message signature e = absurd cc
-accepted_length (Some key) message signature e = sym (ap length ((bytes_eq-Decides (hmac key message) signature).0 e)) ∙ length-hmac key message
 
 signatures_fit : (key : List ℕ) (ring : List KeyView) (entries : List RegisteredView) → AllByRecursion (IsSignedEntry (authority_with key ring)) entries → AllByRecursion HasFittingSignature entries
 signatures_fit key ring [] h = tt
 signatures_fit key ring (entry ∷ entries) h =
-    let len : length entry.signature ≡ 32 = accepted_length (key_of ring entry.statement.who) (statement_message entry.statement) entry.signature h.0 in
+    let len : length entry.signature ≤ 16644 = accepted_length ring entry.statement.who (statement_message entry.statement) entry.signature h.0 in
     (omega (arith, len), signatures_fit key ring entries h.1)
 
 few_cited : (statements : List StatementView) (issues : List Issue) → AllByRecursion (IsGoodIssue statements) issues → AllByRecursion HasFewCited issues

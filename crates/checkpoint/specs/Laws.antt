@@ -7,7 +7,6 @@ use Rattle.policy_statement.specs.Ring.{KeyView}
 use Rattle.access_history.specs.Base.{BaseView}
 use Rattle.access_history.specs.History.{authority_with}
 use Rattle.access_history.specs.Lawful.{IsLawfulBase}
-use Rattle.checkpoint_image.specs.ImageSpelling.{image_spelling}
 use Rattle.checkpoint.specs.Reading.{IsImageOf, ReadsImage}
 use Rattle.checkpoint.specs.Writing.{FitsImage}
 
@@ -22,6 +21,10 @@ BytesAreRead = (bytes : List ℕ) → ((result : Result BaseView CodecFault) →
 -- a state is read exactly if the bytes are its image
 abbrev pub StatesAreRead : Type 0
 StatesAreRead = (bytes : List ℕ) (base : BaseView) → AreBytes bytes → (ReadsImage bytes (Ok base) → IsImageOf base bytes) × (IsImageOf base bytes → ReadsImage bytes (Ok base))
+
+-- an image is that of one state
+abbrev pub ImagesAreDetermined : Type 0
+ImagesAreDetermined = (base other : BaseView) (image : List ℕ) → IsImageOf base image → IsImageOf other image → base ≡ other
 
 -- bytes that have a fault are no image
 abbrev pub FaultsAreNoImages : Type 0

@@ -7,11 +7,14 @@ use Rattle.access_history.specs.Base.{BaseView}
 use Rattle.checkpoint_image.specs.ImageSpelling.{image_spelling, IsSpellableImage}
 use Rattle.checkpoint_image.specs.ImageReading.{image_at}
 
--- The bytes are the image of a state: its one spelling, and its nodes are a world within the limits.
+-- The bytes are a spelling of a state. There is one.
+pub data IsSpelledAs (base : BaseView) : List ℕ → Type 0 where
+  current : IsSpellableImage base → IsSpelledAs base (image_spelling base)
+
+-- The bytes are the image of a state: a spelling of it, and its nodes are a world within the limits.
 pub record IsImageOf (base : BaseView) (image : List ℕ) : Type 0 where
-  pub spelled : IsSpellableImage base
   pub world : IsWorld base.world
-  pub image_is : image ≡ image_spelling base
+  pub spelled : IsSpelledAs base image
 
 -- What is read: the first fault of a field; or, where every field is in its grammar, that the nodes are no world within the limits, which is a fault at the first byte;
 -- or that bytes are left over, which is a fault at the first of them; or the state.

@@ -1,6 +1,6 @@
 //! Laws of the definitions. A law is the contract of an empty function, which nothing calls.
 
-ghost use Rattle.checkpoint.specs.Laws.{ReadingsAreDetermined, BytesAreRead, StatesAreRead, FaultsAreNoImages, ImagesEndTheInput, CutImagesAreNone, LawfulStatesFit};
+ghost use Rattle.checkpoint.specs.Laws.{ReadingsAreDetermined, BytesAreRead, StatesAreRead, ImagesAreDetermined, FaultsAreNoImages, ImagesEndTheInput, CutImagesAreNone, LawfulStatesFit};
 
 /// Bytes have exactly one reading.
 pub fn readings_are_determined()
@@ -8,9 +8,11 @@ pub fn readings_are_determined()
     ensures some { BytesAreRead }
 {}
 
-/// A state is read exactly if the bytes are its image, and a fault comes only if they are the image of none.
+/// A state is read exactly if the bytes are its image, which they are of no other; and a fault comes only if they are the
+/// image of none.
 pub fn states_are_read()
     ensures read { StatesAreRead }
+    ensures one { ImagesAreDetermined }
     ensures refused { FaultsAreNoImages }
 {}
 

@@ -1,8 +1,8 @@
 //! The image of a state, with which an area begins, as a whole: a base is written as its image, and read from it.
 //!
-//! The image is the one spelling of the state. What is read is a state whose nodes are a world within the limits, and
-//! whose image the bytes are to their end; any other bytes give their first fault. Whether the state is lawful, under
-//! some key and ring, is asked by those who begin a history with it.
+//! An image is a spelling of one state, and there is one spelling. What is read is a state whose nodes are a world within
+//! the limits, and whose image the bytes are to their end; any other bytes give their first fault. Whether the state is
+//! lawful, under some key and ring, is asked by those who begin a history with it.
 #![tactic(auto)]
 
 pub mod laws;

@@ -4,8 +4,7 @@ ghost use Rattle.std.specs.Prelude.{◌≡◌, IfOk};
 ghost use Rattle.std.specs.List.{AllByRecursion};
 ghost use Rattle.access_history.specs.History.{state_of};
 ghost use Rattle.checkpoint_image.specs.ImageSpelling.{IsSpellableEntry, IsSpellableIssue, AreSpelledIn, HasFittingSignature, HasFewCited};
-ghost use Rattle.checkpoint.specs.Reading.{IsImageOf};
-ghost use Rattle.checkpoint.specs.Writing.{FitsImage, state_with, front_spelling};
+ghost use Rattle.checkpoint.specs.Writing.{FitsImage, IsWrittenImageOf, state_with, front_spelling};
 
 use access_history::{Base, History, Issue};
 use bl_syntax::{Bytes, NoMemory, Sequence};
@@ -76,7 +75,7 @@ fn image_of(
     count: u64,
 ) -> Result<Bytes, NoMemory>
     requires { FitsImage (state_with world.now.world statements.now issues.now moment count) }
-    ensures { IfOk result (IsImageOf (state_with world.now.world statements.now issues.now moment count)) }
+    ensures { IfOk result (IsWrittenImageOf (state_with world.now.world statements.now issues.now moment count)) }
 {
     let next = world.tree().next_number();
     let image = begun(alloc, statements, issues, moment, count, next)?;
@@ -90,7 +89,7 @@ fn image_of(
 /// The image of a state. Beside its bytes, memory is taken for one copy of the nodes.
 pub fn image_bytes(alloc: Global, base: &Base) -> Result<Bytes, NoMemory>
     requires { FitsImage base.now }
-    ensures { IfOk result (IsImageOf base.now) }
+    ensures { IfOk result (IsWrittenImageOf base.now) }
 {
     image_of(
         alloc,
@@ -105,7 +104,7 @@ pub fn image_bytes(alloc: Global, base: &Base) -> Result<Bytes, NoMemory>
 /// The image of the state to which a history leads, with which the next area may begin. The state itself is not copied.
 pub fn state_image(alloc: Global, history: &History) -> Result<Bytes, NoMemory>
     requires { FitsImage (state_of history.now) }
-    ensures { IfOk result (IsImageOf (state_of history.now)) }
+    ensures { IfOk result (IsWrittenImageOf (state_of history.now)) }
 {
     image_of(
         alloc,

@@ -8,7 +8,6 @@ ghost use Rattle.checkpoint_image.specs.Chain.{chain_at, alone, nothing_left};
 ghost use Rattle.checkpoint_image.specs.ImageSpelling.{HasFittingFields};
 ghost use Rattle.checkpoint_image.specs.ImageReading.{counts_at, head_at, entry_at, statements_at, issue_at, issues_at, issues_and_nodes_at, lists_at, image_at, base_of_image};
 
-use crate::fields::moment_field_at;
 use crate::image::Image;
 use crate::node_reading::nodes_at;
 use access_history::{Issue, Issues, Statements};
@@ -16,6 +15,7 @@ use bl_syntax::fields::{u32_at, u64_at};
 use bl_syntax::{CodecFault, Sequence};
 use node_rows::{MetaRows, TreeRows};
 use policy_statement::Registered;
+use record_parts::fields::moment_field_at;
 use record_parts::{issued_at, registered_at};
 use std::alloc::Global;
 

@@ -8,7 +8,6 @@ ghost use Rattle.checkpoint_image.specs.NodeSpelling.{nodes_spelling};
 ghost use Rattle.checkpoint_image.specs.ImageSpelling.{head_spelling, entry_spelling, IsSpellableEntry, statements_spelling, issue_spelling, IsSpellableIssue, issues_spelling, image_spelling, AreSpelledIn, HasFittingSignature, HasFewCited, HaveFittingRows, HasFittingFields};
 ghost use Rattle.checkpoint_image.specs.ImageReading.{base_of_image};
 
-use crate::fields::{put_moment, put_number};
 use crate::image::Image;
 use crate::node_writing::add_each_node;
 use access_history::Issue;
@@ -16,6 +15,7 @@ use bl_syntax::fields::u32_bytes;
 use bl_syntax::{Bytes, NoMemory};
 use node_rows::{MetaRow, TreeRow};
 use policy_statement::Registered;
+use record_parts::fields::{put_moment, put_number};
 use record_parts::{write_issued, write_registered};
 
 /// Adds the greatest moment so far, the number of the last event, and the number of the next node.

@@ -7,11 +7,12 @@ ghost use Rattle.node_rows.specs.Rows.{item_row, item_rows, AreOfSameNodes};
 ghost use Rattle.checkpoint_image.specs.Chain.{chain_at};
 ghost use Rattle.checkpoint_image.specs.NodeReading.{owned_at, kinded_at, node_head_at, attribute_at, name_of, attributes_at, held_at, node_tail_at, node_at, number_of, nodes_at};
 
-use crate::fields::{attribute_name_at, kind_at, node_name_at, number_after, sized_bytes_at};
+use crate::fields::{attribute_name_at, kind_at, node_name_at, number_after};
 use bl_syntax::fields::{name_at, text_at, u32_at, u64_at};
 use bl_syntax::{Bytes, CodecFault, NoMemory, NodeId, Principal, Sequence, Short};
 use file_world::Kind;
 use node_rows::{MetaRow, MetaRows, RowAttribute, RowAttributes, TreeRow, TreeRows};
+use record_parts::fields::sized_bytes_at;
 use std::alloc::Global;
 
 /// An owner, and the number of a directory.

@@ -9,9 +9,10 @@ ghost use Rattle.record_parts.specs.Fields.{FitsOneByte};
 ghost use Rattle.node_rows.specs.Rows.{item_row, item_rows, AreOfSameNodes};
 ghost use Rattle.checkpoint_image.specs.NodeSpelling.{attribute_spelling, node_head_spelling, node_tail_spelling, node_spelling, HasFittingParts};
 
-use crate::fields::{kind_code, put_name, put_number, put_sized_bytes};
+use crate::fields::kind_code;
 use bl_syntax::{Bytes, NoMemory, write_name, write_text};
 use node_rows::{MetaRow, RowAttribute, TreeRow};
+use record_parts::fields::{put_free_name, put_number, put_sized_bytes};
 
 /// Adds the number of a node, its kind, its owner, and the number of its directory, or a front of them.
 #[tactic(auto, using(bl_syntax::proofs::BeginsWithLemmas::writing), unfolding(crate::specs::NodeSpelling::node_head_spelling))]
@@ -32,7 +33,7 @@ fn add_attribute(attribute: &RowAttribute, out: &mut Bytes) -> Result<(), NoMemo
     ensures ok { OnOk result (out.new ≡ out.old ++ attribute_spelling attribute.now) }
     ensures err { OnErr result (BeginsWith out.new out.old) }
 {
-    put_name(attribute.0.bytes(), out)?;
+    put_free_name(attribute.0.bytes(), out)?;
     write_text(&attribute.1, out)
 }
 
@@ -71,7 +72,7 @@ fn add_tail(tree: &TreeRow, meta: &MetaRow, out: &mut Bytes) -> Result<(), NoMem
     ensures ok { OnOk result (out.new ≡ out.old ++ node_tail_spelling (item_row tree.now meta.now).1) }
     ensures err { OnErr result (BeginsWith out.new out.old) }
 {
-    put_name(tree.name.bytes(), out)?;
+    put_free_name(tree.name.bytes(), out)?;
     add_attributes(meta.attributes.as_slice(), out)?;
     put_sized_bytes(tree.contents.as_slice(), out)
 }

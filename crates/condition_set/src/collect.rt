@@ -5,18 +5,19 @@ ghost use Rattle.bl_syntax.specs.Grant.{GrantView, IsTimeCondition, IsStateCondi
 ghost use Rattle.condition_set.specs.Conditions.{without_conditions, IsFull, AddsTime, AddsState};
 ghost use Rattle.condition_set.specs.declared.collect.CollectFault.TheVariants.{NoMemory as OutOfMemory};
 
+use bl_syntax::limits::MOST_CONDITIONS;
 use bl_syntax::{Constraint, Goal, Grant, NoMemory, StatePred};
 use std::alloc::Global;
-
-/// The most conditions of a grant, those on time and those on the server's state together.
-const MOST_CONDITIONS: usize = 64;
+use thiserror::Error;
 
 /// A condition that was not added.
-#[derive(Clone, Copy, Debug, PartialEq, Eq)]
+#[derive(Clone, Copy, Debug, PartialEq, Eq, Error)]
 pub enum CollectFault {
     /// The grant holds 64 conditions, and this one is new.
+    #[error("the grant holds 64 conditions, and this one is new")]
     Full,
     /// A growth was refused, and nothing was changed.
+    #[error("out of memory")]
     NoMemory,
 }
 

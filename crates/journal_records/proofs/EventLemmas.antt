@@ -17,7 +17,8 @@ use Rattle.record_parts.specs.RecordSpelling.{Registration, IsRegistration, regi
 use Rattle.record_parts.specs.RecordReading.{registered_at, issued_at, acted_at}
 use Rattle.record_parts.proofs.OperationLemmas.{spelled_fits}
 use Rattle.record_parts.proofs.RecordLemmas.{registered_codec, issued_codec, acted_codec}
-use Rattle.journal_records.specs.EventSpelling.{erase, event_spelling, IsSpellableEvent, HasFittingFields, IsReadEvent}
+use Rattle.access_history.specs.Passes.{erase}
+use Rattle.journal_records.specs.EventSpelling.{event_spelling, IsSpellableEvent, HasFittingFields, IsReadEvent}
 use Rattle.journal_records.specs.EventReading.{event_at, whole_event, ReadsWholeEvent}
 
 abbrev registered : Registration → Event
@@ -81,6 +82,11 @@ unfolding event_spelling
 same_spelling (Registered pass statement signature) = refl
 same_spelling (Issued pass cited proof grant) = refl
 same_spelling (Acted pass caller op procaps moment) = refl
+
+pub erased_spellable : (e : Event) → IsSpellableEvent e → IsSpellableEvent (erase e)
+erased_spellable (Registered pass statement signature) is = is
+erased_spellable (Issued pass cited proof grant) is = is
+erased_spellable (Acted pass caller op procaps moment) is = is
 
 pub apart : (e d : Event) (rest others : List ℕ) → IsSpellableEvent e → IsSpellableEvent d → event_spelling e ++ rest ≡ event_spelling d ++ others → (erase e ≡ erase d) × (rest ≡ others)
 apart e d rest others first second is =

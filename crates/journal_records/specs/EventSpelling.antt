@@ -3,15 +3,10 @@ use Rattle.std.specs.Prelude.{◌≡◌, ℕ, List, ◌∷◌, ◌≤◌, length
 use Rattle.bl_syntax.specs.TimeOrder.{IsMoment}
 use Rattle.access_history.specs.declared.event.Event.{Event}
 use Rattle.access_history.specs.declared.event.Event.TheVariants.{Registered, Issued, Acted}
+use Rattle.access_history.specs.Passes.{erase}
 use Rattle.record_parts.specs.Fields.{FitsFourBytes}
 use Rattle.record_parts.specs.OperationSpelling.{HasFittingWords}
 use Rattle.record_parts.specs.RecordSpelling.{registered_spelling, IsSpellableRegistered, issued_spelling, IsSpellableIssued, acted_spelling, IsSpellableActed}
-
--- the event with pass 0
-abbrev pub erase : Event → Event
-erase (Registered pass statement signature) = Registered 0 statement signature
-erase (Issued pass cited proof grant) = Issued 0 cited proof grant
-erase (Acted pass caller op procaps moment) = Acted 0 caller op procaps moment
 
 -- the tag of its kind, and what happened
 unfoldable pub event_spelling : Event → List ℕ

@@ -3,7 +3,8 @@
 ghost use Rattle.std.specs.Prelude.{◌≡◌, ◌++◌, List, ℕ, Ok};
 ghost use Rattle.bl_syntax.specs.Codec.{IsCodec};
 ghost use Rattle.access_history.specs.declared.event.Event.{Event};
-ghost use Rattle.journal_records.specs.EventSpelling.{erase, event_spelling, IsSpellableEvent, IsReadEvent};
+ghost use Rattle.access_history.specs.Passes.{erase};
+ghost use Rattle.journal_records.specs.EventSpelling.{event_spelling, IsSpellableEvent, IsReadEvent};
 ghost use Rattle.journal_records.specs.EventReading.{event_at, whole_event};
 
 /// Events of pass 0: what is read is spelled so, what is spelled is read, no spelling begins another, and a fault comes

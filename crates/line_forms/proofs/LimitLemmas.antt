@@ -32,6 +32,7 @@ use Rattle.line_forms.specs.Lines.{IsAsked, kinds_said, IsLineIn, IsLine}
 use Rattle.line_forms.specs.Making.{op_of}
 use Rattle.line_forms.specs.Modes.{is_session}
 use Rattle.line_forms.specs.Said.{IsLineWithin}
+use Rattle.line_words.proofs.NumeralLemmas.{IsMoment-second}
 use Rattle.line_forms.proofs.SlotLemmas.{procap_slots}
 use Rattle.line_forms.proofs.ProofTimeLemmas.{IsProofText-times}
 
@@ -155,7 +156,9 @@ login_words (space ∷ line) a rest h =
 -- ---- what a line brings
 
 asked_within : (mode : Mode) (form : Form) (behind : List ℕ) (a : Arguments) (rest text : List ℕ) (asked : Line) → AreWords (kinds_said mode form) behind blank a rest → IsAsked form a text asked → IsLineWithin asked
-asked_within mode At behind a rest text asked words h = subst IsLineWithin (sym h) (last kinds.Second behind blank a rest words).set.0.in_range
+asked_within mode At behind a rest text asked words h =
+    let second : IsLast kinds.Second blank a = last kinds.Second behind blank a rest words in
+    subst IsLineWithin (sym h) (IsMoment-second second.word second.set.0)
 asked_within mode As behind a rest text asked words h = subst IsLineWithin (sym h) (named (last kinds.Who behind blank a rest words).set.0)
 asked_within mode Login behind a rest text asked words h = subst IsLineWithin (sym h) (login_words behind a rest words)
 asked_within mode Register behind a rest text asked words h = subst IsLineWithin (sym h.2) h.1.is_statement

@@ -1,6 +1,7 @@
 -- What a line may ask for: what is known of what it brings, and in which modes it is said (this project's own).
 use Rattle.std.specs.Prelude.{◌≡◌, ◌≤◌, ℕ, List, length, IsSome, IsTrue}
 use Rattle.std.specs.List.{AllByRecursion}
+use Rattle.bl_syntax.specs.declared.limits.TheConstants.{MOST_BYTES_AT_ONCE, LONGEST_SIGNATURE}
 use Rattle.bl_syntax.specs.Citable.{AreCitable}
 use Rattle.bl_syntax.specs.Names.{is_principal_name}
 use Rattle.bl_syntax.specs.Statement.{IsStatement}
@@ -22,7 +23,7 @@ use Rattle.line_forms.specs.declared.mode.Mode.TheVariants.{Operator, Guest, Use
 -- an operation with a procap for each place of its needs
 pub record IsOperationAsked (op : Op) (procaps : List ProcapWord) : Type 0 where
   pub one_each : length procaps ≡ slots op
-  pub few_bytes : bytes_to_write op ≤ 65536
+  pub few_bytes : bytes_to_write op ≤ MOST_BYTES_AT_ONCE
   pub operation : IsOperation op
 
 -- what is known of what a command brings
@@ -39,7 +40,7 @@ IsWithin (Do op procaps) = IsOperationAsked op procaps
 -- what is known of what a line brings
 abbrev pub IsLineWithin : Line → Type 0
 IsLineWithin (lines.Command command) = IsWithin command
-IsLineWithin (lines.Login who signature) = IsTrue (is_principal_name who) × (length signature ≤ 32768)
+IsLineWithin (lines.Login who signature) = IsTrue (is_principal_name who) × (length signature ≤ LONGEST_SIGNATURE)
 IsLineWithin (lines.Statement statement) = IsStatement statement
 IsLineWithin (lines.Goal goal proof) = HasTimesInRange proof
 

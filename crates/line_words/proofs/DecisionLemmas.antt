@@ -11,13 +11,15 @@ use Rattle.std.proofs.lemmas.Slice.Eq.{bytes_eq-Decides}
 use Rattle.hex.specs.Hex.{decode_of}
 use Rattle.hex.specs.declared.error.FromHexError.{FromHexError}
 use Rattle.bl_syntax.specs.Citable.{DoRise}
-use Rattle.bl_syntax.specs.ConditionTests.{is_at_most}
 use Rattle.bl_syntax.specs.Names.{is_digit, is_principal_name, is_text}
-use Rattle.bl_syntax.specs.TimeOrder.{IsMoment}
 use Rattle.bl_syntax.specs.declared.codec_fault.CodecFault.{CodecFault}
+use Rattle.bl_syntax.specs.declared.terms.TimePoint.{TimePoint}
+use Rattle.bl_syntax.specs.declared.terms.TimePoint.TheVariants.{NegInf, At, PosInf}
+use Rattle.bl_tokens.specs.declared.faults.TextFault.{TextFault}
+use Rattle.bl_tokens.specs.Times.{time_reading}
+use Rattle.line_words.proofs.TimeLemmas.{read, same_read}
 use Rattle.bl_syntax.specs.declared.terms.Perm.{Perm}
 use Rattle.bl_syntax.specs.declared.terms.Perm.TheVariants.{Read, Write, Execute, Identity, Govern}
-use Rattle.bl_syntax.proofs.ConditionTestLemmas.{Decides-is_at_most}
 use Rattle.line_text.specs.HexWord.{IsHex, has_no_upper_case}
 use Rattle.line_text.specs.Words.{is_word_end, HasNo}
 use Rattle.line_text.proofs.HexLemmas.{IsHex-nothing, IsHex-form, IsHex-same, IsHex-decode_of, decode_of-IsHex}
@@ -27,12 +29,12 @@ use Rattle.procap.specs.Procap.{procap_spelling, procap_at}
 use Rattle.procap.proofs.ProcapLemmas.{procap_codec}
 use Rattle.line_words.specs.Cited.{AreJoined, one_number, more_numbers, IsCited}
 use Rattle.line_words.specs.Grammar.{IsName, is_name_word, IsPrincipal, IsData, IsQuoted, IsPermission, IsSignature, IsSignatureHex, IsSigned, by_ring, by_bytes}
-use Rattle.line_words.specs.Numbers.{IsDigits, IsInteger, plain, negated, IsSecond, IsNumberBelow, IsLongNumber, IsFile, IsIssue}
+use Rattle.line_words.specs.Numbers.{IsSecond, IsNumberBelow, IsLongNumber, IsFile, IsIssue}
 use Rattle.line_words.specs.Numerals.{IsPlain}
 use Rattle.line_words.specs.Procaps.{IsProcapHex, IsProcapWord, by_number, by_spelling}
 use Rattle.line_words.specs.declared.procap_word.ProcapWord.TheVariants.{Procap as BySpelling, Issue}
 use Rattle.line_words.proofs.CitedLemmas.{IsFirst, alone, followed, first_of, no_first, joined_some, AreJoined-same}
-use Rattle.line_words.proofs.NumeralLemmas.{number_of, IsWritten-below, IsInteger-from_minus, IsInteger-unique, IsNumberBelow-unique}
+use Rattle.line_words.proofs.NumeralLemmas.{number_of, IsWritten-below, IsNumberBelow-unique}
 use Rattle.line_words.proofs.ProcapLemmas.{number_of_word, not_given}
 
 -- there is such a value, or there is none
@@ -74,12 +76,6 @@ run_or_not : (most : ℕ) (word : List ℕ) → IsRun most word ⊎ (IsRun most 
 run_or_not most word = elim (cases_Bool (list_all is_digit word)) [
   | inl digits ↦ long_or_not most word digits
   | inr other ↦ inr (λ h. false≢true (sym other ∙ h.digits))
-]
-
-digits_or_not : (word : List ℕ) → IsDigits word ⊎ (IsDigits word → ⊥)
-digits_or_not word = elim (run_or_not 18 word) [
-  | inl h ↦ inl (record { digits = h.digits; some = h.some; few = h.few })
-  | inr never ↦ inr (λ h. never (record { digits = h.digits; some = h.some; few = h.few }))
 ]
 
 zero_or_not : (word : List ℕ) → IsRun 20 word → IsPlain word ⊎ (IsPlain word → ⊥)
@@ -129,41 +125,14 @@ issue_decided word =
       | inr none ↦ inr (λ i. omega (arith, i.some, none))
     ]) (λ m n h k. IsNumberBelow-unique (2 ^ 64) (omega arith) h k) (λ n i. i.number_is)
 
-no_integer : {word : List ℕ} {n : ℤ} → IsInteger word n → (IsDigits word → ⊥) → ((digits : List ℕ) → word ≡ 45 ∷ digits → IsDigits digits → ⊥) → ⊥
-no_integer (plain digits h) not_plain not_negated = not_plain h
-no_integer (negated digits h) not_plain not_negated = not_negated digits refl h
-
-minus_decided : (byte : ℕ) (rest : List ℕ) → (IsDigits (byte ∷ rest) → ⊥) → IsDecided (IsInteger (byte ∷ rest))
-minus_decided byte rest not_plain = elim (cases_eq byte 45) [
-  | inl minus ↦ elim (digits_or_not rest) [
-    | inl digits ↦ inl (pos 0 -ℤ pos (digits_value 10 rest), IsInteger-from_minus (byte ∷ rest) rest (pos 0 -ℤ pos (digits_value 10 rest)) (ap (λ b. b ∷ rest) minus) digits refl)
-    | inr none ↦ inr (λ n h. no_integer h not_plain (λ ds same d. let tails : ds ≡ rest = cc in none (subst IsDigits tails d)))
-  ]
-  | inr other ↦ inr (λ n h. no_integer h not_plain (λ ds same d. let is : byte ≡ 45 = cc in other is))
-]
-
-integer_decided : (word : List ℕ) → IsDecided (IsInteger word)
-integer_decided [] = inr (λ n h. no_integer h (λ d. omega (arith, d.some)) (λ digits never d. absurd (cc)))
-integer_decided (byte ∷ rest) = elim (digits_or_not (byte ∷ rest)) [
-  | inl digits ↦ inl (pos (digits_value 10 (byte ∷ rest)), plain (byte ∷ rest) digits)
-  | inr not_plain ↦ minus_decided byte rest not_plain
-]
-
-moment_or_not : (second : ℤ) → IsMoment second ⊎ (IsMoment second → ⊥)
-moment_or_not second = elim (decided (is_at_most (negsuc 62135596799) second) (Decides-is_at_most (negsuc 62135596799) second)) [
-  | inl low ↦ elim (decided (is_at_most second (pos 253402300799)) (Decides-is_at_most second (pos 253402300799))) [
-    | inl high ↦ inl (record { not_before = low; not_after = high })
-    | inr late ↦ inr (λ h. late h.not_after)
-  ]
-  | inr early ↦ inr (λ h. early h.not_before)
-]
+second_by : (word : List ℕ) (r : Result TimePoint TextFault) → time_reading word ≡ r → IsDecided (IsSecond word)
+second_by word (Ok (At n)) e = inl (n, e)
+second_by word (Ok NegInf) e = inr (λ n h. let both : NegInf ≡ At n = same_read NegInf (At n) (sym e ∙ h) in absurd cc)
+second_by word (Ok PosInf) e = inr (λ n h. let both : PosInf ≡ At n = same_read PosInf (At n) (sym e ∙ h) in absurd cc)
+second_by word (Err fault) e = inr (λ n h. let both : read (At n) ≡ Err fault = sym h ∙ e in absurd cc)
 
 pub second_decided : (word : List ℕ) → IsDecided (IsSecond word)
-second_decided word =
-    refined (IsInteger word) (IsSecond word) (integer_decided word) (λ n h. elim (moment_or_not n) [
-      | inl in_range ↦ inl (record { integer = h; in_range = in_range })
-      | inr out ↦ inr (λ s. out s.in_range)
-    ]) (λ m n h k. IsInteger-unique h k) (λ n s. s.integer)
+second_decided word = second_by word (time_reading word) refl
 
 -- ---- names, texts and permissions
 

@@ -23,7 +23,7 @@ Sets-unique Data word before first second h k = h.1 ∙ ap (λ x. record before 
 Sets-unique Value word before first second h k = h.1 ∙ ap (λ x. record before { value = x }) (IsQuoted-unique h.0 k.0) ∙ sym k.1
 Sets-unique Who word before first second h k = h.1 ∙ ap (λ x. record before { who = x }) (IsPrincipal-unique h.0 k.0) ∙ sym k.1
 Sets-unique Permission word before first second h k = h.1 ∙ ap (λ x. record before { perm = x }) (permission-unique first.perm second.perm (sym h.0 ∙ k.0)) ∙ sym k.1
-Sets-unique Second word before first second h k = h.1 ∙ ap (λ x. record before { second = x }) (IsSecond-unique h.0 k.0) ∙ sym k.1
+Sets-unique Second word before first second h k = h.1 ∙ ap (λ x. record before { second = x }) (IsSecond-unique word h.0 k.0) ∙ sym k.1
 Sets-unique Issue word before first second h k = h.1 ∙ ap (λ x. record before { issue = x }) (IsNumberBelow-unique (2 ^ 64) (omega arith) h.0.number_is k.0.number_is) ∙ sym k.1
 Sets-unique Cited word before first second h k = h.1 ∙ ap (λ x. record before { cited = x }) (AreJoined-same h.0.joined word second.cited refl k.0.joined) ∙ sym k.1
 Sets-unique Signature word before first second h k = h.1 ∙ ap (λ x. record before { signature = x }) (IsSigned-same h.0 word second.signature refl k.0) ∙ sym k.1

@@ -8,4 +8,5 @@ pub mod NumeralLemmas
 pub mod OptionLemmas
 pub mod ProcapLemmas
 pub mod ReadingLemmas
+pub mod TimeLemmas
 pub mod TotalLemmas

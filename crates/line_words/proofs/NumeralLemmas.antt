@@ -15,15 +15,15 @@ use Rattle.line_text.specs.Words.{HasNo}
 use Rattle.line_text.proofs.WordLemmas.{HasNo-all}
 use Rattle.bl_syntax.specs.Names.{is_digit}
 use Rattle.bl_syntax.specs.declared.terms.NodeId.{NodeId}
+use Rattle.bl_syntax.specs.declared.terms.TimePoint.TheVariants.{At}
+use Rattle.bl_syntax.specs.TimeOrder.{IsMoment}
+use Rattle.line_words.proofs.TimeLemmas.{same_read, time_in_range}
 use Rattle.line_words.specs.Numerals.{IsPlain}
-use Rattle.line_words.specs.Numbers.{IsDigits, IsInteger, IsSecond, plain, negated, IsNumberBelow, IsNumber, IsFile}
+use Rattle.line_words.specs.Numbers.{IsSecond, IsNumberBelow, IsNumber, IsFile}
 
 -- the words of digits, and what they write, in the words of std's lemmas
 pub is_numeral_model : IsNumeralModel (λ ds. IsTrue (list_all is_digit ds)) (digits_value 10)
 is_numeral_model = numerals_by_value _ (search rules)
-
-pub digits_value-lt : (ds : List ℕ) → IsDigits ds → digits_value 10 ds < 10 ^ 18
-digits_value-lt ds h = digits_value_short is_numeral_model ds 18 h.digits h.few
 
 -- one more digit
 pub record IsNextDigit (ds : List ℕ) (i : ℕ) : Type 0 where
@@ -42,22 +42,6 @@ next_digit ds i digits few inside =
       more = omega (arith, digits_value_more 10 ds i inside, value, here.0);
       fits = omega (arith, digits_value_short is_numeral_model ds 20 digits few, digits_value-take-le 10 ds (i + 1) (omega arith));
     }
-
--- ---- integers
-
-pub IsInteger-digits : {word : List ℕ} {n : ℤ} → IsInteger word n → IsDigits word → n ≡ pos (digits_value 10 word)
-IsInteger-digits (plain digits h) d = refl
-IsInteger-digits (negated digits h) d = absurd (let no = d.digits in cc)
-
--- what stands after the `-`
-abbrev pub IsBelowZero : List ℕ → ℤ → Type 0
-IsBelowZero digits n = IsDigits digits × (n ≡ pos 0 -ℤ pos (digits_value 10 digits))
-
-pub IsInteger-minus : {word : List ℕ} {n : ℤ} → IsInteger word n → (digits : List ℕ) → word ≡ 45 ∷ digits → IsBelowZero digits n
-IsInteger-minus (plain others h) digits same = absurd (let no = subst (λ ds. IsTrue (list_all is_digit ds)) same h.digits in cc)
-IsInteger-minus (negated others h) digits same =
-    let tails : others ≡ digits = cc in
-    (subst IsDigits tails h, ap (λ ds. pos 0 -ℤ pos (digits_value 10 ds)) tails)
 
 -- ---- numbers
 
@@ -106,17 +90,7 @@ IsAnswer-number limit word value r answer few same h fits is = subst (IsAnswer (
 pub IsAnswer-not_plain : (limit : ℕ) (word : List ℕ) → limit ≤ 2 ^ 64 → (IsPlain word → ⊥) → IsAnswer (IsNumberBelow limit word) None
 IsAnswer-not_plain limit word few not_plain = IsAnswer-None (IsNumberBelow limit word) (λ n p. not_plain (IsWritten-below limit few word n p).plain)
 
-pub IsInteger-from_digits : (word : List ℕ) (n : ℤ) → IsDigits word → n ≡ pos (digits_value 10 word) → IsInteger word n
-IsInteger-from_digits word n h same = subst (IsInteger word) (sym same) (plain word h)
-
-pub IsInteger-from_minus : (word digits : List ℕ) (n : ℤ) → word ≡ 45 ∷ digits → IsDigits digits → n ≡ pos 0 -ℤ pos (digits_value 10 digits) → IsInteger word n
-IsInteger-from_minus word digits n same h n_is = rw (same, n_is) (negated digits h)
-
 -- ---- a word is read in one way
-
-pub IsInteger-unique : {word : List ℕ} {m n : ℤ} → IsInteger word m → IsInteger word n → m ≡ n
-IsInteger-unique (plain digits h) other = sym (IsInteger-digits other h)
-IsInteger-unique (negated digits h) other = sym (IsInteger-minus other digits refl).1
 
 pub IsNumberBelow-unique : (limit : ℕ) → limit ≤ 2 ^ 64 → {word : List ℕ} {m n : ℕ} → IsNumberBelow limit word m → IsNumberBelow limit word n → m ≡ n
 IsNumberBelow-unique limit few {word} {m} {n} h other = sym (IsWritten-below limit few word m h).value ∙ (IsWritten-below limit few word n other).value
@@ -132,5 +106,8 @@ IsFile-unique h other =
 pub HasNo-number : (stop : ℕ) → is_digit stop ≡ false → (word : List ℕ) (n : ℕ) → IsNumber word n → HasNo stop word
 HasNo-number stop none word n h = HasNo-all is_digit stop none word (IsWritten-below (2 ^ 32) (omega arith) word n h).plain.digits
 
-pub IsSecond-unique : {word : List ℕ} {m n : ℤ} → IsSecond word m → IsSecond word n → m ≡ n
-IsSecond-unique h other = IsInteger-unique h.integer other.integer
+pub IsSecond-unique : (word : List ℕ) {m n : ℤ} → IsSecond word m → IsSecond word n → m ≡ n
+IsSecond-unique word {m} {n} h other = let both : At m ≡ At n = same_read (At m) (At n) (sym h ∙ other) in cc
+
+pub IsMoment-second : (word : List ℕ) {n : ℤ} → IsSecond word n → IsMoment n
+IsMoment-second word {n} h = time_in_range word (At n) h

@@ -1,6 +1,7 @@
 -- Names, bytes, texts, permissions and signatures in the words of a line (this project's own).
 use Rattle.std.specs.Prelude.{◌≡◌, ◌≤◌, ℕ, List, [], ◌∷◌, ◌++◌, length, codes, Bool, false, not, nat_le, ◌&&◌, ◌==◌, IsTrue, Option, Some, None}
 use Rattle.std.specs.List.{list_all}
+use Rattle.bl_syntax.specs.declared.limits.TheConstants.{MOST_BYTES_AT_ONCE, LONGEST_SIGNATURE}
 use Rattle.bl_syntax.specs.Names.{is_text, is_principal_name}
 use Rattle.bl_syntax.specs.declared.terms.Perm.{Perm}
 use Rattle.bl_text.specs.Printed.{permission_text}
@@ -28,7 +29,7 @@ pub record IsPrincipal (word who : List ℕ) : Type 0 where
 -- bytes in hexadecimal, at most 65,536 of them
 pub record IsData (word bytes : List ℕ) : Type 0 where
   pub hex : IsHex word bytes
-  pub few : length bytes ≤ 65536
+  pub few : length bytes ≤ MOST_BYTES_AT_ONCE
 
 -- a text constant between quotes
 pub record IsQuoted (word text : List ℕ) : Type 0 where
@@ -43,12 +44,12 @@ IsPermission word permission = word ≡ permission_text permission
 pub record IsSignature (word bytes : List ℕ) : Type 0 where
   pub hex : IsHex word bytes
   pub some : 1 ≤ length bytes
-  pub few : length bytes ≤ 32768
+  pub few : length bytes ≤ LONGEST_SIGNATURE
 
 -- the bytes of a signature in hexadecimal, at most 32,768 of them
 pub record IsSignatureHex (word bytes : List ℕ) : Type 0 where
   pub hex : IsHex word bytes
-  pub few : length bytes ≤ 32768
+  pub few : length bytes ≤ LONGEST_SIGNATURE
 
 -- for a signature: a `-` for the ring's key, or the signature itself
 pub data IsSigned : List ℕ → Option (List ℕ) → Type 0 where

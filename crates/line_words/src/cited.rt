@@ -1,39 +1,19 @@
 //! The numbers of the statements that a line cites.
 
-ghost use Rattle.std.specs.Prelude.{◌≡◌, ◌≤◌, ◌+◌, ◌↔◌, ℕ, List, false, length, IsTrue, IfOk, MatchOption};
-ghost use Rattle.bl_syntax.specs.Citable.{AreCitable, DoRise};
+ghost use Rattle.std.specs.Prelude.{◌≡◌, ◌≤◌, ◌+◌, ℕ, List, false, length, IsTrue, IfOk, MatchOption};
 ghost use Rattle.line_words.specs.Cited.{AreJoined, IsCited, AreAdded};
 
 use crate::numerals::number;
-use bl_syntax::{NoMemory, Numbers};
+use bl_syntax::limits::MOST_CITED;
+use bl_syntax::{NoMemory, Numbers, are_citable};
 use line_text::{rest_after, split_word};
 use std::alloc::Global;
-
-/// The most statements that can be cited together.
-const MOST_CITED: usize = 64;
-
-// Whether each number is below the next.
-fn do_rise(numbers: &[u32]) -> bool
-    ensures { IsTrue result ↔ DoRise numbers.now }
-{
-    match numbers {
-        [first, second, ..] => *first < *second && do_rise(&numbers[1..]),
-        _ => true,
-    }
-}
-
-// Whether they are 1 to 64 numbers, strictly rising.
-fn are_citable(numbers: &[u32]) -> bool
-    ensures { IsTrue result ↔ AreCitable numbers.now }
-{
-    !numbers.is_empty() && numbers.len() <= MOST_CITED && do_rise(numbers)
-}
 
 // Adds the numbers of the word to those before it, and returns whether it has numbers alone and there are not more than
 // can be cited then.
 fn read_numbers(word: &[u8], numbers: &mut Numbers) -> Result<bool, NoMemory>
     ensures added { IfOk result (λ all. IsTrue all → AreAdded word.now numbers.old numbers.new) }
-    ensures refused { IfOk result (λ all. all ≡ false → (others : List ℕ) → AreJoined word.now others → length numbers.old + length others ≤ 64 → ⊥) }
+    ensures refused { IfOk result (λ all. all ≡ false → (others : List ℕ) → AreJoined word.now others → length numbers.old + length others ≤ MOST_CITED → ⊥) }
 {
     if numbers.len() >= MOST_CITED {
         return Ok(false);

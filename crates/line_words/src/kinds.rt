@@ -28,7 +28,7 @@ pub enum WordKind {
     Who,
     /// A permission.
     Permission,
-    /// A whole second, from 1970-01-01T00:00:00Z.
+    /// A finite time: a whole second from 1970-01-01T00:00:00Z, a date, or a date with a time of day.
     Second,
     /// The number of an issue, from 1.
     Issue,

@@ -5,15 +5,10 @@ ghost use Rattle.std.specs.List.{list_all};
 ghost use Rattle.bl_syntax.specs.declared.terms.Perm.{Perm};
 ghost use Rattle.line_words.specs.Grammar.{is_word_byte, is_name_word, IsName, IsPrincipal, IsData, IsQuoted, IsPermission, IsSignature, IsSignatureHex, IsSigned};
 
+use bl_syntax::limits::{LONGEST_SIGNATURE, MOST_BYTES_AT_ONCE};
 use bl_syntax::{Bytes, NoMemory, Perm, Principal, Text};
 use line_text::{read_hex, rest_after, split_word};
 use std::alloc::Global;
-
-/// The most bytes that a line gives to be written.
-const MOST_DATA: usize = 65536;
-
-/// The most bytes that a signature has.
-const MOST_SIGNATURE: usize = 32768;
 
 fn is_word_byte(byte: u8) -> bool
     ensures { result ≡ is_word_byte byte }
@@ -61,7 +56,7 @@ pub fn data(alloc: Global, word: &[u8]) -> Result<Option<Bytes>, NoMemory>
 {
     match read_hex(alloc, word)? {
         Some(bytes) => {
-            if bytes.len() <= MOST_DATA {
+            if bytes.len() <= MOST_BYTES_AT_ONCE {
                 Ok(Some(bytes))
             } else {
                 Ok(None)
@@ -113,7 +108,7 @@ pub fn signature_hex(alloc: Global, word: &[u8]) -> Result<Option<Bytes>, NoMemo
 {
     match read_hex(alloc, word)? {
         Some(bytes) => {
-            if bytes.len() <= MOST_SIGNATURE {
+            if bytes.len() <= LONGEST_SIGNATURE {
                 Ok(Some(bytes))
             } else {
                 Ok(None)
@@ -129,7 +124,7 @@ fn some_signature(alloc: Global, word: &[u8]) -> Result<Option<Bytes>, NoMemory>
 {
     match read_hex(alloc, word)? {
         Some(bytes) => {
-            if 1 <= bytes.len() && bytes.len() <= MOST_SIGNATURE {
+            if 1 <= bytes.len() && bytes.len() <= LONGEST_SIGNATURE {
                 Ok(Some(bytes))
             } else {
                 Ok(None)

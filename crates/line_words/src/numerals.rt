@@ -1,30 +1,23 @@
 //! Numbers, files and seconds in the words of a line.
 
-ghost use Rattle.std.specs.Prelude.{◌≡◌, ◌↔◌, ◌≤◌, ℕ, ℤ, pos, length, IsTrue, IfSome, MatchOption};
+ghost use Rattle.std.specs.Prelude.{◌≡◌, ◌↔◌, ◌≤◌, ℕ, ℤ, length, IsTrue, MatchOption};
 ghost use Rattle.std.specs.List.{list_all};
 ghost use Rattle.std.specs.Str.Parse.{digits_value};
 ghost use Rattle.bl_syntax.specs.Names.{is_digit};
 ghost use Rattle.bl_syntax.specs.declared.terms.NodeId.{NodeId};
-ghost use Rattle.line_words.specs.Numbers.{IsDigits, IsInteger, IsSecond, IsFile, IsNumber, IsLongNumber, IsCount, IsIssue};
+ghost use Rattle.line_words.specs.Numbers.{IsSecond, IsFile, IsNumber, IsLongNumber, IsCount, IsIssue};
 ghost use Rattle.line_words.specs.Numerals.{IsPlain};
 
 use bl_syntax::byte_classes::is_digit;
-use bl_syntax::{NodeId, is_moment};
+use bl_syntax::limits::MOST_BYTES_AT_ONCE;
+use bl_syntax::{NodeId, TimePoint};
+use bl_tokens::parse_time;
 use line_text::rest_after;
-
-/// The most bytes that are read at once.
-const MOST_BYTES: u64 = 65536;
 
 fn are_digits(bytes: &[u8]) -> bool
     ensures { result ≡ list_all is_digit bytes.now }
 {
     bytes.iter().all(|byte| is_digit(*byte))
-}
-
-fn is_numeral(word: &[u8]) -> bool
-    ensures { IsTrue result ↔ IsDigits word.now }
-{
-    1 <= word.len() && word.len() <= 18 && are_digits(word)
 }
 
 // Whether the word is at most 20 digits that no zero leads.
@@ -46,38 +39,15 @@ fn digits_value(digits: &[u8]) -> u128
     value
 }
 
-fn natural(word: &[u8]) -> Option<i64>
-    ensures found { IfSome result (λ n. IsDigits word.now × (n ≡ pos (digits_value 10 word.now))) }
-    ensures only { IsDigits word.now → result ≡ Some (pos (digits_value 10 word.now)) }
-{
-    if is_numeral(word) {
-        Some(digits_value(word) as i64)
-    } else {
-        None
-    }
-}
-
-fn integer(word: &[u8]) -> Option<i64>
-    ensures found { IfSome result (IsInteger word.now) }
-    ensures only { (n : ℤ) → IsInteger word.now n → result ≡ Some n }
-{
-    if let Some(digits) = rest_after(word, b"-") {
-        return Some(-natural(digits)?);
-    }
-    natural(word)
-}
-
-/// The second that the word writes: 1 to 18 digits, with a `-` before them for a time before
-/// 1970-01-01T00:00:00Z, in the years 1 to 9999.
+/// The second that the word writes: in up to 18 digits, with a `-` before them for a time before 1970-01-01T00:00:00Z, as
+/// the date that begins with it, or as a date with a time of day; in the years 1 to 9999.
 pub fn second(word: &[u8]) -> Option<i64>
     ensures found { MatchOption result ((s : ℤ) → IsSecond word.now s → ⊥) (IsSecond word.now) }
     ensures only { (s : ℤ) → IsSecond word.now s → result ≡ Some s }
 {
-    let second = integer(word)?;
-    if is_moment(second) {
-        Some(second)
-    } else {
-        None
+    match parse_time(word) {
+        Ok(TimePoint::At(second)) => Some(second),
+        _ => None,
     }
 }
 
@@ -116,7 +86,7 @@ pub fn count(word: &[u8]) -> Option<u64>
     ensures { MatchOption result ((n : ℕ) → IsCount word.now n → ⊥) (IsCount word.now) }
 {
     let number = long_number(word)?;
-    if number <= MOST_BYTES {
+    if number <= MOST_BYTES_AT_ONCE as u64 {
         Some(number)
     } else {
         None

@@ -9,9 +9,11 @@ use Rattle.std.proofs.lemmas.Fmt.{digits_decimal, digits_value-decimal, decimal_
 use Rattle.bl_syntax.specs.Names.{is_digit, is_lower_case, is_name_byte, is_identifier, is_among, reserved_words, is_principal_name}
 use Rattle.bl_syntax.specs.TimeOrder.{IsMoment}
 use Rattle.bl_syntax.specs.declared.terms.NodeId.{NodeId}
+use Rattle.bl_syntax.specs.declared.terms.TimePoint.TheVariants.{At}
 use Rattle.bl_syntax.specs.declared.terms.Perm.{Perm}
 use Rattle.bl_syntax.specs.declared.terms.Perm.TheVariants.{Read, Write, Execute, Identity, Govern}
 use Rattle.bl_text.specs.Printed.{permission_text}
+use Rattle.line_words.proofs.TimeLemmas.{time_is_read}
 use Rattle.line_text.specs.HexWord.{hex_word, IsHex}
 use Rattle.line_text.specs.Words.{has_first, is_word_end, HasNo}
 use Rattle.line_text.proofs.HexLemmas.{IsHex-all}
@@ -20,14 +22,14 @@ use Rattle.procap.specs.Procap.{procap_spelling}
 use Rattle.line_words.specs.Cited.{AreJoined, one_number, more_numbers}
 use Rattle.line_words.specs.Cutting.{first_cut}
 use Rattle.line_words.specs.Grammar.{is_word_byte, is_name_word, IsSigned, by_ring, by_bytes}
-use Rattle.line_words.specs.Numbers.{IsDigits, IsInteger, plain, negated, IsNumberBelow, IsFile}
+use Rattle.line_words.specs.Numbers.{IsSecond, IsNumberBelow, IsFile}
 use Rattle.line_words.specs.Procaps.{IsProcapWord, by_number, by_spelling}
 use Rattle.line_words.specs.declared.kinds.WordKind.{WordKind}
 use Rattle.line_words.specs.declared.kinds.WordKind.TheVariants as kinds
 use Rattle.line_words.specs.declared.procap_word.ProcapWord.{ProcapWord}
 use Rattle.line_words.proofs.CitedLemmas.{joined_some}
 use Rattle.line_words.proofs.CutLemmas.{first_cut-plain, first_cut-quoted}
-use Rattle.line_words.proofs.NumeralLemmas.{is_numeral_model, IsWritten-below}
+use Rattle.line_words.proofs.NumeralLemmas.{is_numeral_model, IsMoment-second, IsWritten-below}
 use Rattle.line_writing.specs.WordTexts.{cited_text, signature_text, procap_text}
 use Rattle.line_writing.proofs.Values.{Value, Writes, word_of}
 
@@ -39,23 +41,8 @@ below_shown limit word n h = record { decimal_is = refl; fits = h.fits }
 file_shown : (word : List ℕ) (node : NodeId) → IsFile word node → IsFile (codes "#" ++ decimal node.0) node
 file_shown word node h = record { digits = decimal node.0; word_is = refl; number = below_shown (2 ^ 64) h.digits node.0 h.number }
 
-digits_of : (n : ℕ) → n < 10 ^ 18 → IsDigits (decimal n)
-digits_of n few = record { digits = digits_decimal is_numeral_model n (omega arith); some = decimal_nonempty n (omega arith); few = length-decimal-le 18 n (omega arith) few (omega arith) }
-
-positive_shown : (n : ℕ) → n < 10 ^ 18 → IsInteger (decimal n) (pos n)
-positive_shown n few = subst (λ (m : ℕ). IsInteger (decimal n) (pos m)) (digits_value-decimal is_numeral_model n (omega arith)) (plain (decimal n) (digits_of n few))
-
-below_zero : (n : ℕ) → pos 0 -ℤ pos (suc n) ≡ negsuc n
-below_zero n = omega (arith, ints)
-
-negative_shown : (n : ℕ) → suc n < 10 ^ 18 → IsInteger (45 ∷ decimal (suc n)) (negsuc n)
-negative_shown n few =
-    subst (IsInteger (45 ∷ decimal (suc n))) (below_zero n)
-    (subst (λ (m : ℕ). IsInteger (45 ∷ decimal (suc n)) (pos 0 -ℤ pos m)) (digits_value-decimal is_numeral_model (suc n) (omega arith)) (negated (decimal (suc n)) (digits_of (suc n) few)))
-
-second_shown : (z : ℤ) → IsMoment z → IsInteger (signed_decimal z) z
-second_shown (pos n) h = let few : n ≤ 253402300799 = omega (arith, ints, h.not_after) in positive_shown n (omega arith)
-second_shown (negsuc n) h = let few : n ≤ 62135596799 = omega (arith, ints, h.not_before) in negative_shown n (omega arith)
+second_shown : (z : ℤ) → IsMoment z → IsSecond (signed_decimal z) z
+second_shown z h = time_is_read (At z) h
 
 -- ---- numbers of statements, signatures, procaps: there is one word
 
@@ -93,7 +80,7 @@ shown kinds.Data word v h = record { hex = record { in_range = h.hex.in_range; w
 shown kinds.Value word v h = record { fits = h.fits; word_is = refl }
 shown kinds.Who word v h = record { named = subst (λ (w : List ℕ). IsTrue (is_principal_name w)) (sym h.same) h.named; same = refl }
 shown kinds.Permission word v h = refl
-shown kinds.Second word v h = record { integer = second_shown v h.in_range; in_range = h.in_range }
+shown kinds.Second word v h = second_shown v (IsMoment-second word h)
 shown kinds.Issue word v h = record { number_is = below_shown (2 ^ 64) word v h.number_is; some = h.some }
 shown kinds.Cited word v h = record { joined = subst (λ (w : List ℕ). AreJoined w v) (more_joined h.joined) h.joined; citable = h.citable }
 shown kinds.Signature word v h = subst (λ (w : List ℕ). IsSigned w v) (signed_word h) h
@@ -141,9 +128,16 @@ permission_clean Execute = record { no_space = refl; no_quote = refl }
 permission_clean Identity = record { no_space = refl; no_quote = refl }
 permission_clean Govern = record { no_space = refl; no_quote = refl }
 
-integer_clean : {word : List ℕ} {n : ℤ} → IsInteger word n → IsClean word
-integer_clean (plain digits h) = clean_all is_digit refl refl digits h.digits
-integer_clean (negated digits h) = record { no_space = HasNo-all is_digit 32 refl digits h.digits; no_quote = refl }
+digits_clean : (n : ℕ) → n < 2 ^ 64 → IsTrue (list_all is_digit (decimal n))
+digits_clean n fits = digits_decimal is_numeral_model n fits
+
+second_clean : (z : ℤ) → IsMoment z → IsClean (signed_decimal z)
+second_clean (pos n) h =
+    let few : n ≤ 253402300799 = omega (arith, ints, h.not_after) in
+    clean_all is_digit refl refl (decimal n) (digits_clean n (omega arith))
+second_clean (negsuc n) h =
+    let few : n ≤ 62135596799 = omega (arith, ints, h.not_before) in
+    record { no_space = HasNo-all is_digit 32 refl (decimal (suc n)) (digits_clean (suc n) (omega arith)); no_quote = refl }
 
 -- digits and commas
 abbrev is_cited_byte : ℕ → Bool
@@ -202,7 +196,7 @@ cut_whole kinds.Data v h = clean_cut (hex_word v) (hex_clean (hex_word v) v h.he
 cut_whole kinds.Value v h = λ rest ends. first_cut-quoted v rest h.fits ends
 cut_whole kinds.Who v h = clean_cut v (principal_clean v h.named)
 cut_whole kinds.Permission v h = clean_cut (permission_text v) (permission_clean v)
-cut_whole kinds.Second v h = clean_cut (signed_decimal v) (integer_clean h.integer)
+cut_whole kinds.Second v h = clean_cut (signed_decimal v) (second_clean v (IsMoment-second (signed_decimal v) h))
 cut_whole kinds.Issue v h = clean_cut (decimal v) (number_clean (2 ^ 64) (omega arith) (decimal v) v h.number_is)
 cut_whole kinds.Cited v h = clean_cut (cited_text v) (clean_all is_cited_byte refl refl (cited_text v) (cited_bytes h.joined))
 cut_whole kinds.Signature v h = clean_cut (signature_text v) (signed_clean h)

@@ -91,7 +91,8 @@ fn proof_for(alloc: Global, who: &Principal) -> Result<ProofTree, NoMemory>
     let instance = Box::new(alloc, Proof::ForallL(3, Term::Prin(*who), rule))?;
     let second = Box::new(alloc, Proof::Claim(1, instance))?;
     let first = Box::new(alloc, Proof::Claim(0, second))?;
-    Ok(ProofTree::new(Proof::SaysR(first)).unwrap())
+    let whole = Box::new(alloc, Proof::SaysR(first))?;
+    Ok(ProofTree::new(whole).unwrap())
 }
 
 // How many statements come before those on the file of that place; none if there are more than 4,096.

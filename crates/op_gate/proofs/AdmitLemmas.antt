@@ -1,18 +1,14 @@
 -- The first damage of an event, over plain values.
-use Rattle.std.proofs.Common.{◌≡◌, ◌<◌, ◌-◌, ◌^◌, ℕ, List, [], ◌∷◌, ◌++◌, length, refl, sym, ap, subst, ◌∙◌, arith, ⊎_elim, Some, None}
+use Rattle.std.proofs.Common.{◌≡◌, ◌<◌, ◌-◌, ◌^◌, ℕ, List, [], ◌∷◌, ◌++◌, length, refl, sym, ap, subst, ◌∙◌, arith, Some, None}
 use Rattle.std.specs.Prelude.{ℤ, ◌≤ℤ◌, Result, Ok, Err, IfOk, IfErr, IsTrue, Option}
 use Rattle.std.specs.List.{AllByRecursion}
 use Rattle.std.specs.Option.{option_map}
 use Rattle.std.proofs.lemmas.Bool.{false≢true}
 use Rattle.std.proofs.lemmas.Int.{ints, clamps}
-use Rattle.std.proofs.lemmas.List.{length-map}
 use Rattle.bl_syntax.specs.Names.{is_principal_name}
 use Rattle.bl_syntax.specs.Statement.{StatementView, IsStatement}
 use Rattle.bl_syntax.specs.TimeOrder.{IsMoment}
 use Rattle.bl_syntax.specs.Grant.{GrantView}
-use Rattle.bl_syntax.specs.declared.grant.Goal.{Goal}
-use Rattle.bl_syntax.specs.declared.terms.Constraint.{Constraint}
-use Rattle.bl_syntax.specs.declared.terms.StatePred.{StatePred}
 use Rattle.policy_statement.specs.Messages.{statement_message}
 use Rattle.policy_statement.specs.Registered.{RegisteredView}
 use Rattle.policy_statement.specs.Registry.{MayRegister}
@@ -22,8 +18,8 @@ use Rattle.policy_statement.specs.declared.registry.RegisterFault.TheVariants as
 use Rattle.procap.specs.declared.procap.Procap.{Procap}
 use Rattle.proof_term.specs.Proof.{ProofView}
 use Rattle.proof_verifier.specs.declared.cites.Cite.{Cite}
-use Rattle.proof_verifier.specs.Cited.{AreCited, DoCitesRise, statements_of}
-use Rattle.proof_verifier.specs.CheckedView.{CheckedView, IsChecked, IsGranted}
+use Rattle.proof_verifier.specs.Cited.{statements_of}
+use Rattle.proof_verifier.specs.CheckedView.{CheckedView, IsChecked}
 use Rattle.proof_verifier.specs.Run.{IsFault}
 use Rattle.proof_verifier.specs.Verdict.{verdict}
 use Rattle.proof_verifier.specs.declared.fault.CheckFault.{CheckFault}
@@ -37,15 +33,16 @@ use Rattle.access_history.specs.declared.reply.StepReply.{StepReply}
 use Rattle.access_history.specs.declared.request.StepRequest.TheVariants.{Act}
 use Rattle.access_history.specs.Admission.{IsAdmitted, IsNeedMet}
 use Rattle.access_history.specs.Answer.{Answers, moment_of, denied, refused, acted}
-use Rattle.access_history.specs.Authority.{Authority, IsSignedStatement, MayBeRegistered, sayings}
+use Rattle.access_history.specs.Authority.{Authority, CanRegister, IsSignedStatement, MayBeRegistered, sayings}
 use Rattle.access_history.specs.Base.{BaseView}
-use Rattle.bl_syntax.specs.Citable.{AreCitable, DoRise}
-use Rattle.access_history.specs.Citing.{AreFound, IsAbsent, IsGoodIssue, StandsUnderNumber, numbers_of}
+use Rattle.bl_syntax.specs.Citable.{AreCitable}
+use Rattle.access_history.specs.Books.{whole_book}
+use Rattle.access_history.specs.Citing.{AreFound, IsAbsent, IsGoodIssue, IsGrantedFrom, MayBeIssued, numbers_of}
 use Rattle.access_history.specs.History.{HistoryView, authority_of, state_of, addition_of, IsReadyFor}
 use Rattle.access_history.specs.Lawful.{IsLawfulBase, MayAct}
-use Rattle.access_history.specs.Numbered.{IsNumbered, HasNumber}
 use Rattle.access_history.proofs.AdmissionLemmas.{AreDerived-admitted}
-use Rattle.access_history.proofs.NumberedLemmas.{Contains-numbered, HasNumber-item, numbered_item, none_fails, first_failing}
+use Rattle.access_history.proofs.CitingLemmas.{MayBeIssued-good, AreCitable-numbers, AreCited-numbers, absent_not_found, granted_as, granted_is, refused_grants_none, said_length, same_cites}
+use Rattle.access_history.proofs.NumberedLemmas.{Contains-numbered, none_fails, first_failing}
 use Rattle.op_gate.specs.declared.damage.Damage.{Damage}
 use Rattle.op_gate.specs.declared.damage.Damage.TheVariants.{Shape, Unsigned, Unproved, NotAdmitted, MomentFalls, Duplicate}
 use Rattle.op_gate.specs.declared.damage.AdmitFault.{AdmitFault}
@@ -53,7 +50,7 @@ use Rattle.op_gate.specs.declared.damage.AdmitFault.TheVariants.{Damaged, NoMemo
 use Rattle.op_gate.specs.declared.planned.Pending.{Pending}
 use Rattle.op_gate.specs.declared.planned.Planned.TheVariants.{Answer, Keep}
 use Rattle.op_gate.specs.Admits.{FindsCited, IsPendingAs, GivesPending, IsTimely, IsCheckedAs, GivesChecked, GivesIssue, LacksNext, pending_issue, pending_statement, proof_damage, register_damage}
-use Rattle.op_gate.specs.Damage.{HasShape, TakesEffect, IsNewAmong, IsFreeOf, IsDamagedBy, MayComeNext, TellsDamage, event_damages}
+use Rattle.op_gate.specs.Damage.{HasShape, TakesEffect, IsFreeOf, IsDamagedBy, MayComeNext, TellsDamage, event_damages}
 use Rattle.op_gate.specs.DamageLaws.{IsTypedEvent}
 use Rattle.op_gate.specs.Decision.{IsPlanned}
 use Rattle.op_gate.proofs.RegistryLemmas.{said_from_registry, may_register}
@@ -73,11 +70,11 @@ module _ (authority : Authority) (state : BaseView) (counted : state.count < 2 ^
   damaged_unsigned pass statement signature fails =
       first_after authority state (Registered pass statement signature) (Shape ∷ []) Unsigned (Unproved ∷ MomentFalls ∷ NotAdmitted ∷ Duplicate ∷ []) refl ((counted, tt), tt) fails
 
-  damaged_duplicate : (pass : ℕ) (statement : StatementView) (signature : List ℕ) → IsSignedStatement authority statement signature → (IsNewAmong state.statements statement → ⊥) → IsDamagedBy authority state (Registered pass statement signature) Duplicate
+  damaged_duplicate : (pass : ℕ) (statement : StatementView) (signature : List ℕ) → IsSignedStatement authority statement signature → (CanRegister (sayings state.statements) statement → ⊥) → IsDamagedBy authority state (Registered pass statement signature) Duplicate
   damaged_duplicate pass statement signature signed fails =
       first_after authority state (Registered pass statement signature) (Shape ∷ Unsigned ∷ Unproved ∷ MomentFalls ∷ NotAdmitted ∷ []) Duplicate [] refl ((counted, tt), (signed, (tt, (tt, (tt, tt))))) fails
 
-  pub damaged_unproved : (pass : ℕ) (cited : List ℕ) (proof : ProofView) (g : GrantView) → (IsGoodIssue (sayings state.statements) (record { cited = cited; proof = proof; grant = g }) → ⊥) → IsDamagedBy authority state (Issued pass cited proof g) Unproved
+  pub damaged_unproved : (pass : ℕ) (cited : List ℕ) (proof : ProofView) (g : GrantView) → (MayBeIssued state (record { cited = cited; proof = proof; grant = g }) → ⊥) → IsDamagedBy authority state (Issued pass cited proof g) Unproved
   damaged_unproved pass cited proof g fails =
       first_after authority state (Issued pass cited proof g) (Shape ∷ Unsigned ∷ []) Unproved (MomentFalls ∷ NotAdmitted ∷ Duplicate ∷ []) refl ((counted, tt), (tt, tt)) fails
 
@@ -116,83 +113,21 @@ pub registered_damaged : (h : HistoryView) (pass : ℕ) (statement : StatementVi
 registered_damaged h pass statement signature registry.BadSignature counted may =
     damaged_unsigned (authority_of h) (state_of h) counted pass statement signature (λ signed. false≢true (sym may ∙ signed))
 registered_damaged h pass statement signature registry.RegistryFull counted may =
-    damaged_duplicate (authority_of h) (state_of h) counted pass statement signature may.0 (λ new. omega (arith, new.room, may.1.1))
+    damaged_duplicate (authority_of h) (state_of h) counted pass statement signature may.0 (λ can. omega (arith, can.room, may.1.1, said_length (state_of h).statements))
 registered_damaged h pass statement signature (registry.Duplicate number) counted may =
     damaged_duplicate (authority_of h) (state_of h) counted pass statement signature may.0
-    (λ new. new.new (Contains-numbered (sayings (state_of h).statements) number statement (said_from_registry (state_of h).statements number statement may.1)))
+    (λ can. can.new (Contains-numbered (sayings (state_of h).statements) number statement (said_from_registry (state_of h).statements number statement may.1)))
 registered_damaged h pass statement signature registry.NoMemory counted may = tt
 
 -- ---- issues
-
-abbrev graded : GrantView → Result GrantView CheckFault
-graded g = Ok g
-
-abbrev refusal_of : CheckFault → Result GrantView CheckFault
-refusal_of fault = Err fault
-
-abbrev grant_with : Goal → List Constraint → List StatePred → GrantView
-grant_with goal times states = record { goal = goal; times = times; states = states }
-
-ok_grant : (first second : GrantView) → graded first ≡ graded second → first ≡ second
-ok_grant first second same = cc
-
--- the same grant, by its parts
-pub same_grant : (first second : GrantView) → first.goal ≡ second.goal → first.times ≡ second.times → first.states ≡ second.states → first ≡ second
-same_grant first second goal times states =
-    ap (λ (w : Goal). grant_with w first.times first.states) goal ∙ ap (λ (ts : List Constraint). grant_with second.goal ts first.states) times ∙ ap (λ (ss : List StatePred). grant_with second.goal second.times ss) states
-
--- a proof that is refused grants nothing
-refused_proof : (cites : List Cite) (proof : ProofView) (g : GrantView) (fault : CheckFault) → (fault ≡ checks.NoMemory → ⊥) → IsFault fault (verdict (statements_of cites) g.goal proof) → IsGranted (statements_of cites) g.goal proof g → ⊥
-refused_proof cites proof g fault not_memory fails granted =
-    ⊎_elim (λ memory. not_memory memory) (λ is. let both : graded g ≡ refusal_of fault = sym granted.verdict_is ∙ is in absurd cc) fails
-
-numbers_rise : (cites : List Cite) → DoCitesRise cites → DoRise (numbers_of cites)
-numbers_rise [] rises = tt
-numbers_rise (first ∷ []) rises = tt
-numbers_rise (first ∷ second ∷ others) rises = (rises.0, numbers_rise (second ∷ others) rises.1)
-
-cites_rise : (cites : List Cite) → DoRise (numbers_of cites) → DoCitesRise cites
-cites_rise [] rises = tt
-cites_rise (first ∷ []) rises = tt
-cites_rise (first ∷ second ∷ others) rises = (rises.0, cites_rise (second ∷ others) rises.1)
-
--- what can be cited has numbers that can be cited, and the other way round
-AreCitable-numbers : (cites : List Cite) → AreCited cites → AreCitable (numbers_of cites)
-AreCitable-numbers cites are =
-    let count : length (numbers_of cites) ≡ length cites = length-map cites (λ (c : Cite). c.number) in
-    record { some = omega (arith, count, are.some); few = omega (arith, count, are.few); rising = numbers_rise cites are.rising }
-
-AreCited-numbers : (cites : List Cite) → AreCitable (numbers_of cites) → AreCited cites
-AreCited-numbers cites are =
-    let count : length (numbers_of cites) ≡ length cites = length-map cites (λ (c : Cite). c.number) in
-    record { some = omega (arith, count, are.some); few = omega (arith, count, are.few); rising = cites_rise cites are.rising }
-
-abbrev cite_of : ℕ → StatementView → Cite
-cite_of number statement = record { number = number; statement = statement }
-
--- numbers have one list of statements that stand under them
-cites_determined : (statements : List StatementView) (first second : List Cite) → numbers_of first ≡ numbers_of second → AllByRecursion (StandsUnderNumber statements) first → AllByRecursion (StandsUnderNumber statements) second → first ≡ second
-cites_determined statements [] [] same stand stand' = refl
-cites_determined statements [] (d ∷ second) same stand stand' = absurd cc
-cites_determined statements (c ∷ first) [] same stand stand' = absurd cc
-cites_determined statements (c ∷ first) (d ∷ second) same stand stand' =
-    let number : c.number ≡ d.number = cc in
-    let others : numbers_of first ≡ numbers_of second = cc in
-    let statement : c.statement ≡ d.statement = numbered_item statements d.number c.statement d.statement (subst (λ (n : ℕ). IsNumbered statements n c.statement) number stand.0) stand'.0 in
-    ap (λ (n : ℕ). cite_of n c.statement ∷ first) number ∙ ap (λ (s : StatementView). cite_of d.number s ∷ first) statement ∙ ap (λ (cs : List Cite). d ∷ cs) (cites_determined statements first second others stand.1 stand'.1)
 
 -- the numbers of a good issue can be cited
 pub good_citable : (statements : List StatementView) (cited : List ℕ) (proof : ProofView) (g : GrantView) → IsGoodIssue statements (record { cited = cited; proof = proof; grant = g }) → AreCitable cited
 good_citable statements cited proof g good = subst AreCitable (sym good.cited) (AreCitable-numbers good.cites good.rising)
 
-have_numbers : (statements : List StatementView) (cites : List Cite) → AllByRecursion (StandsUnderNumber statements) cites → AllByRecursion (HasNumber statements) (numbers_of cites)
-have_numbers statements [] stand = tt
-have_numbers statements (cite ∷ cites) stand = (HasNumber-item statements cite.number cite.statement stand.0, have_numbers statements cites stand.1)
-
 -- and none of them is absent
-pub good_found : (statements : List StatementView) (cited : List ℕ) (proof : ProofView) (g : GrantView) (number : ℕ) → IsGoodIssue statements (record { cited = cited; proof = proof; grant = g }) → IsAbsent statements cited number → ⊥
-good_found statements cited proof g number good absent =
-    none_fails (HasNumber statements) cited absent.place number (subst (AllByRecursion (HasNumber statements)) (sym good.cited) (have_numbers statements good.cites good.stand)) absent.first
+pub good_found : (statements : List StatementView) (cited : List ℕ) (proof : ProofView) (g : GrantView) (number : ℕ) → IsGoodIssue statements (record { cited = cited; proof = proof; grant = g }) → IsAbsent (whole_book statements) cited number → ⊥
+good_found statements cited proof g number good absent = absent_not_found (whole_book statements) cited number good.cites absent (record { numbers_are = sym good.cited; stand = good.stand })
 
 -- a checked proof with this grant
 pub same_checked : (checked : CheckedView) (g : GrantView) → IsChecked checked → checked.goal ≡ g.goal → checked.grant ≡ g → IsCheckedAs checked.cited checked.proof g checked
@@ -200,27 +135,25 @@ same_checked checked g is goal same = record {
   cited_is = refl;
   proof_is = refl;
   grant_is = same;
-  granted = subst (λ (h : GrantView). IsGranted (statements_of checked.cited) g.goal checked.proof h) same (subst (λ (w : Goal). IsGranted (statements_of checked.cited) w checked.proof checked.grant) goal is);
+  granted = granted_as checked.cited checked.goal checked.proof checked.grant g is goal same;
 }
 
 -- a grant that the proof does not give
 pub other_grant : (checked : CheckedView) (g : GrantView) → IsChecked checked → checked.goal ≡ g.goal → (checked.grant ≡ g → ⊥) → GivesChecked checked.cited checked.proof g (Err (Damaged Unproved))
 other_grant checked g is goal differs = (
   refl,
-  λ granted.
-      let both : graded checked.grant ≡ graded g = sym is.verdict_is ∙ ap (λ (w : Goal). verdict (statements_of checked.cited) w checked.proof) goal ∙ granted.verdict_is in
-      differs (ok_grant checked.grant g both),
+  λ from. differs (granted_is checked.cited checked.goal checked.proof checked.grant g is.verdict_is goal from),
 )
 
 -- a proof that is refused
 pub not_granted : (cites : List Cite) (proof : ProofView) (g : GrantView) (fault : CheckFault) → IsFault fault (verdict (statements_of cites) g.goal proof) → GivesChecked cites proof g (Err (proof_damage fault))
-not_granted cites proof g (checks.NoHypothesis node) fails = (refl, λ granted. refused_proof cites proof g (checks.NoHypothesis node) (λ e. cc) fails granted)
-not_granted cites proof g (checks.WrongShape node) fails = (refl, λ granted. refused_proof cites proof g (checks.WrongShape node) (λ e. cc) fails granted)
-not_granted cites proof g (checks.NotEntailed node) fails = (refl, λ granted. refused_proof cites proof g (checks.NotEntailed node) (λ e. cc) fails granted)
-not_granted cites proof g (checks.NotInState node) fails = (refl, λ granted. refused_proof cites proof g (checks.NotInState node) (λ e. cc) fails granted)
-not_granted cites proof g (checks.ViewTooWeak node) fails = (refl, λ granted. refused_proof cites proof g (checks.ViewTooWeak node) (λ e. cc) fails granted)
-not_granted cites proof g (checks.BadTerm node) fails = (refl, λ granted. refused_proof cites proof g (checks.BadTerm node) (λ e. cc) fails granted)
-not_granted cites proof g (checks.TooManyConditions node) fails = (refl, λ granted. refused_proof cites proof g (checks.TooManyConditions node) (λ e. cc) fails granted)
+not_granted cites proof g (checks.NoHypothesis node) fails = (refl, λ from. refused_grants_none cites proof g (checks.NoHypothesis node) (λ e. cc) fails from)
+not_granted cites proof g (checks.WrongShape node) fails = (refl, λ from. refused_grants_none cites proof g (checks.WrongShape node) (λ e. cc) fails from)
+not_granted cites proof g (checks.NotEntailed node) fails = (refl, λ from. refused_grants_none cites proof g (checks.NotEntailed node) (λ e. cc) fails from)
+not_granted cites proof g (checks.NotInState node) fails = (refl, λ from. refused_grants_none cites proof g (checks.NotInState node) (λ e. cc) fails from)
+not_granted cites proof g (checks.ViewTooWeak node) fails = (refl, λ from. refused_grants_none cites proof g (checks.ViewTooWeak node) (λ e. cc) fails from)
+not_granted cites proof g (checks.BadTerm node) fails = (refl, λ from. refused_grants_none cites proof g (checks.BadTerm node) (λ e. cc) fails from)
+not_granted cites proof g (checks.TooManyConditions node) fails = (refl, λ from. refused_grants_none cites proof g (checks.TooManyConditions node) (λ e. cc) fails from)
 not_granted cites proof g checks.NoMemory fails = tt
 
 -- what is reported of an issue whose proof is checked
@@ -239,39 +172,39 @@ issued_unchecked pass cites proof g (Damaged damage) gives = gives
 issued_unchecked pass cites proof g NoMemory gives = tt
 
 -- an issue that cites what was found, and whose grant is the verdict on its proof from that
-pub good_issue : (statements : List StatementView) (cited : List ℕ) (proof : ProofView) (g : GrantView) (cites : List Cite) → AreCitable cited → AreFound statements cited cites → IsGranted (statements_of cites) g.goal proof g →
+pub good_issue : (statements : List StatementView) (cited : List ℕ) (proof : ProofView) (g : GrantView) (cites : List Cite) → AreCitable cited → AreFound (whole_book statements) cited cites → IsGrantedFrom cites proof g →
     IsGoodIssue statements (record { cited = cited; proof = proof; grant = g })
 good_issue statements cited proof g cites citable found granted =
     record { cites = cites; cited = sym found.numbers_are; rising = AreCited-numbers cites (subst AreCitable (sym found.numbers_are) citable); stand = found.stand; granted = granted }
 
 -- the verdict of a good issue is from what was found of its numbers
-pub good_granted : (statements : List StatementView) (cited : List ℕ) (proof : ProofView) (g : GrantView) (cites : List Cite) → AreFound statements cited cites → IsGoodIssue statements (record { cited = cited; proof = proof; grant = g }) →
-    IsGranted (statements_of cites) g.goal proof g
+pub good_granted : (statements : List StatementView) (cited : List ℕ) (proof : ProofView) (g : GrantView) (cites : List Cite) → AreFound (whole_book statements) cited cites → IsGoodIssue statements (record { cited = cited; proof = proof; grant = g }) →
+    IsGrantedFrom cites proof g
 good_granted statements cited proof g cites found good =
-    subst (λ (cs : List Cite). IsGranted (statements_of cs) g.goal proof g) (cites_determined statements good.cites cites (sym good.cited ∙ sym found.numbers_are) good.stand found.stand) good.granted
+    subst (λ (cs : List Cite). IsGrantedFrom cs proof g) (same_cites (whole_book statements) good.cites cites (sym good.cited ∙ sym found.numbers_are) good.stand found.stand) good.granted
 
 -- what is found of an issue whose statements were looked up
 pub issued_found : (h : HistoryView) (pass : ℕ) (cited : List ℕ) (proof : ProofView) (g : GrantView) (cites : List Cite) (told : Result Pending AdmitFault) → (state_of h).count < 2 ^ 48 - 1 → AreCitable cited →
-    AreFound (sayings (state_of h).statements) cited cites → GivesIssue pass cites proof g told → GivesPending h h (Issued pass cited proof g) told
+    AreFound (whole_book (sayings (state_of h).statements)) cited cites → GivesIssue pass cites proof g told → GivesPending h h (Issued pass cited proof g) told
 issued_found h pass cited proof g cites (Ok pending) counted citable found gives =
     let is : pending ≡ pending_issue pass cited proof g = gives.1 ∙ ap (λ (ns : List ℕ). pending_issue pass ns proof g) found.numbers_are in
     record {
-      follows = good_issue (sayings (state_of h).statements) cited proof g cites citable found gives.0;
+      follows = MayBeIssued-good (state_of h) (record { cited = cited; proof = proof; grant = g }) (good_issue (sayings (state_of h).statements) cited proof g cites citable found gives.0);
       event_is = ap (λ (p : Pending). p.event) is;
       addition_is = ap (λ (p : Pending). p.addition) is;
       ready = tt;
     }
 issued_found h pass cited proof g cites (Err (Damaged damage)) counted citable found gives =
     subst (λ (d : Damage). IsDamagedBy (authority_of h) (state_of h) (Issued pass cited proof g) d) (sym gives.0)
-    (damaged_unproved (authority_of h) (state_of h) counted pass cited proof g (λ good. gives.1 (good_granted (sayings (state_of h).statements) cited proof g cites found good)))
+    (damaged_unproved (authority_of h) (state_of h) counted pass cited proof g (λ may. gives.1 (good_granted (sayings (state_of h).statements) cited proof g cites found may.good)))
 issued_found h pass cited proof g cites (Err NoMemory) counted citable found gives = tt
 
 -- what is found of an issue whose statements were looked up, or not found
 pub issued_cited : (h : HistoryView) (pass : ℕ) (cited : List ℕ) (proof : ProofView) (g : GrantView) (cites : List Cite) (told : Result Pending AdmitFault) (shown : List RegisteredView) (numbers : List ℕ) → (state_of h).count < 2 ^ 48 - 1 → shown ≡ (state_of h).statements → numbers ≡ cited →
     FindsCited (sayings shown) numbers (Ok cites) → GivesIssue pass cites proof g told → GivesPending h h (Issued pass cited proof g) told
 issued_cited h pass cited proof g cites told shown numbers counted shown_is numbers_are finds gives =
-    let all : AreCitable cited × AreFound (sayings (state_of h).statements) cited cites =
-    subst (λ (ns : List ℕ). AreCitable ns × AreFound (sayings (state_of h).statements) ns cites) numbers_are (subst (λ (es : List RegisteredView). AreCitable numbers × AreFound (sayings es) numbers cites) shown_is finds) in
+    let all : AreCitable cited × AreFound (whole_book (sayings (state_of h).statements)) cited cites =
+    subst (λ (ns : List ℕ). AreCitable ns × AreFound (whole_book (sayings (state_of h).statements)) ns cites) numbers_are (subst (λ (es : List RegisteredView). AreCitable numbers × AreFound (whole_book (sayings es)) numbers cites) shown_is finds) in
     issued_found h pass cited proof g cites told counted all.0 all.1 gives
 
 pub issued_uncited : (h : HistoryView) (pass : ℕ) (cited : List ℕ) (proof : ProofView) (g : GrantView) (fault : AdmitFault) (shown : List RegisteredView) (numbers : List ℕ) → (state_of h).count < 2 ^ 48 - 1 → shown ≡ (state_of h).statements → numbers ≡ cited →
@@ -279,8 +212,8 @@ pub issued_uncited : (h : HistoryView) (pass : ℕ) (cited : List ℕ) (proof : 
 issued_uncited h pass cited proof g (Damaged damage) shown numbers counted shown_is numbers_are finds =
     subst (λ (d : Damage). IsDamagedBy (authority_of h) (state_of h) (Issued pass cited proof g) d) (sym finds.0)
     (damaged_unproved (authority_of h) (state_of h) counted pass cited proof g
-    (λ good. finds.1 proof g (subst (λ (ns : List ℕ). IsGoodIssue (sayings shown) (record { cited = ns; proof = proof; grant = g })) (sym numbers_are)
-    (subst (λ (es : List RegisteredView). IsGoodIssue (sayings es) (record { cited = cited; proof = proof; grant = g })) (sym shown_is) good))))
+    (λ may. finds.1 proof g (subst (λ (ns : List ℕ). IsGoodIssue (sayings shown) (record { cited = ns; proof = proof; grant = g })) (sym numbers_are)
+    (subst (λ (es : List RegisteredView). IsGoodIssue (sayings es) (record { cited = cited; proof = proof; grant = g })) (sym shown_is) may.good))))
 issued_uncited h pass cited proof g NoMemory shown numbers counted shown_is numbers_are finds = tt
 
 -- ---- the gate
@@ -341,7 +274,7 @@ acted_pending before after pass caller op procaps moment reply pending base time
       follows = record {
         not_before = timely.not_before;
         in_range = timely.in_range;
-        formed = record { named = named; operation = operation; slots = timely.slots; few_bytes = timely.few_bytes };
+        formed = record { named = named; operation = operation; brought = timely.brought };
         admitted = admitted;
         not_refused = is.not_refused;
         derived = AreDerived-admitted before.key state caller op procaps moment base.good_issues admitted;
@@ -364,12 +297,12 @@ acted_damaged before after pass caller op procaps moment reply counted timely pl
 all_free : (authority : Authority) (state : BaseView) (event : Event) → MayComeNext authority state event → AllByRecursion (IsFreeOf authority state event) event_damages
 all_free authority state (Registered pass statement signature) may =
     let follows : MayBeRegistered authority state.statements statement signature = may.follows in
-    ((may.counted, tt), (follows.signed, (tt, (tt, (tt, (record { new = follows.new; room = follows.room }, tt))))))
+    ((may.counted, tt), (follows.signed, (tt, (tt, (tt, (follows.can, tt))))))
 all_free authority state (Issued pass cited proof g) may = ((may.counted, tt), (tt, (may.follows, (tt, (tt, (tt, tt))))))
 all_free authority state (Acted pass caller op procaps moment) may =
     let follows : MayAct authority state caller op procaps moment = may.follows in (
       (may.counted, follows.in_range),
-      (tt, (tt, (follows.not_before, (record { slots = follows.formed.slots; few_bytes = follows.formed.few_bytes; admitted = follows.admitted; not_refused = follows.not_refused }, (tt, tt))))),
+      (tt, (tt, (follows.not_before, (record { brought = follows.formed.brought; admitted = follows.admitted; not_refused = follows.not_refused }, (tt, tt))))),
     )
 
 pub first_damages : (authority : Authority) (state : BaseView) (event : Event) (first second : Damage) → IsDamagedBy authority state event first → IsDamagedBy authority state event second → first ≡ second
@@ -380,8 +313,7 @@ damaged_not_next authority state event damage damaged may = none_fails (IsFreeOf
 
 pub free_next : (authority : Authority) (state : BaseView) (event : Event) → IsLawfulBase authority state → IsTypedEvent event → AllByRecursion (IsFreeOf authority state event) event_damages → MayComeNext authority state event
 free_next authority state (Registered pass statement signature) base typed free =
-    let new : IsNewAmong state.statements statement = free.1.1.1.1.1.0 in
-    record { counted = free.0.0; follows = record { statement = typed; signed = free.1.0; new = new.new; room = new.room } }
+    record { counted = free.0.0; follows = record { statement = typed; signed = free.1.0; can = free.1.1.1.1.1.0 } }
 free_next authority state (Issued pass cited proof g) base typed free = record { counted = free.0.0; follows = free.1.1.0 }
 free_next authority state (Acted pass caller op procaps moment) base typed free =
     let takes : TakesEffect authority.key state caller op procaps moment = free.1.1.1.1.0 in
@@ -390,7 +322,7 @@ free_next authority state (Acted pass caller op procaps moment) base typed free 
       follows = record {
         not_before = free.1.1.1.0;
         in_range = free.0.1;
-        formed = record { named = typed.0; operation = typed.1; slots = takes.slots; few_bytes = takes.few_bytes };
+        formed = record { named = typed.0; operation = typed.1; brought = takes.brought };
         admitted = takes.admitted;
         not_refused = takes.not_refused;
         derived = AreDerived-admitted authority.key state caller op procaps moment base.good_issues takes.admitted;

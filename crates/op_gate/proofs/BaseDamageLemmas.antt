@@ -15,12 +15,13 @@ use Rattle.policy_statement.specs.declared.registry.RegisterFault.{RegisterFault
 use Rattle.policy_statement.specs.declared.registry.RegisterFault.TheVariants as registry
 use Rattle.file_world.specs.World.{IsWorld}
 use Rattle.access_history.specs.declared.event.Issue.{Issue}
-use Rattle.access_history.specs.Authority.{Authority, IsSignedEntry, sayings}
+use Rattle.access_history.specs.Authority.{Authority, CanRegister, IsSignedEntry, sayings}
 use Rattle.access_history.specs.Base.{BaseView}
-use Rattle.access_history.specs.Citing.{AreFound, IsGoodIssue}
+use Rattle.access_history.specs.Books.{whole_book}
+use Rattle.access_history.specs.Citing.{AreFound, IsGoodIssue, IsGrantedFrom}
 use Rattle.access_history.specs.History.{authority_with}
 use Rattle.access_history.specs.Lawful.{IsLawfulBase}
-use Rattle.access_history.proofs.CitingLemmas.{sayings-more}
+use Rattle.access_history.proofs.CitingLemmas.{said_length, sayings-more}
 use Rattle.access_history.proofs.ListLemmas.{AllByRecursion-contains, Contains-cons_cases}
 use Rattle.access_history.proofs.NumberedLemmas.{Contains-numbered, none_fails, first_failing}
 use Rattle.bl_syntax.specs.Citable.{AreCitable}
@@ -30,17 +31,15 @@ use Rattle.op_gate.specs.declared.damage.Damage.TheVariants.{Shape, Unsigned, Un
 use Rattle.op_gate.specs.declared.damage.AdmitFault.{AdmitFault}
 use Rattle.op_gate.specs.declared.damage.AdmitFault.TheVariants.{Damaged, NoMemory}
 use Rattle.op_gate.specs.Admits.{FindsCited, GivesChecked, register_damage}
-use Rattle.op_gate.specs.Damage.{IsNewAmong}
 use Rattle.op_gate.specs.BaseDamage.{IsBaseShaped, AreNew, IsBaseFreeOf, IsDamagedBase, TellsBase, base_damages}
 use Rattle.op_gate.specs.BaseTests.{IsSignedIn, IsFormed, TellsTest}
 use Rattle.op_gate.specs.DamageLaws.{IsTypedBase}
 use Rattle.op_gate.proofs.AdmitLemmas.{good_issue, good_granted}
-use Rattle.op_gate.proofs.RegistryLemmas.{new_to_registry, said_from_registry}
+use Rattle.op_gate.proofs.RegistryLemmas.{can_register, said_from_registry}
 use Rattle.std.proofs.lemmas.Bool.{false≢true}
 use Rattle.proof_term.specs.Proof.{ProofView}
 use Rattle.bl_syntax.specs.Grant.{GrantView}
-use Rattle.proof_verifier.specs.Cited.{statements_of}
-use Rattle.proof_verifier.specs.CheckedView.{CheckedView, IsGranted}
+use Rattle.proof_verifier.specs.CheckedView.{CheckedView}
 
 -- ---- laws
 
@@ -98,10 +97,10 @@ told_by_item P name items place item fault within is told = told_by (P item) (Al
 -- ---- statements that are new
 
 -- one more statement, which is new among these
-AreNew-push : (entries : List RegisteredView) (entry : RegisteredView) → AreNew entries → IsNewAmong entries entry.statement → AreNew (entries ++ entry ∷ [])
+AreNew-push : (entries : List RegisteredView) (entry : RegisteredView) → AreNew entries → CanRegister (sayings entries) entry.statement → AreNew (entries ++ entry ∷ [])
 AreNew-push entries entry are new = record {
   differ = subst (λ (ss : List StatementView). AreDistinct ss) (sym (sayings-more entries entry.statement entry.signature)) (AreDistinct-push (sayings entries) entry.statement are.differ new.new);
-  fit = omega (arith, new.room, length-append entries (entry ∷ []));
+  fit = omega (arith, new.room, said_length entries, length-append entries (entry ∷ []));
 }
 
 -- the statements so far, and what the registry keeps of them
@@ -112,13 +111,13 @@ pub record AreKept (registered entries : List RegisteredView) : Type 0 where
 pub AreKept-none : (entries registered : List RegisteredView) → registered ≡ [] → AreKept registered (take 0 entries)
 AreKept-none entries registered none = record { same = none; new = record { differ = tt; fit = omega arith } }
 
-pub AreKept-more : (registered after entries : List RegisteredView) (place : ℕ) (entry : RegisteredView) → place < length entries → entry ≡ get_or entries place entry → AreKept registered (take place entries) → IsNewAmong registered entry.statement → after ≡ registered ++ entry ∷ [] →
+pub AreKept-more : (registered after entries : List RegisteredView) (place : ℕ) (entry : RegisteredView) → place < length entries → entry ≡ get_or entries place entry → AreKept registered (take place entries) → CanRegister (sayings registered) entry.statement → after ≡ registered ++ entry ∷ [] →
     AreKept after (take (place + 1) entries)
 AreKept-more registered after entries place entry within is kept new more =
     let next : take place entries ++ entry ∷ [] ≡ take (place + 1) entries = ap (λ (e : RegisteredView). take place entries ++ e ∷ []) is ∙ sym (take_more entries place entry within) in
     record {
       same = more ∙ ap (λ (es : List RegisteredView). es ++ entry ∷ []) kept.same ∙ next;
-      new = subst AreNew next (AreNew-push (take place entries) entry kept.new (subst (λ (es : List RegisteredView). IsNewAmong es entry.statement) kept.same new));
+      new = subst AreNew next (AreNew-push (take place entries) entry kept.new (subst (λ (es : List RegisteredView). CanRegister (sayings es) entry.statement) kept.same new));
     }
 
 distinct_among : {A : Type 0} (before : List A) (x : A) (behind : List A) → AreDistinct (before ++ x ∷ behind) → Contains before x → ⊥
@@ -131,33 +130,33 @@ parts_at entries place entry within is =
     sym (take-append-drop place entries) ∙ ap (λ (es : List RegisteredView). take place entries ++ es) (drop_more entries place entry within) ∙ ap (λ (e : RegisteredView). take place entries ++ e ∷ drop (place + 1) entries) (sym is)
 
 -- each of the statements, if they are new, is new among those before it
-new_among : (before : List RegisteredView) (entry : RegisteredView) (behind : List RegisteredView) → AreNew (before ++ entry ∷ behind) → IsNewAmong before entry.statement
+new_among : (before : List RegisteredView) (entry : RegisteredView) (behind : List RegisteredView) → AreNew (before ++ entry ∷ behind) → CanRegister (sayings before) entry.statement
 new_among before entry behind are = record {
   new = distinct_among (sayings before) entry.statement (sayings behind) (subst (λ (ss : List StatementView). AreDistinct ss) (map-append (λ (e : RegisteredView). e.statement) before (entry ∷ behind)) are.differ);
-  room = omega (arith, are.fit, length-append before (entry ∷ behind));
+  room = omega (arith, are.fit, said_length before, length-append before (entry ∷ behind));
 }
 
 -- a statement that is not new
 pub told_by_entry : (registered entries : List RegisteredView) (place : ℕ) (entry : RegisteredView) (fault : AdmitFault) → place < length entries → entry ≡ get_or entries place entry → AreKept registered (take place entries) →
-    TellsTest (IsNewAmong registered entry.statement) Duplicate (Err fault) → TellsTest (AreNew entries) Duplicate (Err fault)
+    TellsTest (CanRegister (sayings registered) entry.statement) Duplicate (Err fault) → TellsTest (AreNew entries) Duplicate (Err fault)
 told_by_entry registered entries place entry fault within is kept told =
-    told_by (IsNewAmong registered entry.statement) (AreNew entries) Duplicate fault
-    (λ are. subst (λ (es : List RegisteredView). IsNewAmong es entry.statement) (sym kept.same) (new_among (take place entries) entry (drop (place + 1) entries) (subst AreNew (parts_at entries place entry within is) are))) told
+    told_by (CanRegister (sayings registered) entry.statement) (AreNew entries) Duplicate fault
+    (λ are. subst (λ (es : List RegisteredView). CanRegister (sayings es) entry.statement) (sym kept.same) (new_among (take place entries) entry (drop (place + 1) entries) (subst AreNew (parts_at entries place entry within is) are))) told
 
 -- what the registry tells of a statement whose signature is accepted: it is new
-pub kept_new : (accepted : Bool) (entries : List RegisteredView) (statement shown : StatementView) (done : Unit {0}) → shown ≡ statement → MayRegister accepted entries shown (Ok done) → IsNewAmong entries statement
+pub kept_new : (accepted : Bool) (entries : List RegisteredView) (statement shown : StatementView) (done : Unit {0}) → shown ≡ statement → MayRegister accepted entries shown (Ok done) → CanRegister (sayings entries) statement
 kept_new accepted entries statement shown done shown_is may =
-    subst (IsNewAmong entries) shown_is (record { new = new_to_registry entries shown may.1.0; room = may.1.1 })
+    subst (CanRegister (sayings entries)) shown_is (can_register entries shown may.1.0 may.1.1)
 
-not_taken : (accepted : Bool) (entries : List RegisteredView) (statement : StatementView) (fault : RegisterFault) → IsTrue accepted → MayRegister accepted entries statement (Err fault) → TellsTest (IsNewAmong entries statement) Duplicate (Err (register_damage fault))
+not_taken : (accepted : Bool) (entries : List RegisteredView) (statement : StatementView) (fault : RegisterFault) → IsTrue accepted → MayRegister accepted entries statement (Err fault) → TellsTest (CanRegister (sayings entries) statement) Duplicate (Err (register_damage fault))
 not_taken accepted entries statement registry.BadSignature signed may = absurd (false≢true (sym may ∙ signed))
-not_taken accepted entries statement registry.RegistryFull signed may = (refl, λ new. omega (arith, new.room, may.1.1))
-not_taken accepted entries statement (registry.Duplicate number) signed may = (refl, λ new. new.new (Contains-numbered (sayings entries) number statement (said_from_registry entries number statement may.1)))
+not_taken accepted entries statement registry.RegistryFull signed may = (refl, λ can. omega (arith, can.room, may.1.1, said_length entries))
+not_taken accepted entries statement (registry.Duplicate number) signed may = (refl, λ can. can.new (Contains-numbered (sayings entries) number statement (said_from_registry entries number statement may.1)))
 not_taken accepted entries statement registry.NoMemory signed may = tt
 
 -- or it is not
 pub not_new : (ring : List KeyView) (entries : List RegisteredView) (entry : RegisteredView) (shown : StatementView) (signature : List ℕ) (fault : RegisterFault) → shown ≡ entry.statement → signature ≡ entry.signature → IsSignedIn ring entry →
-    MayRegister (is_accepted ring shown.who (statement_message shown) signature) entries shown (Err fault) → TellsTest (IsNewAmong entries entry.statement) Duplicate (Err (register_damage fault))
+    MayRegister (is_accepted ring shown.who (statement_message shown) signature) entries shown (Err fault) → TellsTest (CanRegister (sayings entries) entry.statement) Duplicate (Err (register_damage fault))
 not_new ring entries entry shown signature fault shown_is signature_is signed may =
     not_taken (is_accepted ring entry.statement.who (statement_message entry.statement) entry.signature) entries entry.statement fault signed
     (subst (λ (s : StatementView). MayRegister (is_accepted ring s.who (statement_message s) entry.signature) entries s (Err fault)) shown_is
@@ -165,15 +164,15 @@ not_new ring entries entry shown signature fault shown_is signature_is signed ma
 
 -- ---- issues
 
-found_of : (statements : List StatementView) (numbers cited : List ℕ) (cites : List Cite) → numbers ≡ cited → FindsCited statements numbers (Ok cites) → AreCitable cited × AreFound statements cited cites
-found_of statements numbers cited cites numbers_are finds = subst (λ (ns : List ℕ). AreCitable ns × AreFound statements ns cites) numbers_are finds
+found_of : (statements : List StatementView) (numbers cited : List ℕ) (cites : List Cite) → numbers ≡ cited → FindsCited statements numbers (Ok cites) → AreCitable cited × AreFound (whole_book statements) cited cites
+found_of statements numbers cited cites numbers_are finds = subst (λ (ns : List ℕ). AreCitable ns × AreFound (whole_book statements) ns cites) numbers_are finds
 
 -- an issue whose statements are found and whose proof is checked
 pub issue_good : (statements : List StatementView) (issue : Issue) (numbers : List ℕ) (proof : ProofView) (cites : List Cite) (checked : CheckedView) → numbers ≡ issue.cited → proof ≡ issue.proof → FindsCited statements numbers (Ok cites) →
     GivesChecked cites proof issue.grant (Ok checked) → IsGoodIssue statements issue
 issue_good statements issue numbers proof cites checked numbers_are proof_is finds gives =
     let found = found_of statements numbers issue.cited cites numbers_are finds in
-    good_issue statements issue.cited issue.proof issue.grant cites found.0 found.1 (subst (λ (p : ProofView). IsGranted (statements_of cites) issue.grant.goal p issue.grant) proof_is gives.granted)
+    good_issue statements issue.cited issue.proof issue.grant cites found.0 found.1 (subst (λ (p : ProofView). IsGrantedFrom cites p issue.grant) proof_is gives.granted)
 
 -- whose proof is refused
 pub issue_unchecked : (statements : List StatementView) (issue : Issue) (numbers : List ℕ) (proof : ProofView) (cites : List Cite) (fault : AdmitFault) → numbers ≡ issue.cited → proof ≡ issue.proof → FindsCited statements numbers (Ok cites) →
@@ -181,7 +180,7 @@ pub issue_unchecked : (statements : List StatementView) (issue : Issue) (numbers
 issue_unchecked statements issue numbers proof cites (Damaged damage) numbers_are proof_is finds gives =
     let found = found_of statements numbers issue.cited cites numbers_are finds in (
       gives.0,
-      λ good. gives.1 (subst (λ (p : ProofView). IsGranted (statements_of cites) issue.grant.goal p issue.grant) (sym proof_is) (good_granted statements issue.cited issue.proof issue.grant cites found.1 good)),
+      λ good. gives.1 (subst (λ (p : ProofView). IsGrantedFrom cites p issue.grant) (sym proof_is) (good_granted statements issue.cited issue.proof issue.grant cites found.1 good)),
     )
 issue_unchecked statements issue numbers proof cites NoMemory numbers_are proof_is finds gives = tt
 

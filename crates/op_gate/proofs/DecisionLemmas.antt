@@ -1,8 +1,7 @@
 -- What was decided is an answer, over plain values.
-use Rattle.std.proofs.Common.{◌≡◌, ◌≤◌, ◌<◌, ◌+◌, ◌-◌, ℕ, List, length, get_or, refl, ap, subst, sym, arith, Some}
+use Rattle.std.proofs.Common.{◌≡◌, ◌+◌, ℕ, List, length, ap, subst, sym, Some}
 use Rattle.std.specs.Prelude.{ℤ}
-use Rattle.std.specs.List.{slice_get, AllByRecursion}
-use Rattle.std.proofs.lemmas.Option.{slice_get_read}
+use Rattle.std.specs.List.{AllByRecursion}
 use Rattle.bl_syntax.specs.Statement.{StatementView}
 use Rattle.proof_verifier.specs.Cited.{AreCited}
 use Rattle.proof_verifier.specs.CheckedView.{CheckedView, IsChecked}
@@ -12,9 +11,9 @@ use Rattle.access_history.specs.declared.request.StepRequest.{StepRequest}
 use Rattle.access_history.specs.declared.request.StepRequest.TheVariants as requests
 use Rattle.access_history.specs.declared.reply.StepReply.{StepReply}
 use Rattle.access_history.specs.declared.reply.StepReply.TheVariants as replies
-use Rattle.access_history.specs.Numbered.{IsNumbered, HasNumber}
-use Rattle.access_history.specs.Citing.{StandsUnderNumber, numbers_of}
-use Rattle.access_history.specs.Authority.{MayBeRegistered, sayings}
+use Rattle.access_history.specs.Citing.{StandsUnderNumber, issued_grant, numbers_of}
+use Rattle.access_history.specs.Authority.{MayBeRegistered}
+use Rattle.access_history.specs.Books.{book_of}
 use Rattle.access_history.specs.History.{HistoryView, authority_of, state_of, addition_of, IsReadyFor}
 use Rattle.access_history.specs.Answer.{Answers, registered, issued}
 use Rattle.op_gate.specs.declared.planned.Planned.{Planned}
@@ -43,29 +42,12 @@ registered_decided h pass clock statement signature number planned may number_is
     (subst (λ (n : ℕ). Answers (authority_of h) (state_of h) pass clock (requests.Register statement signature) (replies.Statement (n + 1)) (Some (Registered pass statement signature))) (sym number_is) (registered statement signature may))
     tt keeps
 
--- the item before the place of that number
-pub numbered_at : {A : Type 0} (items : List A) (number : ℕ) (item : A) → (number ≡ 0 → ⊥) → slice_get items (number - 1) ≡ Some item → IsNumbered items number item
-numbered_at items number item some found = record { place = number - 1; from_one = omega (arith, some); found = found }
-
 -- a grant is issued
-pub issued_decided : (h : HistoryView) (pass : ℕ) (clock : ℤ) (checked : CheckedView) (issues : ℕ) (planned : Planned) → AreCited checked.cited → IsChecked checked → AllByRecursion (StandsUnderNumber (sayings (state_of h).statements)) checked.cited →
-    issues ≡ length (state_of h).issues → Keeps (replies.Issue (issues + 1) (length checked.grant.times) (length checked.grant.states)) (Issued pass (numbers_of checked.cited) checked.proof checked.grant) planned →
+pub issued_decided : (h : HistoryView) (pass : ℕ) (clock : ℤ) (checked : CheckedView) (issues : ℕ) (planned : Planned) → AreCited checked.cited → IsChecked checked → AllByRecursion (StandsUnderNumber (book_of (state_of h))) checked.cited →
+    issues ≡ length (state_of h).issues → Keeps (replies.Issue (issues + 1) (length checked.grant.times) (length checked.grant.states)) (Issued pass (numbers_of checked.cited) checked.proof (issued_grant checked.grant (numbers_of checked.cited))) planned →
     IsPlanned h pass clock (requests.Issue checked) planned h
 issued_decided h pass clock checked issues planned rising granted stand issues_is keeps =
-    kept_decided h h pass clock (requests.Issue checked) (replies.Issue (issues + 1) (length checked.grant.times) (length checked.grant.states)) (Issued pass (numbers_of checked.cited) checked.proof checked.grant) planned
-    (subst (λ (n : ℕ). Answers (authority_of h) (state_of h) pass clock (requests.Issue checked) (replies.Issue (n + 1) (length checked.grant.times) (length checked.grant.states)) (Some (Issued pass (numbers_of checked.cited) checked.proof checked.grant))) (sym issues_is)
+    kept_decided h h pass clock (requests.Issue checked) (replies.Issue (issues + 1) (length checked.grant.times) (length checked.grant.states)) (Issued pass (numbers_of checked.cited) checked.proof (issued_grant checked.grant (numbers_of checked.cited))) planned
+    (subst (λ (n : ℕ). Answers (authority_of h) (state_of h) pass clock (requests.Issue checked) (replies.Issue (n + 1) (length checked.grant.times) (length checked.grant.states)) (Some (Issued pass (numbers_of checked.cited) checked.proof (issued_grant checked.grant (numbers_of checked.cited))))) (sym issues_is)
     (issued checked rising granted stand))
     tt keeps
-
--- no item has the number 0
-pub no_zero : {A : Type 0} (items : List A) (number : ℕ) → number ≡ 0 → HasNumber items number → ⊥
-no_zero items number none has = omega (arith, none, has.0)
-
--- no item has a number beyond the last
-pub none_beyond : {A : Type 0} (items shown : List A) (number : ℕ) → shown ≡ items → length shown < number → HasNumber items number → ⊥
-none_beyond items shown number same more has = omega (arith, more, has.1, ap length same)
-
--- the item that was read
-pub numbered_in : {A : Type 0} (items shown : List A) (number : ℕ) (item : A) → shown ≡ items → (number ≡ 0 → ⊥) → number ≤ length shown → item ≡ get_or shown (number - 1) item → IsNumbered items number item
-numbered_in {A} items shown number item same some within at =
-    numbered_at items number item some (subst (λ (xs : List A). slice_get xs (number - 1) ≡ Some item) same (slice_get_read shown (length shown) (number - 1) item refl (omega (arith, some, within)) at))

@@ -9,7 +9,8 @@ use Rattle.access_history.specs.declared.request.StepRequest.TheVariants as requ
 use Rattle.access_history.specs.Answer.{Answers, MaySee, not_shown, shown}
 use Rattle.access_history.specs.Authority.{Authority}
 use Rattle.access_history.proofs.NumberedLemmas.{numbered_item}
-use Rattle.op_gate.specs.Issued.{HasNone, IsProcapOf}
+use Rattle.access_history.specs.Numbered.{HasNone}
+use Rattle.op_gate.specs.Issued.{IsProcapOf}
 
 -- what was found, and that nothing was
 pub found_some : (key : List ℕ) (issues : List Issue) (number : ℕ) (found : Option Procap) (p : Procap) → found ≡ Some p → MatchOption found (HasNone issues number) (IsProcapOf key issues number) → IsProcapOf key issues number p

@@ -1,9 +1,7 @@
 -- What the registry and the history tell of statements and issues, over plain values.
-use Rattle.std.proofs.Common.{◌≡◌, ◌≤◌, ◌-◌, ℕ, zero, suc, List, length, get_or, refl, sym, ap, subst, ◌∙◌, arith, Some, Bool}
+use Rattle.std.proofs.Common.{◌≡◌, ◌≤◌, ◌<◌, ◌-◌, ℕ, zero, suc, List, length, get_or, refl, sym, subst, ◌∙◌, arith, Some, Bool}
 use Rattle.std.specs.Prelude.{Contains, ℤ, Result, Ok, Err, IsTrue, MatchOption}
 use Rattle.std.specs.List.{slice_get}
-use Rattle.std.specs.Option.{option_map}
-use Rattle.std.proofs.lemmas.List.{length-map}
 use Rattle.std.proofs.lemmas.Option.{slice_get-map, slice_get_read}
 use Rattle.bl_syntax.specs.Statement.{StatementView, IsStatement}
 use Rattle.policy_statement.specs.Registered.{RegisteredView}
@@ -16,32 +14,22 @@ use Rattle.policy_statement.specs.declared.registry.RegisterFault.TheVariants as
 use Rattle.access_history.specs.declared.reply.StepReply.TheVariants as replies
 use Rattle.access_history.specs.declared.request.StepRequest.TheVariants as requests
 use Rattle.access_history.specs.Answer.{unsigned, duplicate, registry_full}
-use Rattle.access_history.specs.Authority.{MayBeRegistered, sayings}
+use Rattle.access_history.specs.Authority.{CanRegister, MayBeRegistered, sayings}
+use Rattle.access_history.specs.Books.{whole_book}
 use Rattle.access_history.specs.History.{HistoryView, authority_with, state_of}
 use Rattle.op_gate.specs.Rejection.{rejection_of}
 use Rattle.op_gate.specs.Decision.{IsPlanned}
 use Rattle.op_gate.specs.declared.planned.Planned.{Planned}
 use Rattle.op_gate.specs.declared.planned.Planned.TheVariants.{Answer, NoMemory}
 use Rattle.std.proofs.lemmas.Bool.{false≢true}
-use Rattle.access_history.specs.Numbered.{IsNumbered, HasNumber}
+use Rattle.access_history.specs.Numbered.{IsNumbered}
 use Rattle.access_history.specs.Citing.{StandsUnderNumber}
-use Rattle.access_history.proofs.NumberedLemmas.{numbered_item}
-use Rattle.op_gate.proofs.DecisionLemmas.{numbered_in}
+use Rattle.access_history.proofs.CitingLemmas.{entry_held, one_held, said_length}
+use Rattle.access_history.proofs.NumberedLemmas.{numbered_in}
 use Rattle.proof_verifier.specs.declared.cites.Cite.{Cite}
 
 abbrev statement_of : RegisteredView → StatementView
 statement_of entry = entry.statement
-
--- a statement has the number of its entry
-pub said_numbered : (entries : List RegisteredView) (number : ℕ) (entry : RegisteredView) → IsNumbered entries number entry → IsNumbered (sayings entries) number entry.statement
-said_numbered entries number entry n = record { place = n.place; from_one = n.from_one; found = slice_get-map statement_of entries n.place ∙ ap (option_map statement_of) n.found }
-
--- there are as many statements as entries
-pub said_length : (entries : List RegisteredView) → length (sayings entries) ≡ length entries
-said_length entries = length-map entries statement_of
-
-pub said_has : (entries : List RegisteredView) (number : ℕ) → HasNumber (sayings entries) number → HasNumber entries number
-said_has entries number has = (has.0, omega (arith, has.1, said_length entries))
 
 -- the statement that the registry has under a number
 pub said_from_registry : (entries : List RegisteredView) (number : ℕ) (s : StatementView) → statement_of_number entries number ≡ Some s → IsNumbered (sayings entries) number s
@@ -57,12 +45,17 @@ new_to_registry entries s new here =
 -- a statement is the one of the entry that was read under its number, or not
 pub stands_as_entry : (entries : List RegisteredView) (cite : Cite) (entry : RegisteredView) (is_same : Bool) → (cite.number ≡ 0 → ⊥) → cite.number ≤ length entries → entry ≡ get_or entries (cite.number - 1) entry →
     (IsTrue is_same → entry.statement ≡ cite.statement) × (entry.statement ≡ cite.statement → IsTrue is_same) →
-    (IsTrue is_same → StandsUnderNumber (sayings entries) cite) × (StandsUnderNumber (sayings entries) cite → IsTrue is_same)
+    (IsTrue is_same → StandsUnderNumber (whole_book (sayings entries)) cite) × (StandsUnderNumber (whole_book (sayings entries)) cite → IsTrue is_same)
 stands_as_entry entries cite entry is_same some within at decides =
-    let said : IsNumbered (sayings entries) cite.number entry.statement = said_numbered entries cite.number entry (numbered_in entries entries cite.number entry refl some within at) in (
-      λ yes. subst (λ (s : StatementView). IsNumbered (sayings entries) cite.number s) (decides.0 yes) said,
-      λ stands. decides.1 (numbered_item (sayings entries) cite.number entry.statement cite.statement said stands),
+    let book = whole_book (sayings entries) in
+    let held : IsNumbered book cite.number (Some entry.statement) = entry_held entries cite.number entry (numbered_in entries entries cite.number entry refl some within at) in (
+      λ yes. subst (λ (s : StatementView). IsNumbered book cite.number (Some s)) (decides.0 yes) held,
+      λ stands. decides.1 (one_held book cite.number entry.statement cite.statement held stands),
     )
+
+-- and can be added, if there is room
+pub can_register : (entries : List RegisteredView) (s : StatementView) → IsNewStatement entries s → length entries < 4096 → CanRegister (sayings entries) s
+can_register entries s new room = record { new = new_to_registry entries s new; room = omega (arith, room, said_length entries) }
 
 -- what the registry tells, over what it is shown
 pub MayRegister-shown : (ring shown_ring : List KeyView) (entries shown_entries : List RegisteredView) (statement : StatementView) (signature shown : List ℕ) (told : Result (Unit {0}) Fault) → shown_ring ≡ ring → shown ≡ signature → shown_entries ≡ entries →
@@ -75,7 +68,7 @@ MayRegister-shown ring shown_ring entries shown_entries statement signature show
 -- a statement that the registry takes may be registered
 pub may_register : (key : List ℕ) (ring : List KeyView) (entries : List RegisteredView) (statement : StatementView) (signature : List ℕ) (told : Unit {0}) → IsStatement statement → MayRegister (is_accepted ring statement.who (statement_message statement) signature) entries statement (Ok told) →
     MayBeRegistered (authority_with key ring) entries statement signature
-may_register key ring entries statement signature told is may = record { statement = is; signed = may.0; new = new_to_registry entries statement may.1.0; room = may.1.1 }
+may_register key ring entries statement signature told is may = record { statement = is; signed = may.0; can = can_register entries statement may.1.0 may.1.1 }
 
 -- a statement that the registry does not take is rejected
 pub rejected_decided : (h : HistoryView) (pass : ℕ) (clock : ℤ) (statement : StatementView) (signature : List ℕ) (fault : Fault) (planned : Planned) →

@@ -1,14 +1,12 @@
 -- What the gate finds of an event that was read, kind by kind (this project's own).
-use Rattle.std.specs.Prelude.{◌≡◌, ◌≤◌, ◌-◌, ◌^◌, ◌≤ℤ◌, ℕ, ℤ, List, length, Result, Ok, Err}
+use Rattle.std.specs.Prelude.{◌≡◌, ◌≤◌, ◌-◌, ◌^◌, ◌≤ℤ◌, ℕ, ℤ, List, Result, Ok, Err}
 use Rattle.bl_syntax.specs.TimeOrder.{IsMoment}
 use Rattle.procap.specs.declared.procap.Procap.{Procap}
 use Rattle.file_world.specs.declared.operation.Op.{Op}
-use Rattle.file_world.specs.Needs.{slots, bytes_to_write}
 use Rattle.access_history.specs.Base.{BaseView}
 use Rattle.proof_term.specs.Proof.{ProofView}
 use Rattle.proof_verifier.specs.declared.cites.Cite.{Cite}
-use Rattle.proof_verifier.specs.Cited.{statements_of}
-use Rattle.proof_verifier.specs.CheckedView.{CheckedView, IsGranted}
+use Rattle.proof_verifier.specs.CheckedView.{CheckedView}
 use Rattle.proof_verifier.specs.declared.fault.CheckFault.{CheckFault}
 use Rattle.proof_verifier.specs.declared.fault.CheckFault.TheVariants as checks
 use Rattle.bl_syntax.specs.Grant.{GrantView}
@@ -19,9 +17,11 @@ use Rattle.access_history.specs.declared.event.Addition.TheVariants as additions
 use Rattle.access_history.specs.declared.event.Event.{Event}
 use Rattle.access_history.specs.declared.event.Event.TheVariants.{Registered, Issued}
 use Rattle.bl_syntax.specs.Citable.{AreCitable}
-use Rattle.access_history.specs.Citing.{AreFound, IsGoodIssue, numbers_of}
+use Rattle.access_history.specs.Books.{whole_book}
+use Rattle.access_history.specs.Citing.{AreFound, IsGoodIssue, IsGrantedFrom, numbers_of}
 use Rattle.access_history.specs.History.{HistoryView, authority_of, state_of, addition_of, IsReadyFor}
 use Rattle.access_history.specs.Lawful.{MayFollow}
+use Rattle.access_history.specs.WellFormed.{BringsEnough}
 use Rattle.op_gate.specs.declared.damage.Damage.TheVariants.{Shape, Unsigned, Unproved, Duplicate}
 use Rattle.op_gate.specs.declared.damage.AdmitFault.{AdmitFault}
 use Rattle.op_gate.specs.declared.damage.AdmitFault.TheVariants.{Damaged, NoMemory}
@@ -45,8 +45,7 @@ GivesPending before after event (Err NoMemory) = Unit {0}
 pub record IsTimely (state : BaseView) (op : Op) (procaps : List Procap) (moment : ℤ) : Type 0 where
   pub in_range : IsMoment moment
   pub not_before : state.moment ≤ℤ moment
-  pub slots : length procaps ≡ slots op
-  pub few_bytes : bytes_to_write op ≤ 65536
+  pub brought : BringsEnough op procaps
 
 -- what the state keeps of a statement, pending with its event
 abbrev pub pending_statement : ℕ → StatementView → List ℕ → Pending
@@ -61,23 +60,23 @@ pub record IsCheckedAs (cites : List Cite) (proof : ProofView) (g : GrantView) (
   pub cited_is : checked.cited ≡ cites
   pub proof_is : checked.proof ≡ proof
   pub grant_is : checked.grant ≡ g
-  pub granted : IsGranted (statements_of cites) g.goal proof g
+  pub granted : IsGrantedFrom cites proof g
 
 -- the proof is checked, or the grant is not the verdict on it, or there was no memory
 abbrev pub GivesChecked : List Cite → ProofView → GrantView → Result CheckedView AdmitFault → Type 0
 GivesChecked cites proof g (Ok checked) = IsCheckedAs cites proof g checked
-GivesChecked cites proof g (Err (Damaged damage)) = (damage ≡ Unproved) × (IsGranted (statements_of cites) g.goal proof g → ⊥)
+GivesChecked cites proof g (Err (Damaged damage)) = (damage ≡ Unproved) × (IsGrantedFrom cites proof g → ⊥)
 GivesChecked cites proof g (Err NoMemory) = Unit {0}
 
 -- the grant is the verdict on the proof from what is cited and is pending, or it is not, or there was no memory
 abbrev pub GivesIssue : ℕ → List Cite → ProofView → GrantView → Result Pending AdmitFault → Type 0
-GivesIssue pass cites proof g (Ok pending) = IsGranted (statements_of cites) g.goal proof g × (pending ≡ pending_issue pass (numbers_of cites) proof g)
-GivesIssue pass cites proof g (Err (Damaged damage)) = (damage ≡ Unproved) × (IsGranted (statements_of cites) g.goal proof g → ⊥)
+GivesIssue pass cites proof g (Ok pending) = IsGrantedFrom cites proof g × (pending ≡ pending_issue pass (numbers_of cites) proof g)
+GivesIssue pass cites proof g (Err (Damaged damage)) = (damage ≡ Unproved) × (IsGrantedFrom cites proof g → ⊥)
 GivesIssue pass cites proof g (Err NoMemory) = Unit {0}
 
 -- the statements of these numbers, which can be cited; or there is no good issue that cites them; or there was no memory
 abbrev pub FindsCited : List StatementView → List ℕ → Result (List Cite) AdmitFault → Type 0
-FindsCited statements numbers (Ok cites) = AreCitable numbers × AreFound statements numbers cites
+FindsCited statements numbers (Ok cites) = AreCitable numbers × AreFound (whole_book statements) numbers cites
 FindsCited statements numbers (Err (Damaged damage)) = (damage ≡ Unproved) × ((proof : ProofView) (g : GrantView) → IsGoodIssue statements (record { cited = numbers; proof = proof; grant = g }) → ⊥)
 FindsCited statements numbers (Err NoMemory) = Unit {0}
 

@@ -1,20 +1,18 @@
 -- The damage of an event that was read from an area: the tests that it has to pass to come next, in their order, and the first that it does not pass (this project's own).
-use Rattle.std.specs.Prelude.{◌≡◌, ◌<◌, ◌≤◌, ◌-◌, ◌^◌, ◌≤ℤ◌, ℕ, ℤ, List, [], ◌∷◌, length, None, Contains, Result, Ok, Err}
+use Rattle.std.specs.Prelude.{◌≡◌, ◌<◌, ◌-◌, ◌^◌, ◌≤ℤ◌, ℕ, ℤ, List, [], ◌∷◌, None, Result, Ok, Err}
 use Rattle.bl_syntax.specs.FirstFailing.{IsFirstFailing}
-use Rattle.bl_syntax.specs.Statement.{StatementView}
-use Rattle.policy_statement.specs.Registered.{RegisteredView}
 use Rattle.procap.specs.declared.procap.Procap.{Procap}
 use Rattle.file_world.specs.declared.operation.Op.{Op}
 use Rattle.file_world.specs.Effect.{refusal}
-use Rattle.file_world.specs.Needs.{slots, bytes_to_write}
 use Rattle.access_history.specs.declared.event.Event.{Event}
 use Rattle.access_history.specs.declared.event.Event.TheVariants.{Registered, Issued, Acted}
 use Rattle.access_history.specs.Admission.{IsAdmitted}
-use Rattle.access_history.specs.Authority.{Authority, IsSignedStatement, sayings}
+use Rattle.access_history.specs.Authority.{Authority, CanRegister, IsSignedStatement, sayings}
 use Rattle.access_history.specs.Base.{BaseView}
-use Rattle.access_history.specs.Citing.{IsGoodIssue}
+use Rattle.access_history.specs.Citing.{MayBeIssued}
 use Rattle.access_history.specs.Keeping.{HasMomentInRange}
 use Rattle.access_history.specs.Lawful.{MayFollow}
+use Rattle.access_history.specs.WellFormed.{BringsEnough}
 use Rattle.op_gate.specs.declared.damage.Damage.{Damage}
 use Rattle.op_gate.specs.declared.damage.Damage.TheVariants.{Header, Shape, Unsigned, Unproved, NotAdmitted, MomentFalls, Duplicate}
 use Rattle.op_gate.specs.declared.damage.AdmitFault.{AdmitFault}
@@ -27,44 +25,34 @@ abbrev pub HasShape : BaseView → Event → Type 0
 HasShape state event = (state.count < 2 ^ 48 - 1) × HasMomentInRange event
 
 -- the signature of a statement is accepted from who says it
-abbrev pub IsSigned : Authority → Event → Type 0
-IsSigned authority (Registered pass statement signature) = IsSignedStatement authority statement signature
-IsSigned authority (Issued pass cited proof g) = Unit {0}
-IsSigned authority (Acted pass caller op procaps moment) = Unit {0}
+abbrev pub IsSigned : Authority → BaseView → Event → Type 0
+IsSigned authority state (Registered pass statement signature) = IsSignedStatement authority statement signature
+IsSigned authority state _ = Unit {0}
 
--- an issue cites 1 to 64 statements by strictly rising numbers, and its grant is the verdict on its proof from them
+-- an issue cites 1 to 64 statements that stand, by strictly rising numbers, and its grant is granted by its proof from them
 abbrev pub IsProved : BaseView → Event → Type 0
-IsProved state (Registered pass statement signature) = Unit {0}
-IsProved state (Issued pass cited proof g) = IsGoodIssue (sayings state.statements) (record { cited = cited; proof = proof; grant = g })
-IsProved state (Acted pass caller op procaps moment) = Unit {0}
+IsProved state (Issued pass cited proof g) = MayBeIssued state (record { cited = cited; proof = proof; grant = g })
+IsProved state _ = Unit {0}
 
 -- the moment of an operation is not before the last one
 abbrev pub IsNotBefore : BaseView → Event → Type 0
-IsNotBefore state (Registered pass statement signature) = Unit {0}
-IsNotBefore state (Issued pass cited proof g) = Unit {0}
 IsNotBefore state (Acted pass caller op procaps moment) = state.moment ≤ℤ moment
+IsNotBefore state _ = Unit {0}
 
--- an operation brings one procap for each slot and at most 65,536 bytes to write, it is admitted at its moment, and it is not refused
+-- an operation brings what it has to, it is admitted at its moment, and it is not refused
 pub record TakesEffect (key : List ℕ) (state : BaseView) (caller : List ℕ) (op : Op) (procaps : List Procap) (moment : ℤ) : Type 0 where
-  pub slots : length procaps ≡ slots op
-  pub few_bytes : bytes_to_write op ≤ 65536
+  pub brought : BringsEnough op procaps
   pub admitted : IsAdmitted key state caller op procaps moment
   pub not_refused : refusal state.world op ≡ None
 
 abbrev pub IsEffective : Authority → BaseView → Event → Type 0
-IsEffective authority state (Registered pass statement signature) = Unit {0}
-IsEffective authority state (Issued pass cited proof g) = Unit {0}
 IsEffective authority state (Acted pass caller op procaps moment) = TakesEffect authority.key state caller op procaps moment
+IsEffective authority state _ = Unit {0}
 
 -- no equal statement is there, and fewer than 4,096 are
-pub record IsNewAmong (entries : List RegisteredView) (statement : StatementView) : Type 0 where
-  pub new : Contains (sayings entries) statement → ⊥
-  pub room : length entries < 4096
-
 abbrev pub IsNew : BaseView → Event → Type 0
-IsNew state (Registered pass statement signature) = IsNewAmong state.statements statement
-IsNew state (Issued pass cited proof g) = Unit {0}
-IsNew state (Acted pass caller op procaps moment) = Unit {0}
+IsNew state (Registered pass statement signature) = CanRegister (sayings state.statements) statement
+IsNew state _ = Unit {0}
 
 -- ---- the first that fails
 
@@ -72,7 +60,7 @@ IsNew state (Acted pass caller op procaps moment) = Unit {0}
 abbrev pub IsFreeOf : Authority → BaseView → Event → Damage → Type 0
 IsFreeOf authority state event Header = Unit {0}
 IsFreeOf authority state event Shape = HasShape state event
-IsFreeOf authority state event Unsigned = IsSigned authority event
+IsFreeOf authority state event Unsigned = IsSigned authority state event
 IsFreeOf authority state event Unproved = IsProved state event
 IsFreeOf authority state event NotAdmitted = IsEffective authority state event
 IsFreeOf authority state event MomentFalls = IsNotBefore state event

@@ -6,7 +6,7 @@ use Rattle.bl_syntax.specs.Statement.{IsStatement}
 use Rattle.file_world.specs.Effect.{IsOperation}
 use Rattle.file_world.specs.World.{IsWorld}
 use Rattle.access_history.specs.declared.event.Event.{Event}
-use Rattle.access_history.specs.declared.event.Event.TheVariants.{Registered, Issued, Acted}
+use Rattle.access_history.specs.declared.event.Event.TheVariants.{Registered, Acted}
 use Rattle.access_history.specs.Authority.{Authority, sayings}
 use Rattle.access_history.specs.Base.{BaseView}
 use Rattle.access_history.specs.Lawful.{IsLawfulBase}
@@ -17,8 +17,8 @@ use Rattle.op_gate.specs.BaseDamage.{IsBaseFreeOf, IsDamagedBase, base_damages}
 -- what the types of the code keep of every event: a statement may be said, and an operation is a principal's
 abbrev pub IsTypedEvent : Event → Type 0
 IsTypedEvent (Registered pass statement signature) = IsStatement statement
-IsTypedEvent (Issued pass cited proof g) = Unit {0}
 IsTypedEvent (Acted pass caller op procaps moment) = IsTrue (is_principal_name caller) × IsOperation op
+IsTypedEvent _ = Unit {0}
 
 -- an event has at most one first damage
 abbrev pub FirstDamagesAreDetermined : Type 0

@@ -2,7 +2,7 @@
 
 ghost use Rattle.std.specs.Prelude.{◌≡◌, ◌↔◌, ◌<◌, ◌-◌, ◌^◌, ◌≤◌, ℕ, List, IfErr, IfOk, IsTrue, MatchOption, OnOk};
 ghost use Rattle.access_history.specs.declared.event.Event.TheVariants as events;
-ghost use Rattle.bl_syntax.specs.Citable.{AreCitable, DoRise};
+ghost use Rattle.proof_verifier.specs.Cited.{AreCited};
 ghost use Rattle.access_history.specs.Citing.{numbers_of};
 ghost use Rattle.access_history.specs.Authority.{sayings};
 ghost use Rattle.access_history.specs.History.{authority_of, state_of};
@@ -10,28 +10,20 @@ ghost use Rattle.op_gate.specs.Admits.{FindsCited, GivesChecked, GivesPending, G
 ghost use Rattle.op_gate.specs.Damage.{IsDamagedBy};
 
 use crate::act::decide_act;
-use crate::brings::{bytes_to_write, is_formed, slots};
+use crate::brings::{brings_enough, is_formed};
 use crate::cite::{Citation, cite};
 use crate::damage::{AdmitFault, Damage};
 use crate::decide::{issue_parts, pend_issue, registered};
 use crate::planned::{Pending, Planned};
 use access_history::{Event, History, Procaps};
-use bl_syntax::{Bytes, Constraint, Grant, Numbers, Principal, StatePred, Statement, is_moment};
+use bl_syntax::limits::MOST_EVENTS;
+use bl_syntax::{Bytes, Grant, Numbers, Principal, Statement, are_citable, is_moment};
 use file_world::Op;
 use policy_statement::{RegisterFault as RegistryFault, Registered};
 use procap::Procap;
 use proof_term::ProofTree;
 use proof_verifier::{CheckFault, Checked, Cites, verify};
 use std::alloc::Global;
-
-/// The greatest number of an event.
-pub const LAST_NUMBER: u64 = 0xffff_ffff_ffff;
-
-/// The most statements that an issue cites.
-const MOST_CITED: usize = 64;
-
-/// The most bytes that an operation brings to be written.
-const MOST_BYTES: usize = 65536;
 
 /// Why a statement may not be registered, as damage.
 pub fn register_damage(fault: RegistryFault) -> AdmitFault
@@ -80,50 +72,6 @@ fn admit_registered(
     }
 }
 
-// Whether each number is below the next.
-fn do_rise(numbers: &[u32]) -> bool
-    ensures { IsTrue result ↔ DoRise numbers.now }
-{
-    match numbers {
-        [first, second, ..] => *first < *second && do_rise(&numbers[1..]),
-        _ => true,
-    }
-}
-
-// Whether they are 1 to 64 numbers, strictly rising.
-fn are_citable(numbers: &[u32]) -> bool
-    ensures { IsTrue result ↔ AreCitable numbers.now }
-{
-    !numbers.is_empty() && numbers.len() <= MOST_CITED && do_rise(numbers)
-}
-
-// Whether they are the same conditions on time in the same order.
-fn are_same_times(times: &[Constraint], others: &[Constraint]) -> bool
-    ensures { IsTrue result ↔ (times.now ≡ others.now) }
-{
-    times == others
-}
-
-// Whether they are the same conditions on the state in the same order.
-fn are_same_states(states: &[StatePred], others: &[StatePred]) -> bool
-    ensures { IsTrue result ↔ (states.now ≡ others.now) }
-{
-    states == others
-}
-
-/// Whether they grant the same under the same conditions.
-pub fn is_same_grant(first: &Grant, second: &Grant) -> bool
-    ensures { IsTrue result ↔ (first.now ≡ second.now) }
-{
-    if !first.goal().is_same(&second.goal()) {
-        return false;
-    }
-    if !are_same_times(first.times(), second.times()) {
-        return false;
-    }
-    are_same_states(first.states(), second.states())
-}
-
 // Why a proof is refused, as damage.
 fn proof_damage(fault: CheckFault) -> AdmitFault
     ensures { result ≡ proof_damage fault }
@@ -150,7 +98,7 @@ fn granting(checked: Checked, grant: &Grant) -> Result<Checked, AdmitFault>
     requires { checked.goal ≡ grant.now.goal }
     ensures { GivesChecked checked.cited checked.proof grant.now result }
 {
-    if is_same_grant(checked.grant(), grant) {
+    if checked.grant().is_same(grant) {
         Ok(checked)
     } else {
         Err(AdmitFault::Damaged(Damage::Unproved))
@@ -164,6 +112,7 @@ pub fn check_again(
     proof: ProofTree,
     grant: &Grant,
 ) -> Result<Checked, AdmitFault>
+    requires { AreCited cites }
     ensures { GivesChecked cites proof grant.now result }
 {
     match verify(alloc, cites, grant.goal(), proof) {
@@ -180,6 +129,7 @@ fn issue_again(
     proof: ProofTree,
     grant: &Grant,
 ) -> Result<Pending, AdmitFault>
+    requires { AreCited cites }
     ensures { GivesIssue pass cites proof grant.now result }
 {
     match check_again(alloc, cites, proof, grant) {
@@ -236,7 +186,7 @@ fn early_damage(history: &History, op: &Op, procaps: &[Procap], moment: i64) -> 
     if moment < history.moment() {
         return Some(Damage::MomentFalls);
     }
-    if procaps.len() != slots(op) || MOST_BYTES < bytes_to_write(op) {
+    if !brings_enough(op, procaps) {
         return Some(Damage::NotAdmitted);
     }
     None
@@ -296,7 +246,7 @@ pub fn reserve_next(history: &mut History) -> Result<(), AdmitFault>
     ensures counted { OnOk result ((state_of history.old).count < 2 ^ 48 - 1) }
     ensures err { IfErr result (LacksNext (state_of history.old)) }
 {
-    if LAST_NUMBER <= history.count() {
+    if MOST_EVENTS <= history.count() {
         return Err(AdmitFault::Damaged(Damage::Shape));
     }
     if history.reserve().is_err() {

@@ -2,17 +2,17 @@
 
 ghost use Rattle.std.specs.Prelude.{◌≡◌, ◌↔◌, ◌∷◌, ◌++◌, [], ℕ, List, IsTrue, OnOk};
 ghost use Rattle.std.specs.List.{AllByRecursion};
-ghost use Rattle.access_history.specs.Authority.{sayings};
+ghost use Rattle.access_history.specs.Authority.{CanRegister, sayings};
 ghost use Rattle.access_history.specs.Citing.{IsGoodIssue};
 ghost use Rattle.access_history.specs.History.{authority_with};
-ghost use Rattle.op_gate.specs.Damage.{IsNewAmong};
 ghost use Rattle.op_gate.specs.BaseDamage.{AreNew, IsBaseShaped, TellsBase};
 ghost use Rattle.op_gate.specs.BaseTests.{IsFormed, IsSignedIn, TellsTest};
 
-use crate::admit::{LAST_NUMBER, check_again, find_cited, register_damage};
+use crate::admit::{check_again, find_cited, register_damage};
 use crate::damage::{AdmitFault, Damage};
 use access_history::{Base, Issue, keep_copy};
 use bl_syntax::is_moment;
+use bl_syntax::limits::MOST_EVENTS;
 use pcfs_ports::Signatures;
 use policy_statement::{Keyring, Registered, Registry, statement_message};
 use std::alloc::Global;
@@ -21,7 +21,7 @@ use std::alloc::Global;
 fn is_base_shaped(base: &Base) -> bool
     ensures { IsTrue result ↔ IsBaseShaped base.now }
 {
-    is_moment(base.moment()) && base.count() <= LAST_NUMBER
+    is_moment(base.moment()) && base.count() <= MOST_EVENTS
 }
 
 // Whether the ring accepts the signature with which the statement was registered.
@@ -94,7 +94,7 @@ fn keep_new(
     entry: &Registered,
 ) -> Result<(), AdmitFault>
     requires { IsSignedIn ring.now entry.now }
-    ensures new { TellsTest (IsNewAmong registry.old.entries entry.now.statement) Damage.Duplicate result }
+    ensures new { TellsTest (CanRegister (sayings registry.old.entries) entry.now.statement) Damage.Duplicate result }
     ensures kept { OnOk result (registry.new.entries ≡ registry.old.entries ++ entry.now ∷ []) }
 {
     match registry.test(alloc, ring, entry.statement(), entry.signature()) {

@@ -3,7 +3,7 @@
 ghost use Rattle.std.specs.Prelude.{◌≡◌, ◌↔◌, IsTrue, IfOk, MatchOption};
 ghost use Rattle.std.specs.List.{AllByRecursion};
 ghost use Rattle.access_history.specs.Authority.{sayings};
-ghost use Rattle.bl_syntax.specs.Citable.{AreCitable};
+ghost use Rattle.access_history.specs.Books.{whole_book};
 ghost use Rattle.access_history.specs.Citing.{StandsUnderNumber, IsMoved, numbers_of};
 ghost use Rattle.op_gate.specs.Citations.{GivesCitation as AreStatements};
 
@@ -21,10 +21,9 @@ pub enum Citation {
     Absent(u32),
 }
 
-/// The statements of these numbers, which strictly rise and are 1 to 64.
+/// The statements of these numbers.
 pub fn cite(alloc: Global, statements: &[Registered], numbers: &[u32]) -> Result<Citation, NoMemory>
-    requires { AreCitable numbers.now }
-    ensures { IfOk result (λ citation. AreStatements (sayings statements.now) numbers.now citation) }
+    ensures { IfOk result (λ citation. AreStatements (whole_book (sayings statements.now)) numbers.now citation) }
 {
     let mut cites = Vec::new(alloc);
     for number in numbers {
@@ -36,12 +35,12 @@ pub fn cite(alloc: Global, statements: &[Registered], numbers: &[u32]) -> Result
             statement: statements[*number as usize - 1].statement().copy(alloc)?,
         })?;
     }
-    Ok(Citation::Cited(Cites::new(cites).unwrap()))
+    Ok(Citation::Cited(Cites::new(cites)))
 }
 
 // Whether its statement stands under its number.
 fn is_in_place(statements: &[Registered], cite: &Cite) -> bool
-    ensures { IsTrue result ↔ StandsUnderNumber (sayings statements.now) cite.now }
+    ensures { IsTrue result ↔ StandsUnderNumber (whole_book (sayings statements.now)) cite.now }
 {
     if cite.number == 0 || statements.len() < cite.number as usize {
         return false;
@@ -53,7 +52,7 @@ fn is_in_place(statements: &[Registered], cite: &Cite) -> bool
 
 /// The first number under which the cited statement does not stand.
 pub fn first_moved(statements: &[Registered], cites: &[Cite]) -> Option<u32>
-    ensures { MatchOption result (AllByRecursion (StandsUnderNumber (sayings statements.now)) cites.now) (IsMoved (sayings statements.now) cites.now) }
+    ensures { let book = whole_book (sayings statements.now) in MatchOption result (AllByRecursion (StandsUnderNumber book) cites.now) (IsMoved book cites.now) }
 {
     for cite in cites {
         if !is_in_place(statements, cite) {

@@ -4,10 +4,11 @@ ghost use Rattle.std.specs.Prelude.{◌≡◌, ◌↔◌, Some, None, IfOk, Matc
 ghost use Rattle.bl_syntax.specs.Statement.{IsStatement};
 ghost use Rattle.access_history.specs.declared.request.StepRequest.TheVariants as requests;
 ghost use Rattle.access_history.specs.Answer.{Answers, MaySee};
-ghost use Rattle.access_history.specs.Citing.{numbers_of};
+ghost use Rattle.access_history.specs.Citing.{issued_grant, numbers_of};
 ghost use Rattle.access_history.specs.History.{authority_of, state_of};
 ghost use Rattle.op_gate.specs.Decision.{IsPlanned, Keeps};
-ghost use Rattle.op_gate.specs.Issued.{IsIssued, HasNone, IsProcapOf};
+ghost use Rattle.access_history.specs.Numbered.{HasNone};
+ghost use Rattle.op_gate.specs.Issued.{IsProcapOf};
 ghost use Rattle.op_gate.specs.Rejection.{rejection_of};
 
 use crate::cite::{cited_numbers, first_moved};
@@ -109,17 +110,6 @@ pub fn decide_register(
     }
 }
 
-// The grant of the issue of that number.
-fn issued_grant(history: &History, number: u64) -> Option<&Grant>
-    ensures { MatchOption result (HasNone (state_of history.now).issues number) (λ grant. IsIssued (state_of history.now).issues number grant.now) }
-{
-    let issues = history.issues();
-    if number == 0 || (issues.len() as u64) < number {
-        return None;
-    }
-    Some(&issues[number as usize - 1].grant)
-}
-
 /// The procap of the issue of that number; none exactly if there is no such issue.
 pub fn issued_procap(
     alloc: Global,
@@ -128,7 +118,7 @@ pub fn issued_procap(
 ) -> Result<Option<Procap>, NoMemory>
     ensures { IfOk result (λ found. MatchOption found (HasNone (state_of history.now).issues number) (IsProcapOf history.now.key (state_of history.now).issues number)) }
 {
-    match issued_grant(history, number) {
+    match history.issue(number) {
         Some(grant) => Ok(Some(history.key().seal(grant.copy(alloc)?))),
         None => Ok(None),
     }
@@ -215,7 +205,7 @@ pub fn pend_issue(pass: u64, checked: Checked, parts: IssueParts) -> Pending
 
 // Has the grant of the checked proof to be kept under that number.
 fn keep_issue(alloc: Global, pass: u64, number: u64, checked: Checked) -> Planned
-    ensures { Keeps (StepReply.Issue number (length checked.grant.times) (length checked.grant.states)) (Event.Issued pass (numbers_of checked.cited) checked.proof checked.grant) result }
+    ensures { Keeps (StepReply.Issue number (length checked.grant.times) (length checked.grant.states)) (Event.Issued pass (numbers_of checked.cited) checked.proof (issued_grant checked.grant (numbers_of checked.cited))) result }
 {
     let times = checked.grant().times().len() as u32;
     let states = checked.grant().states().len() as u32;

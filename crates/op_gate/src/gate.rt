@@ -105,10 +105,11 @@ impl Gate {
     ghost use Rattle.op_gate.specs.Decides.{Decides};
     ghost use Rattle.op_gate.specs.Damage.{TellsDamage};
     ghost use Rattle.op_gate.specs.Decision.{IsDenial};
-    ghost use Rattle.access_history.specs.Authority.{sayings};
+    ghost use Rattle.access_history.specs.Books.{book_of};
     ghost use Rattle.bl_syntax.specs.Citable.{AreCitable};
     ghost use Rattle.access_history.specs.History.{authority_with};
-    ghost use Rattle.op_gate.specs.Issued.{HasNone, IsProcapOf};
+    ghost use Rattle.access_history.specs.Numbered.{HasNone};
+    ghost use Rattle.op_gate.specs.Issued.{IsProcapOf};
     ghost use Rattle.op_gate.specs.Citations.{GivesCitation as AreStatements};
     ghost use Rattle.access_history.specs.Lawful.{MayFollow};
 
@@ -174,7 +175,7 @@ impl Gate {
     /// The statements of these numbers, in memory of their own. The numbers strictly rise and are 1 to 64.
     pub fn cite(&self, alloc: Global, numbers: &[u32]) -> Result<Citation, NoMemory>
         requires { AreCitable numbers.now }
-        ensures { IfOk result (λ citation. AreStatements (sayings (replay self.now.base self.now.events).statements) numbers.now citation) }
+        ensures { IfOk result (λ citation. AreStatements (book_of (replay self.now.base self.now.events)) numbers.now citation) }
     {
         cite(alloc, self.history.statements(), numbers)
     }

@@ -18,8 +18,7 @@ mod gate;
 pub mod laws;
 mod planned;
 
-pub use admit::is_same_grant;
-pub use brings::{bytes_to_write, slots};
+pub use brings::brings_enough;
 pub use cite::Citation;
 pub use damage::{AdmitFault, Damage};
 pub use gate::{Decision, Gate};

@@ -8,7 +8,6 @@ use Rattle.bl_syntax.specs.Grant.{GrantView}
 use Rattle.bl_syntax.specs.Statement.{StatementView}
 use Rattle.bl_syntax.proofs.GrantLemmas.{AllByRecursion-push}
 use Rattle.policy_statement.specs.Messages.{statement_message}
-use Rattle.policy_statement.specs.Registered.{RegisteredView}
 use Rattle.procap.specs.Genuine.{IsGenuine}
 use Rattle.procap.specs.declared.procap.Procap.{Procap}
 use Rattle.proof_term.specs.Proof.{ProofView}
@@ -16,45 +15,45 @@ use Rattle.file_world.specs.declared.operation.Op.{Op}
 use Rattle.access_history.specs.declared.event.Issue.{Issue}
 use Rattle.access_history.specs.declared.event.Event.{Event}
 use Rattle.access_history.specs.declared.event.Event.TheVariants.{Registered, Issued, Acted}
-use Rattle.access_history.specs.Authority.{Authority, sayings}
+use Rattle.access_history.specs.Authority.{Authority, CanRegister, sayings}
 use Rattle.access_history.specs.Base.{BaseView}
 use Rattle.access_history.specs.Citing.{IsGoodIssue}
 use Rattle.access_history.specs.Lawful.{WasIssued}
+use Rattle.access_history.proofs.CitingLemmas.{MayBeIssued-good}
 use Rattle.access_history.proofs.ListLemmas.{AllByRecursion-parts, AllByRecursion-weaker, IsImage-from_map}
-use Rattle.op_gate.specs.Damage.{IsNewAmong}
 use Rattle.pcfs_audit.specs.declared.credentials.Credentials.{Credentials}
 use Rattle.pcfs_audit.specs.Credentials.{HasCredentials, HasCredentialsAt, IsOfIssues}
-use Rattle.pcfs_audit.specs.Papers.{IsNewAfter, grants_in}
+use Rattle.pcfs_audit.specs.Papers.{grants_in}
 use Rattle.pcfs_audit.specs.Report.{authority_by}
 use Rattle.pcfs_audit.proofs.FirstsLemmas.{slice_get_push}
 
 -- ---- statements
 
-new_among : (entries : List RegisteredView) (statement : StatementView) → IsNewAfter (sayings entries) statement → IsNewAmong entries statement
-new_among entries statement new = record { new = new.new; room = omega (arith, new.room, length-map entries (λ (entry : RegisteredView). entry.statement)) }
-
-new_after : (entries : List RegisteredView) (statement : StatementView) → IsNewAmong entries statement → IsNewAfter (sayings entries) statement
-new_after entries statement new = record { new = new.new; room = omega (arith, new.room, length-map entries (λ (entry : RegisteredView). entry.statement)) }
-
 -- the credentials of a statement
 pub registered_credentials : (key : List ℕ) (accepts : List ℕ → List ℕ → List ℕ → Bool) (state : BaseView) (pass : ℕ) (statement : StatementView) (signature : List ℕ) (said : List StatementView) (credentials : Credentials) →
-    sayings state.statements ≡ said → (IsTrue credentials.genuine ↔ (IsTrue (accepts statement.who (statement_message statement) signature) × IsNewAfter said statement)) → IsTrue credentials.issued →
+    sayings state.statements ≡ said → (IsTrue credentials.genuine ↔ (IsTrue (accepts statement.who (statement_message statement) signature) × CanRegister said statement)) → IsTrue credentials.issued →
     HasCredentials (authority_by key accepts) state (Registered pass statement signature) credentials
 registered_credentials key accepts state pass statement signature said credentials is genuine issued = record {
   genuine = (
-    λ yes. let both = genuine.0 yes in (both.0, new_among state.statements statement (subst (λ (ss : List StatementView). IsNewAfter ss statement) (sym is) both.1)),
-    λ both. genuine.1 (both.0, subst (λ (ss : List StatementView). IsNewAfter ss statement) is (new_after state.statements statement both.1)),
+    λ yes. let both = genuine.0 yes in (both.0, subst (λ (ss : List StatementView). CanRegister ss statement) (sym is) both.1),
+    λ both. genuine.1 (both.0, subst (λ (ss : List StatementView). CanRegister ss statement) is both.1),
   );
   issued = (λ yes. tt, λ none. issued);
 }
 
 -- ---- issues
 
+abbrev issue_of : List ℕ → ProofView → GrantView → Issue
+issue_of cited proof g = record { cited = cited; proof = proof; grant = g }
+
 pub issued_credentials : (key : List ℕ) (accepts : List ℕ → List ℕ → List ℕ → Bool) (state : BaseView) (pass : ℕ) (cited : List ℕ) (proof : ProofView) (g : GrantView) (said : List StatementView) (credentials : Credentials) →
     sayings state.statements ≡ said → (IsTrue credentials.genuine ↔ IsGoodIssue said (record { cited = cited; proof = proof; grant = g })) → IsTrue credentials.issued →
     HasCredentials (authority_by key accepts) state (Issued pass cited proof g) credentials
 issued_credentials key accepts state pass cited proof g said credentials is genuine issued = record {
-  genuine = subst (λ (ss : List StatementView). IsTrue credentials.genuine ↔ IsGoodIssue ss (record { cited = cited; proof = proof; grant = g })) (sym is) genuine;
+  genuine = (
+    λ yes. MayBeIssued-good state (issue_of cited proof g) (subst (λ (ss : List StatementView). IsGoodIssue ss (issue_of cited proof g)) (sym is) (genuine.0 yes)),
+    λ may. genuine.1 (subst (λ (ss : List StatementView). IsGoodIssue ss (issue_of cited proof g)) is may.good),
+  );
   issued = (λ yes. tt, λ none. issued);
 }
 

@@ -13,7 +13,8 @@ use Rattle.std.proofs.lemmas.List.{length-take-le, take_all, take_more}
 use Rattle.std.proofs.lemmas.Option.{same_Some, slice_get-map, none-some}
 use Rattle.bl_syntax.specs.Statement.{StatementView}
 use Rattle.pcfs_audit.specs.Firsts.{AreBelow, AreFirsts, HasFirst, first_of}
-use Rattle.pcfs_audit.specs.Papers.{IsNewAfter, shown}
+use Rattle.access_history.specs.Authority.{CanRegister}
+use Rattle.pcfs_audit.specs.Papers.{shown}
 use Rattle.pcfs_audit.proofs.ReferenceLemmas.{placed_before, shown_take}
 
 -- ---- entering
@@ -122,11 +123,11 @@ pub among_shown : {A : Type 0} (references : List (Bor A)) (count : ℕ) (item :
 among_shown {A} references count item test decides = subst (λ (xs : List A). IsTrue test ↔ Contains xs item) (shown_take references count) decides
 
 -- a statement may be added if it is signed, none of these, and has room
-pub could_be : (accepted : Bool) (said : List StatementView) (statement : StatementView) (is_new : Bool) → IsTrue accepted → length said < 4096 → (IsTrue is_new ↔ (Contains said statement → ⊥)) → IsTrue is_new ↔ (IsTrue accepted × IsNewAfter said statement)
+pub could_be : (accepted : Bool) (said : List StatementView) (statement : StatementView) (is_new : Bool) → IsTrue accepted → length said < 4096 → (IsTrue is_new ↔ (Contains said statement → ⊥)) → IsTrue is_new ↔ (IsTrue accepted × CanRegister said statement)
 could_be accepted said statement is_new signed room decides = (λ yes. (signed, record { new = decides.0 yes; room = room }), λ both. decides.1 both.1.new)
 
-pub not_accepted : (accepted : Bool) (said : List StatementView) (statement : StatementView) → accepted ≡ false → IsTrue false ↔ (IsTrue accepted × IsNewAfter said statement)
+pub not_accepted : (accepted : Bool) (said : List StatementView) (statement : StatementView) → accepted ≡ false → IsTrue false ↔ (IsTrue accepted × CanRegister said statement)
 not_accepted accepted said statement is = (λ yes. absurd (false≢true yes), λ both. absurd (false≢true (sym is ∙ both.0)))
 
-pub no_room : (accepted : Bool) (said : List StatementView) (statement : StatementView) → 4096 ≤ length said → IsTrue false ↔ (IsTrue accepted × IsNewAfter said statement)
+pub no_room : (accepted : Bool) (said : List StatementView) (statement : StatementView) → 4096 ≤ length said → IsTrue false ↔ (IsTrue accepted × CanRegister said statement)
 no_room accepted said statement full = (λ yes. absurd (false≢true yes), λ both. absurd (omega (arith, full, both.1.room)))

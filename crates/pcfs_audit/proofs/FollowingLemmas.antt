@@ -1,7 +1,6 @@
 -- What is found with an event, and where the auditor stands after it.
 use Rattle.std.proofs.Common.{◌≡◌, ◌≢◌, ◌+◌, ℕ, List, [], ◌∷◌, ◌++◌, length, refl, sym, subst, ◌∙◌, arith, Bool, true, false, None, Some, Option, take, drop, get_or, ap, ◌<◌}
 use Rattle.std.specs.Prelude.{IsTrue, not, ℤ, ◌≤ℤ◌}
-use Rattle.std.specs.List.{AllByRecursion}
 use Rattle.std.proofs.lemmas.Bool.{false≢true}
 use Rattle.std.proofs.lemmas.List.{length-append, take-append-drop, take_more}
 use Rattle.bl_syntax.specs.Statement.{StatementView}
@@ -85,7 +84,7 @@ module _ (authority : Authority) (state : BaseView) (pass : ℕ) (caller : List 
       Follows authority state (Acted pass caller op procaps moment) (Some NotAdmitted) after
   not_admitted_followed after not_before fails =
       let not = λ (clear : IsMoment moment × TakesEffect authority.key state caller op procaps moment).
-      fails (record { in_range = clear.0; slots = clear.1.slots; few_bytes = clear.1.few_bytes }, clear.1.admitted, clear.1.not_refused) in
+      fails (record { in_range = clear.0; brought = clear.1.brought }, clear.1.admitted, clear.1.not_refused) in
       record {
         finds = record {
           place = 3;
@@ -107,7 +106,7 @@ module _ (authority : Authority) (state : BaseView) (pass : ℕ) (caller : List 
       Follows authority state (Acted pass caller op procaps moment) found after
   taken_followed credentials found after not_before brought admitted free world_is moment_is has none some = told credentials.issued refl where
     takes : TakesEffect authority.key state caller op procaps moment
-    takes = record { slots = brought.slots; few_bytes = brought.few_bytes; admitted = admitted; not_refused = free }
+    takes = record { brought = brought.brought; admitted = admitted; not_refused = free }
 
     next : StandsAt (next_state state (Acted pass caller op procaps moment)) after
     next = record { world_is = world_is ∙ sym (world_left-after caller op state.world free); moment_is = moment_is }

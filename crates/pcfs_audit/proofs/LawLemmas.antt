@@ -15,14 +15,16 @@ use Rattle.access_history.specs.declared.event.Issue.{Issue}
 use Rattle.access_history.specs.declared.event.Event.TheVariants.{Registered, Issued, Acted}
 use Rattle.access_history.specs.Authority.{Authority, MayBeRegistered}
 use Rattle.access_history.specs.Base.{BaseView}
+use Rattle.access_history.specs.Books.{whole_book}
 use Rattle.access_history.specs.Citing.{IsGoodIssue, StandsUnderNumber}
 use Rattle.access_history.specs.Replay.{replay}
 use Rattle.access_history.specs.Lawful.{AreLawful, IsLawful, IsLawfulBase, MayAct, MayFollow, no_event, one_more}
 use Rattle.access_history.proofs.AdmissionLemmas.{AreDerived-admitted}
+use Rattle.access_history.proofs.CitingLemmas.{all_cited, statements_in-whole}
 use Rattle.access_history.proofs.LawfulLemmas.{IsLawfulBase-lawful}
-use Rattle.access_history.proofs.ListLemmas.{AllByRecursion-contains, AllByRecursion-parts, Contains-cons_cases}
-use Rattle.access_history.proofs.NumberedLemmas.{Contains-numbered, first_failing, none_fails}
-use Rattle.op_gate.specs.Damage.{IsNewAmong, TakesEffect}
+use Rattle.access_history.proofs.ListLemmas.{AllByRecursion-parts, Contains-cons_cases}
+use Rattle.access_history.proofs.NumberedLemmas.{first_failing, none_fails}
+use Rattle.op_gate.specs.Damage.{TakesEffect}
 use Rattle.op_gate.specs.DamageLaws.{IsTypedEvent}
 use Rattle.pcfs_audit.specs.declared.report.Finding.{Finding}
 use Rattle.pcfs_audit.specs.declared.report.Finding.TheVariants.{Unsigned, Unproved, NotAdmitted, MomentFalls, Unissued}
@@ -138,12 +140,12 @@ one_report authority base events first second is is' =
 sound_next : (authority : Authority) (state : BaseView) (event : Event) → MayFollow authority state event → IsSound authority state event
 sound_next authority state (Registered pass statement signature) may =
     let follows : MayBeRegistered authority state.statements statement signature = may in
-    ((follows.signed, record { new = follows.new; room = follows.room }), (tt, (tt, ((tt, tt), tt))))
+    ((follows.signed, follows.can), (tt, (tt, ((tt, tt), tt))))
 sound_next authority state (Issued pass cited proof g) may = ((tt, tt), (may, (tt, ((tt, tt), tt))))
 sound_next authority state (Acted pass caller op procaps moment) may =
     let follows : MayAct authority state caller op procaps moment = may in
     let takes : TakesEffect authority.key state caller op procaps moment =
-    record { slots = follows.formed.slots; few_bytes = follows.formed.few_bytes; admitted = follows.admitted; not_refused = follows.not_refused } in
+    record { brought = follows.formed.brought; admitted = follows.admitted; not_refused = follows.not_refused } in
     ((tt, tt), (tt, (follows.not_before, ((follows.in_range, takes), tt))))
 
 -- each event of a lawful history could come where it came
@@ -176,15 +178,14 @@ unissued_rows_only authority base events report lawful is row here =
 -- a sound event may come next over a lawful state
 next_sound : (authority : Authority) (state : BaseView) (event : Event) → IsLawfulBase authority state → IsTypedEvent event → IsSound authority state event → MayFollow authority state event
 next_sound authority state (Registered pass statement signature) base typed sound =
-    let new : IsNewAmong state.statements statement = sound.0.1 in
-    record { statement = typed; signed = sound.0.0; new = new.new; room = new.room }
+    record { statement = typed; signed = sound.0.0; can = sound.0.1 }
 next_sound authority state (Issued pass cited proof g) base typed sound = sound.1.0
 next_sound authority state (Acted pass caller op procaps moment) base typed sound =
     let takes : TakesEffect authority.key state caller op procaps moment = sound.1.1.1.0.1 in
     record {
       not_before = sound.1.1.0;
       in_range = sound.1.1.1.0.0;
-      formed = record { named = typed.0; operation = typed.1; slots = takes.slots; few_bytes = takes.few_bytes };
+      formed = record { named = typed.0; operation = typed.1; brought = takes.brought };
       admitted = takes.admitted;
       not_refused = takes.not_refused;
       derived = AreDerived-admitted authority.key state caller op procaps moment base.good_issues takes.admitted;
@@ -219,21 +220,23 @@ module _ (authority : Authority) (base : BaseView) (events : List Event) (report
 
 -- ---- issues by their verdict
 
-cited_formed : (statements : List StatementView) (cites : List Cite) → AllByRecursion IsStatement statements → AllByRecursion (StandsUnderNumber statements) cites → AllByRecursion IsStatement (statements_of cites)
-cited_formed statements [] formed stand = tt
-cited_formed statements (cite ∷ cites) formed stand =
-    (AllByRecursion-contains IsStatement statements cite.statement formed (Contains-numbered statements cite.number cite.statement stand.0), cited_formed statements cites formed stand.1)
+cited_formed : (statements : List StatementView) (cites : List Cite) → AllByRecursion IsStatement statements → AllByRecursion (StandsUnderNumber (whole_book statements)) cites → AllByRecursion IsStatement (statements_of cites)
+cited_formed statements cites formed stand = all_cited IsStatement (whole_book statements) cites (subst (AllByRecursion IsStatement) (sym (statements_in-whole statements)) formed) stand
 
 -- an issue is good exactly if its numbers and its verdict are right
 pub good_by_verdict : (statements : List StatementView) (issue : Issue) → AllByRecursion IsStatement statements → IsKeptProof issue.proof → IsGoodIssue statements issue ↔ HasVerdict statements issue
 good_by_verdict statements issue formed kept = (
-  λ good. record { cites = good.cites; cited = good.cited; rising = good.rising; stand = good.stand; verdict_is = good.granted.verdict_is },
+  λ good. record { cites = good.cites; cited = good.cited; rising = good.rising; stand = good.stand; proved = good.granted.proved; verdict_is = good.granted.granted.verdict_is; form = good.granted.form },
   λ has.
       record {
         cites = has.cites;
         cited = has.cited;
         rising = has.rising;
         stand = has.stand;
-        granted = granted has.cites has.cites refl issue.grant.goal issue.proof issue.grant has.verdict_is (cited_formed statements has.cites formed has.stand) kept;
+        granted = record {
+          proved = has.proved;
+          granted = granted has.cites has.cites refl issue.grant.goal issue.proof has.proved has.verdict_is (cited_formed statements has.cites formed has.stand) kept;
+          form = has.form;
+        };
       },
 )

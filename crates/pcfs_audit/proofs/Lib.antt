@@ -2,7 +2,6 @@ pub mod CitesLemmas
 pub mod CredentialLemmas
 pub mod FirstsLemmas
 pub mod FollowingLemmas
-pub mod GateLemmas
 pub mod LawLemmas
 pub mod PapersLemmas
 pub mod ReferenceLemmas

@@ -5,11 +5,12 @@ use Rattle.bl_syntax.specs.Statement.{StatementView}
 use Rattle.proof_term.specs.Proof.{ProofView}
 use Rattle.proof_verifier.specs.Cited.{AreCited}
 use Rattle.proof_verifier.specs.declared.cites.Cite.{Cite}
+use Rattle.access_history.specs.Books.{whole_book}
 use Rattle.access_history.specs.Citing.{AreFound, IsGoodIssue}
 
 -- they are the statements of these numbers, and can be cited
 pub record AreTheirs (statements : List StatementView) (numbers : List ℕ) (cites : List Cite) : Type 0 where
-  pub found : AreFound statements numbers cites
+  pub found : AreFound (whole_book statements) numbers cites
   pub cited : AreCited cites
 
 -- no good issue cites these numbers

@@ -6,18 +6,17 @@ use Rattle.procap.specs.Genuine.{IsGenuine}
 use Rattle.procap.specs.declared.procap.Procap.{Procap}
 use Rattle.access_history.specs.declared.event.Event.{Event}
 use Rattle.access_history.specs.declared.event.Event.TheVariants.{Registered, Issued, Acted}
-use Rattle.access_history.specs.Authority.{Authority, IsSignedStatement, sayings}
+use Rattle.access_history.specs.Authority.{Authority, CanRegister, IsSignedStatement, sayings}
 use Rattle.access_history.specs.Base.{BaseView}
-use Rattle.access_history.specs.Citing.{IsGoodIssue}
+use Rattle.access_history.specs.Citing.{MayBeIssued}
 use Rattle.access_history.specs.Replay.{replay}
-use Rattle.op_gate.specs.Damage.{IsNewAmong}
 use Rattle.pcfs_audit.specs.declared.credentials.Credentials.{Credentials}
 use Rattle.pcfs_audit.specs.Finding.{IsByIssues}
 
--- a statement is signed, new, and has room; an issue is good; the procaps of an operation are sealed under the key
+-- a statement is signed, new, and has room; an issue may be issued; the procaps of an operation are sealed under the key
 abbrev pub IsGenuineEvent : Authority → BaseView → Event → Type 0
-IsGenuineEvent authority state (Registered pass statement signature) = IsSignedStatement authority statement signature × IsNewAmong state.statements statement
-IsGenuineEvent authority state (Issued pass cited proof g) = IsGoodIssue (sayings state.statements) (record { cited = cited; proof = proof; grant = g })
+IsGenuineEvent authority state (Registered pass statement signature) = IsSignedStatement authority statement signature × CanRegister (sayings state.statements) statement
+IsGenuineEvent authority state (Issued pass cited proof g) = MayBeIssued state (record { cited = cited; proof = proof; grant = g })
 IsGenuineEvent authority state (Acted pass caller op procaps moment) = AllByRecursion (IsGenuine authority.key) procaps
 
 -- the grant of the procap is one of these

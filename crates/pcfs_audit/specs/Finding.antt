@@ -5,7 +5,7 @@ use Rattle.bl_syntax.specs.FirstFailing.{IsFirstFailing}
 use Rattle.procap.specs.declared.procap.Procap.{Procap}
 use Rattle.access_history.specs.declared.event.Issue.{Issue}
 use Rattle.access_history.specs.declared.event.Event.{Event}
-use Rattle.access_history.specs.declared.event.Event.TheVariants.{Registered, Issued, Acted}
+use Rattle.access_history.specs.declared.event.Event.TheVariants.{Acted}
 use Rattle.access_history.specs.Authority.{Authority}
 use Rattle.access_history.specs.Base.{BaseView}
 use Rattle.access_history.specs.Keeping.{HasMomentInRange}
@@ -20,14 +20,13 @@ WereIssued issues procaps = AllByRecursion (λ (p : Procap). WasIssued issues p.
 
 -- the grants by which an operation was admitted were issued before it
 abbrev pub IsByIssues : BaseView → Event → Type 0
-IsByIssues state (Registered pass statement signature) = Unit {0}
-IsByIssues state (Issued pass cited proof g) = Unit {0}
 IsByIssues state (Acted pass caller op procaps moment) = WereIssued state.issues procaps
+IsByIssues state _ = Unit {0}
 
 -- The event passes the test whose failure is found under that name; it passes each test that does not concern it. A statement is signed, new, and has room; an issue is good; an operation is not before the last one; its moment
 -- lies in the range, it brings what it has to, was admitted and not refused; and its grants were issued.
 abbrev pub IsClearOf : Authority → BaseView → Event → Finding → Type 0
-IsClearOf authority state event Unsigned = IsSigned authority event × IsNew state event
+IsClearOf authority state event Unsigned = IsSigned authority state event × IsNew state event
 IsClearOf authority state event Unproved = IsProved state event
 IsClearOf authority state event NotAdmitted = HasMomentInRange event × IsEffective authority state event
 IsClearOf authority state event MomentFalls = IsNotBefore state event

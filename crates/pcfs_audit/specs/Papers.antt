@@ -1,8 +1,7 @@
 -- The papers of a history: its statements and the grants that were issued, and how many of each there were before each event (this project's own).
-use Rattle.std.specs.Prelude.{◌≡◌, ◌<◌, List, [], ◌∷◌, map, length, Contains}
+use Rattle.std.specs.Prelude.{◌≡◌, List, [], ◌∷◌, map, length}
 use Rattle.std.specs.Borrow.{Bor}
 use Rattle.bl_syntax.specs.Grant.{GrantView}
-use Rattle.bl_syntax.specs.Statement.{StatementView}
 use Rattle.access_history.specs.declared.event.Issue.{Issue}
 use Rattle.access_history.specs.declared.event.Event.{Event}
 use Rattle.access_history.specs.Authority.{sayings}
@@ -33,8 +32,3 @@ pub record ArePapers (base : BaseView) (events : List Event) (papers : Papers) :
   pub statements_are : shown papers.statements.items ≡ sayings (replay base events).statements
   pub grants_are : shown papers.grants.items ≡ grants_in (replay base events).issues
   pub before_are : papers.before.items ≡ counts_before base events
-
--- the statement may be added to these: none is equal to it, and there is room
-pub record IsNewAfter (said : List StatementView) (statement : StatementView) : Type 0 where
-  pub new : Contains said statement → ⊥
-  pub room : length said < 4096

@@ -13,13 +13,10 @@ ghost use Rattle.pcfs_audit.specs.Taking.{IsBrought, TakesPlace};
 use bl_syntax::{Goal, Grant, NoMemory, Principal, is_moment};
 use condition_set::{first_failing_state, first_failing_time};
 use file_world::{Op, OpFault};
-use op_gate::{bytes_to_write, slots};
+use op_gate::brings_enough;
 use procap::{Procap, SealKey};
 use std::alloc::Global;
 use world_state::World;
-
-/// The most bytes that an operation brings to be written.
-const MOST_BYTES: usize = 65536;
 
 // Whether the seal of the procap is right. It is not tested if that is known.
 fn is_right(key: &SealKey, is_sealed: bool, procap: &Procap) -> bool
@@ -105,14 +102,14 @@ pub fn is_admitted(
     true
 }
 
-/// Whether an operation has a moment of the range, one procap for each slot, and at most 65,536 bytes to write.
+/// Whether an operation has a moment of the range, and brings what it has to.
 pub fn is_brought(op: &Op, procaps: &[Procap], moment: i64) -> bool
     ensures { IsTrue result ↔ IsBrought op.now procaps.now moment }
 {
     if !is_moment(moment) {
         return false;
     }
-    procaps.len() == slots(op) && bytes_to_write(op) <= MOST_BYTES
+    brings_enough(op, procaps)
 }
 
 /// Makes the change of the caller's operation unless it is refused, and tells whether it was made.

@@ -8,14 +8,13 @@ ghost use Rattle.pcfs_audit.specs.Papers.{shown};
 use crate::dossier::Dossier;
 use crate::firsts::first_place;
 use bl_syntax::Grant;
-use op_gate::is_same_grant;
 
 // Whether the grant is one of these.
 fn is_among(grants: &[&Grant], grant: &Grant) -> bool
     ensures { IsTrue result ↔ Contains (shown grants.now) grant.now }
 {
     for other in grants {
-        if is_same_grant(*other, grant) {
+        if other.is_same(grant) {
             return true;
         }
     }
@@ -37,7 +36,7 @@ pub fn was_issued(dossier: &Dossier, earlier: usize, digest: u64, grant: &Grant)
         return false;
     }
     let grants = dossier.papers.grants.as_slice();
-    if is_same_grant(grants[first], grant) {
+    if grants[first].is_same(grant) {
         return true;
     }
     is_among(&grants[..earlier], grant)

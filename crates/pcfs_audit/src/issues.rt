@@ -1,20 +1,15 @@
 //! Issues that are good: the statements that they cite are there, and their grant is the verdict on their proof.
 
 ghost use Rattle.std.specs.Prelude.{◌≡◌, ◌↔◌, IfOk, IsTrue, MatchOption};
-ghost use Rattle.access_history.specs.Citing.{IsGoodIssue};
-ghost use Rattle.proof_verifier.specs.Cited.{statements_of};
-ghost use Rattle.proof_verifier.specs.CheckedView.{IsGranted};
+ghost use Rattle.proof_verifier.specs.Cited.{AreCited};
+ghost use Rattle.access_history.specs.Citing.{IsGoodIssue, IsGrantedFrom};
 ghost use Rattle.pcfs_audit.specs.Cites.{AreTheirs, HasNoIssue};
 ghost use Rattle.pcfs_audit.specs.Papers.{shown};
 
-use bl_syntax::{Grant, NoMemory, Statement};
-use op_gate::is_same_grant;
+use bl_syntax::{Grant, NoMemory, Statement, are_citable};
 use proof_term::ProofTree;
 use proof_verifier::{CheckFault, Cite, Cites, verdict};
 use std::alloc::Global;
-
-/// The most statements that an issue cites.
-const MOST_CITED: usize = 64;
 
 // The statements of these numbers; none if no good issue cites them.
 fn cite(
@@ -24,7 +19,7 @@ fn cite(
 ) -> Result<Option<Cites>, NoMemory>
     ensures { IfOk result (λ cited. MatchOption cited (HasNoIssue (shown statements.now) numbers.now) (AreTheirs (shown statements.now) numbers.now)) }
 {
-    if MOST_CITED < numbers.len() {
+    if !are_citable(numbers) {
         return Ok(None);
     }
     let mut cites = Vec::new(alloc);
@@ -37,7 +32,7 @@ fn cite(
             statement: statements[*number as usize - 1].copy(alloc)?,
         })?;
     }
-    Ok(Cites::new(cites))
+    Ok(Some(Cites::new(cites)))
 }
 
 // Whether the proof was not checked for lack of memory.
@@ -57,11 +52,12 @@ fn is_granted(
     proof: &ProofTree,
     grant: &Grant,
 ) -> Result<bool, NoMemory>
-    ensures { IfOk result (λ granted. IsTrue granted ↔ IsGranted (statements_of cites.now) grant.now.goal proof.now grant.now) }
+    requires { AreCited cites.now }
+    ensures { IfOk result (λ granted. IsTrue granted ↔ IsGrantedFrom cites.now proof.now grant.now) }
 {
     let goal = grant.goal();
     match verdict(alloc, cites, &goal, proof) {
-        Ok(granted) => Ok(is_same_grant(&granted, grant)),
+        Ok(granted) => Ok(granted.is_same(grant)),
         Err(fault) => {
             if is_without_memory(fault) {
                 return Err(NoMemory);

@@ -5,18 +5,17 @@ ghost use Rattle.policy_statement.specs.Digest.{digest_of};
 ghost use Rattle.policy_statement.specs.Messages.{statement_message};
 ghost use Rattle.pcfs_audit.specs.Dossier.{IsDossier};
 ghost use Rattle.pcfs_audit.specs.Firsts.{AreFirsts};
-ghost use Rattle.pcfs_audit.specs.Papers.{IsNewAfter, shown};
+ghost use Rattle.access_history.specs.Authority.{CanRegister};
+ghost use Rattle.pcfs_audit.specs.Papers.{shown};
 
 use crate::dossier::Dossier;
 use crate::firsts::{Firsts, first_place};
+use bl_syntax::limits::MOST_STATEMENTS;
 use bl_syntax::{NoMemory, Statement};
 use pcfs_ports::Signatures;
 use policy_statement::digest::digest;
 use policy_statement::statement_message;
 use std::alloc::Global;
-
-/// The most statements that are registered.
-const MOST_STATEMENTS: usize = 4096;
 
 // Whether the statement is one of these.
 fn is_among(statements: &[&Statement], statement: &Statement) -> bool
@@ -61,7 +60,7 @@ pub fn could_be_registered<S: Signatures>(
 ) -> Result<bool, NoMemory>
     requires dossier { IsDossier dossier.now }
     requires within { earlier ≤ length dossier.now.papers.statements.items }
-    ensures { IfOk result (λ could. IsTrue could ↔ (IsTrue (S.Signatures.accepted ring.now statement.now.who (statement_message statement.now) signature.now) × IsNewAfter (take earlier (shown dossier.now.papers.statements.items)) statement.now)) }
+    ensures { IfOk result (λ could. IsTrue could ↔ (IsTrue (S.Signatures.accepted ring.now statement.now.who (statement_message statement.now) signature.now) × CanRegister (take earlier (shown dossier.now.papers.statements.items)) statement.now)) }
 {
     let message = statement_message(alloc, statement)?;
     if !ring.accepts(statement.who().bytes(), message.as_slice(), signature) {

@@ -31,7 +31,7 @@ use Rattle.line_text.specs.Lines.{lines_of}
 use Rattle.pcfs_inquiry.specs.declared.reading.InquiryFault.TheVariants as faults
 use Rattle.pcfs_inquiry.specs.Answers.{HasLongLine}
 use Rattle.pcfs_inquiry.specs.Inquiry.{AreSaid, HasFirstFault, IsBadAfter, IsOutOfPlace, SaysStatement, after_goal, early_goal, faulty, in_line, late_statement, no_goal, numbered_from}
-use Rattle.pcfs_inquiry.specs.Reading.{IsAskedAfter, IsEnding, IsUnread, IsUnreadAfter, fault_at}
+use Rattle.pcfs_inquiry.specs.Reading.{IsAskedAfter, IsEnding, IsRead, IsUnread, IsUnreadAfter, fault_at}
 
 -- ---- statements by their numbers
 
@@ -227,11 +227,6 @@ IsEnding-next lines cites rest line others goal proof is next asked_for = record
   asked_after = subst (λ (n : ℕ). IsAskedAfter n line (asked.Goal goal proof)) (counted lines cites rest is) asked_for;
 }
 
-pub AreCited-next : (lines : List (List ℕ)) (cites : List Cite) (rest line : List ℕ) (goal : Goal) (proof : ProofView) → IsReading lines cites rest → IsAskedAfter (length cites) line (asked.Goal goal proof) → AreCited cites
-AreCited-next lines cites rest line goal proof is asked_for =
-    let count : length cites ≡ length is.statements = ap length is.cites_are ∙ length-numbered 1 is.statements in
-    subst AreCited (sym is.cites_are) (AreCited-numbered is.statements (omega (arith, count, goal_some (length cites) line goal proof asked_for)) is.few)
-
 -- a line is wrong
 bad_next : (lines : List (List ℕ)) (cites : List Cite) (rest line others : List ℕ) (fault : LineFault) → IsReading lines cites rest → lines_of rest ≡ line ∷ lines_of others → IsBadAfter (length cites) line fault → HasFirstFault lines (length cites + 1) fault
 bad_next lines cites rest line others fault is next bad =
@@ -297,6 +292,25 @@ after_goal_bad lines cites goal proof others next rest is others_are =
     let few : length is.said ≤ 64 = omega (arith, is.few, same) in
     subst (λ (n : ℕ). HasFirstFault lines (n + 2) (BadWord 0)) (sym count)
     (after_goal is.said is.statements is.last next rest goal proof (is.parts ∙ ap (λ (os : List (List ℕ)). is.said ++ is.last ∷ os) others_are) is.are_said (goal_some (length is.said) is.last goal proof is.asked_after) few is.asked_after.asks)
+
+-- nothing comes after the goal
+pub goal_read : (lines : List (List ℕ)) (cites kept : List Cite) (goal : Goal) (proof : ProofView) (rest : List ℕ) → IsEnding lines cites goal proof (lines_of rest) → rest ≡ [] → kept ≡ cites → IsRead lines (record { cites = kept; goal = goal; proof = proof })
+goal_read lines cites kept goal proof rest is none same =
+    let some : 1 ≤ length is.said = goal_some (length is.said) is.last goal proof is.asked_after in
+    let count : length is.said ≡ length is.statements = length-said is.said is.statements is.are_said in
+    record {
+      statements = is.statements;
+      cites_are = same ∙ is.cites_are;
+      is_inquiry = record {
+        said = is.said;
+        last = is.last;
+        parts = is.parts ∙ ap (λ (bytes : List ℕ). is.said ++ is.last ∷ lines_of bytes) none;
+        are_said = is.are_said;
+        some = omega (arith, some, count);
+        few = is.few;
+        asks = is.asked_after.asks;
+      };
+    }
 
 -- ---- how it ends
 

@@ -3,7 +3,7 @@
 ghost use Rattle.std.specs.Prelude.{◌≡◌, ◌≢◌, ◌↔◌, ◌++◌, ◌∷◌, [], ℕ, List, IfOk, IsTrue, OnErr, OnOk};
 ghost use Rattle.bl_syntax.specs.BeginsWith.{BeginsWith};
 ghost use Rattle.line_text.specs.Lines.{lines_of};
-ghost use Rattle.proof_verifier.specs.Cited.{statements_of};
+ghost use Rattle.proof_verifier.specs.Cited.{AreCited, statements_of};
 ghost use Rattle.proof_verifier.specs.Verdict.{verdict};
 ghost use Rattle.pcfs_inquiry.specs.Answers.{HasLongLine, InquiryEnds, bad_line_text, line_fault_text, text_fault_text, verdict_text};
 
@@ -121,6 +121,7 @@ fn refused_line(alloc: Global, fault: CheckFault) -> Result<Bytes, NoMemory>
 
 // The answer to an inquiry.
 fn answer(alloc: Global, inquiry: &Inquiry) -> Result<Bytes, NoMemory>
+    requires { AreCited inquiry.now.cites }
     ensures { IfOk result (λ line. line ≡ verdict_text (verdict (statements_of inquiry.now.cites) inquiry.now.goal inquiry.now.proof) ++ 10 ∷ []) }
 {
     match verdict(alloc, &inquiry.cites, &inquiry.goal, &inquiry.proof) {

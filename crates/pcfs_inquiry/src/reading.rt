@@ -2,7 +2,6 @@
 
 ghost use Rattle.std.specs.Prelude.{◌≡◌, ◌↔◌, ℕ, List, IsTrue, MatchResult};
 ghost use Rattle.line_text.specs.Lines.{lines_of};
-ghost use Rattle.proof_verifier.specs.Cited.{AreCited};
 ghost use Rattle.pcfs_inquiry.specs.Inquiry.{IsOutOfPlace};
 ghost use Rattle.pcfs_inquiry.specs.Reading.{IsAskedAfter, IsEnding, IsRead, IsUnread, IsUnreadAfter, fault_at};
 ghost use Rattle.pcfs_inquiry.specs.declared.reading.InquiryFault.TheVariants.{NoMemory as OutOfMemory};
@@ -81,13 +80,12 @@ fn with_goal(
     proof: ProofTree,
     others: &[u8],
 ) -> Result<Inquiry, InquiryFault>
-    requires { AreCited cites.items }
     ensures { (lines : List (List ℕ)) → IsEnding lines cites.items goal proof (lines_of others.now) → MatchResult result (IsRead lines) (IsUnread lines) }
 {
     match first_line(others) {
         Some(_) => Err(InquiryFault::Bad(cites.as_slice().len() + 2, LineFault::BadWord(0))),
         None => {
-            let cites = Cites::new(cites).unwrap();
+            let cites = Cites::new(cites);
             Ok(Inquiry { cites, goal, proof })
         }
     }

@@ -1,5 +1,8 @@
 //! Rows that call the crates below directly, for what no line shows: written texts, and values that have no text.
 
+ghost use Rattle.std.specs.Prelude.{IfOk, IfSome};
+ghost use Rattle.proof_verifier.specs.Cited.{AreCited};
+
 use crate::asked::add_read;
 use crate::short_form::{RowFault, parts_at};
 use bl_codec::{read_formula, read_statement};
@@ -97,15 +100,24 @@ fn add_written(alloc: Global, word: &str, out: &mut Bytes) -> Result<(), RowFaul
 }
 
 // The statement alone, cited as number 1.
-fn cited_statements(alloc: Global, statement: Statement) -> Option<Cites> {
+fn cited_statements(alloc: Global, statement: Statement) -> Option<Cites>
+    ensures { IfSome result AreCited }
+{
     let mut cites = Vec::new(alloc);
     match cites.push(Cite {
         number: 1,
         statement,
     }) {
-        Ok(()) => Cites::new(cites),
+        Ok(()) => citable(Cites::new(cites)),
         Err(_) => None,
     }
+}
+
+// The same, if a proof may be checked from them.
+fn citable(cites: Cites) -> Option<Cites>
+    ensures { IfSome result AreCited }
+{
+    if cites.are_cited() { Some(cites) } else { None }
 }
 
 // Adds the fault of a proof.
@@ -123,7 +135,9 @@ fn add_verified(
     goal: &Goal,
     proof: &ProofTree,
     out: &mut Bytes,
-) -> Result<(), RowFault> {
+) -> Result<(), RowFault>
+    requires { AreCited cites.now }
+{
     match verdict(alloc, cites, goal, proof) {
         Ok(grant) => value_end(write_reply(alloc, out, &LineReply::Checked(grant))),
         Err(fault) => add_refused(alloc, fault, out),
@@ -160,7 +174,9 @@ fn add_checked(
     goal: &Goal,
     proof: &ProofTree,
     out: &mut Bytes,
-) -> Result<(), RowFault> {
+) -> Result<(), RowFault>
+    requires { AreCited cites.now }
+{
     match check(alloc, cites, goal, proof) {
         Ok(checked) => add_copied(alloc, &checked, out),
         Err(fault) => add_refused(alloc, fault, out),
@@ -174,7 +190,9 @@ fn add_both(
     goal: &Goal,
     proof: &ProofTree,
     out: &mut Bytes,
-) -> Result<(), RowFault> {
+) -> Result<(), RowFault>
+    requires { AreCited cites.now }
+{
     match add_verified(alloc, cites, goal, proof, out) {
         Ok(()) => add_checked(alloc, cites, goal, proof, out),
         Err(fault) => Err(fault),
@@ -182,10 +200,15 @@ fn add_both(
 }
 
 // The statement of these bytes, cited as number 1.
-fn cites_of(alloc: Global, word: &str) -> Result<Cites, RowFault> {
+fn cites_of(alloc: Global, word: &str) -> Result<Cites, RowFault>
+    ensures { IfOk result AreCited }
+{
     let bytes = bytes_of(alloc, word)?;
     match read_statement(alloc, bytes.as_slice()) {
-        Ok((statement, _)) => cited_statements(alloc, statement).ok_or(RowFault::NoMemory),
+        Ok((statement, _)) => match cited_statements(alloc, statement) {
+            Some(cites) => Ok(cites),
+            None => Err(RowFault::NoMemory),
+        },
         Err(_) => Err(RowFault::BadRow),
     }
 }

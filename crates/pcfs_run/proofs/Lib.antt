@@ -3,3 +3,4 @@ pub mod SentLemmas
 pub mod ServedLemmas
 pub mod WordsLemmas
 pub mod UnsaidLemmas
+pub mod HealthyLemmas

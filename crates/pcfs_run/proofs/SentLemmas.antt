@@ -92,7 +92,8 @@ gate_send = search (sendable, crosses, history_send, pending_send) depth 100 fit
 checkpoint_send : IsSend Checkpoint.the_row
 checkpoint_send = search (sendable, crosses) depth 100 fits 20000
 
--- each field in the order of the struct: the area, the other disk, which is the second, the generation, the gate, the checkpoints, the stop
+-- each field in the order of the struct: the area, the other disk, which is the second, the generation, the image that was read, the gate, the
+-- checkpoints, the stop
 store_inside : (D : RattleType) (g : Disk.Ghosts D.Denot) → IsSend D → IsSend (inside.the_row D g)
 store_inside D g send = declared_send (inside.the_type D g) (
   search (sendable, as_row_send, crosses, area.the_send, send) depth 100 fits 20000,
@@ -103,10 +104,13 @@ store_inside D g send = declared_send (inside.the_type D g) (
       (
         search (sendable, as_row_send, crosses) depth 100 fits 20000,
         (
-          search (sendable, crosses, gate_send) depth 100 fits 20000,
+          search (sendable, as_row_send, crosses) depth 100 fits 20000,
           (
-            Vec-send Checkpoint.the_row checkpoint_send,
-            (search (sendable, as_row_send, crosses) depth 100 fits 20000, tt),
+            search (sendable, crosses, gate_send) depth 100 fits 20000,
+            (
+              Vec-send Checkpoint.the_row checkpoint_send,
+              (search (sendable, as_row_send, crosses) depth 100 fits 20000, tt),
+            ),
           ),
         ),
       ),

@@ -2,7 +2,6 @@
 use Rattle.std.proofs.Common.{◌≡◌, ◌∙◌, ◌⊎◌, inl, inr, ℕ, ◌+◌, ◌≤◌, List, [], ◌∷◌, ◌++◌, ◌-◌, length, take, drop, append_assoc, append-nil, map, Bool, true, false, Option, Some, None, codes, decimal, refl, sym, ap, subst, arith, add-zero}
 use Rattle.pcfs_ports.specs.Accepted.{FallsBy}
 use Rattle.pcfs_ports.specs.Faults.{HasRisen}
-use Rattle.checkpoint_image.specs.ImageSpelling.{image_spelling}
 use Rattle.access_history.specs.Answer.{Answers}
 use Rattle.access_history.specs.Base.{BaseView}
 use Rattle.access_history.specs.History.{authority_with}
@@ -23,7 +22,7 @@ use Rattle.pcfs_store.specs.declared.checkpoints.Checkpoint.{Checkpoint}
 use Rattle.pcfs_store.specs.Newest.{SurvivesWholeClosed, one_of}
 use Rattle.pcfs_store.specs.Ready.{SurvivesWithOrWithout}
 use Rattle.pcfs_store.specs.StoredHistory.{state_after}
-use Rattle.pcfs_store.specs.StoreView.{StoreView, IsStore, first_disk, second_disk, head_of, last_after, records_of}
+use Rattle.pcfs_store.specs.StoreView.{StoreView, IsStore, first_disk, second_disk, head_of, image_since, image_of, last_after, records_of}
 use Rattle.pcfs_store.proofs.EntryLemmas.{events-entries, generation-entries}
 use Rattle.recover.specs.declared.fault.OpenFault.{OpenFault}
 use Rattle.recover.specs.declared.fault.OpenFault.TheVariants as opens
@@ -180,16 +179,16 @@ module _ {D : Type 0} (sources : SessionSources) (clock : D → ℕ) (left_since
 
     -- the root of the store is that of the run
     abbrev root_with : List ℕ → List KeyView → ℕ → Root
-    root_with key ring generation = record { base = s.base; key = key; ring = ring; generation = generation; image_length = length (image_spelling s.base) }
+    root_with key ring generation = record { base = s.base; key = key; ring = ring; generation = generation; image_length = length s.opened }
 
-    root_is : root_of s ≡ root_under secrets s.generation s.base
+    root_is : root_of s ≡ root_under secrets s.generation s.opened s.base
     root_is =
         let none : length s.checkpoints ≡ 0 = ap length opened.unsettled in
         let first : s.generation - length s.checkpoints ≡ s.generation = omega (arith, none) in
         ap (λ (key : List ℕ). root_with key s.ring (s.generation - length s.checkpoints)) opened.key_is ∙ ap (λ (ring : List KeyView). root_with secrets.seal_key ring (s.generation - length s.checkpoints)) opened.ring_is
         ∙ ap (root_with secrets.seal_key secrets.ring) first
 
-    added_of_passes : (attended count : ℕ) (grown : IsGrown sources attended count s s') → AreOfPasses sources (root_under secrets s.generation s.base) (map happened s.events) attended count grown.added
+    added_of_passes : (attended count : ℕ) (grown : IsGrown sources attended count s s') → AreOfPasses sources (root_under secrets s.generation s.opened s.base) (map happened s.events) attended count grown.added
     added_of_passes attended count grown =
         subst (λ (root : Root). AreOfPasses sources root (map happened s.events) attended count grown.added) root_is
         (subst (λ (first : List StoreEntry). AreOfPasses sources (root_of s) first attended count grown.added) (entries_opened s opened.unsettled opened.running) grown.of_passes)
@@ -225,6 +224,7 @@ module _ {D : Type 0} (sources : SessionSources) (clock : D → ℕ) (left_since
         IsServed sources secrets (rests_of clock left_since image faults a b (first_disk s') (second_disk s')) (disks_of clock left_since image faults a b) (disks_of clock left_since image faults (first_disk s') (second_disk s')) attended count stop
     is_served attended count stop is grown = record {
       generation = s.generation;
+      image = s.opened;
       base = s.base;
       opened = s.events;
       added = grown.added;
@@ -247,8 +247,9 @@ module _ {D : Type 0} (sources : SessionSources) (clock : D → ℕ) (left_since
           let ready = goes.ready (opened.ready x y is_x is_y gate) (is ∙ runs) in (
             pinned_at clock left_since image faults s' (first_disk s') (second_disk s') refl refl ready,
             λ x' y' is_x' is_y'.
-                under (λ key ring base. IsNewestClosed (s.generation + length s'.checkpoints) (state_after base s'.events (last_after 0 s'.checkpoints)) (records_of s') x' y')
-                (subst (λ (n : ℕ). IsNewestClosed n (head_of s') (records_of s') x' y') generation_is (closed_of clock left_since image faults s' store' ready x' y' is_x' is_y')),
+                under (λ key ring base. IsNewestClosed (s.generation + length s'.checkpoints) (image_since s.opened (state_after base s'.events (last_after 0 s'.checkpoints)) s'.checkpoints) (records_of s') x' y')
+                (subst (λ (found : List ℕ). IsNewestClosed (s.generation + length s'.checkpoints) (image_since found (head_of s') s'.checkpoints) (records_of s') x' y') goes.opened_stays
+                (subst (λ (n : ℕ). IsNewestClosed n (image_of s') (records_of s') x' y') generation_is (closed_of clock left_since image faults s' store' ready x' y' is_x' is_y'))),
           );
       place = λ runs x y is_x is_y second counts x' y' is_x' is_y'.
           let now = counts_now clock left_since image faults s store (opened.current x y is_x is_y) x y (opened.first_read.same ∙ is_x) (opened.second_read.same ∙ is_y) in

@@ -2,3 +2,4 @@ pub mod Passes
 pub mod ServeWords
 pub mod Served
 pub mod Laws
+pub mod Healthy

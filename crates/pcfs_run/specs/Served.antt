@@ -3,7 +3,6 @@ use Rattle.std.specs.Prelude.{◌≡◌, ◌⊎◌, ℕ, ℤ, ◌+◌, List, [],
 use Rattle.std.specs.Fmt.{decimal}
 use Rattle.std.specs.declared.alloc.Global.{Global}
 use Rattle.bl_syntax.specs.TimeOrder.{IsMoment}
-use Rattle.checkpoint_image.specs.ImageSpelling.{image_spelling}
 use Rattle.pcfs_ports.specs.Faults.{HasRisen}
 use Rattle.pcfs_ports.specs.Told.{with_back, HoldsSome}
 use Rattle.journal_core.specs.Area.{generation_of}
@@ -27,7 +26,7 @@ use Rattle.pcfs_store.specs.declared.checkpoints.Checkpoint.{Checkpoint}
 use Rattle.pcfs_store.specs.Entries.{Root, StoreEntry, happened, stop_entries, merged, checkpoints_among, events_among}
 use Rattle.pcfs_store.specs.Checkpoints.{place_after}
 use Rattle.pcfs_store.specs.StoredHistory.{state_after}
-use Rattle.pcfs_store.specs.StoreView.{AreInOrder, last_after}
+use Rattle.pcfs_store.specs.StoreView.{AreInOrder, image_since, last_after}
 use Rattle.pcfs_store.specs.Newest.{SurvivesWholeClosed, newer, one_of}
 use Rattle.pcfs_store.specs.Ready.{SurvivesWithOrWithout}
 use Rattle.recover.specs.Opening.{IsNewestHistory, IsNewestDamaged, IsNewestClosed}
@@ -72,9 +71,9 @@ pub record IsMet (secrets : Secrets) (base : BaseView) (events : List Event) (pa
   pub answers : Answers (authority_under secrets) (replay base events) pass moment request reply (Some met)
   pub lawful : IsLawful (authority_under secrets) base (events ++ met ∷ [])
 
--- what a store was opened with under the secrets: an area of this generation, which begins with the image of this base
-abbrev pub root_under : Secrets → ℕ → BaseView → Root
-root_under secrets generation base = record { base = base; key = secrets.seal_key; ring = secrets.ring; generation = generation; image_length = length (image_spelling base) }
+-- what a store was opened with under the secrets: an area of this generation, which begins with this image of this base
+abbrev pub root_under : Secrets → ℕ → List ℕ → BaseView → Root
+root_under secrets generation image base = record { base = base; key = secrets.seal_key; ring = secrets.ring; generation = generation; image_length = length image }
 
 -- The store on the disks was opened, and connections had sessions over it. The history that was found is that of the newest area, from its image. Its events at the end are those, and then the ones that the sessions' passes added, and the checkpoints are those that these passes made, each after its
 -- number of events: each of them was added in a turn of a line of its pass's session; the events are lawful, so the headline holds of them. Unless a disk failed, the newest area has the generation of the opened one, and one more for each checkpoint, and stands for the state at the last of these, or for
@@ -82,12 +81,13 @@ root_under secrets generation base = record { base = base; key = secrets.seal_ke
 -- for these events, or, in a step, for them with the one that met the fault. The area that did not count is as it was, if no checkpoint was made; only if one was tried, its disk may have failed.
 pub record IsServed (sources : SessionSources) (secrets : Secrets) (rests : Rests) (before after : Disks) (attended count : ℕ) (stop : Option ℕ) : Type 0 where
   pub generation : ℕ
+  pub image : List ℕ
   pub base : BaseView
   pub opened : List Event
   pub added : List StoreEntry
   pub events : List Event
-  pub found : IfTold before (IsNewestHistory (authority_under secrets) generation base opened)
-  pub of_passes : AreOfPasses sources (root_under secrets generation base) (map happened opened) attended count added
+  pub found : IfTold before (IsNewestHistory (authority_under secrets) generation image base opened)
+  pub of_passes : AreOfPasses sources (root_under secrets generation image base) (map happened opened) attended count added
   pub checkpoints : List Checkpoint
   pub counted : checkpoints_among added ≡ length checkpoints
   pub in_order : AreInOrder 0 (length events) checkpoints
@@ -97,10 +97,11 @@ pub record IsServed (sources : SessionSources) (secrets : Secrets) (rests : Rest
   pub lawful : IsLawful (authority_under secrets) base events
   pub headline : Headline (authority_under secrets) base events (replay base events).world
   pub whole : stop ≡ None → IfTold before (λ x y. IfTold after (IsNewestOf (generation + length checkpoints) (state_after base events (last_after 0 checkpoints)) (drop (last_after 0 checkpoints) events)))
-  pub closed : stop ≡ None → IfTold before (λ x y. IsNewestClosed generation base opened x y → rests.after × IfTold after (IsNewestClosed (generation + length checkpoints) (state_after base events (last_after 0 checkpoints)) (drop (last_after 0 checkpoints) events)))
+  pub closed : stop ≡ None → IfTold before (λ x y. IsNewestClosed generation image opened x y →
+      rests.after × IfTold after (IsNewestClosed (generation + length checkpoints) (image_since image (state_after base events (last_after 0 checkpoints)) checkpoints) (drop (last_after 0 checkpoints) events)))
   pub place : stop ≡ None → IfTold before (λ x y. (second : Bool) → newer (generation_of x) (generation_of y) ≡ Some second → IfTold after (λ u v. newer (generation_of u) (generation_of v) ≡ Some (place_after (length checkpoints) second)))
   pub risen : (pass : ℕ) → stop ≡ Some pass → HasDiskFailed before after
-  pub survives : (pass : ℕ) → stop ≡ Some pass → IfTold before (λ x y. IsNewestClosed generation base opened x y → IfTold after (SurvivesWholeClosed base events) ⊎ ((met : Event) × IsMet secrets base events pass met × IfTold after (SurvivesWithOrWithout base events met)))
+  pub survives : (pass : ℕ) → stop ≡ Some pass → IfTold before (λ x y. IsNewestClosed generation image opened x y → IfTold after (SurvivesWholeClosed base events) ⊎ ((met : Event) × IsMet secrets base events pass met × IfTold after (SurvivesWithOrWithout base events met)))
   pub other_stays : checkpoints ≡ [] → IfTold before (λ x y. (second : Bool) → newer (generation_of x) (generation_of y) ≡ Some second →
       (one_of after.b after.a second ≡ one_of before.b before.a second) ⊎ ((pass : ℕ) × (stop ≡ Some pass) × HasRisen (one_of before.b_faults before.a_faults second) (one_of after.b_faults after.a_faults second)))
 

@@ -1,4 +1,4 @@
--- A secrets file: the key of the seal in its first line, and names with their keys in the others, in order (this project's own).
+-- A secrets file: the key of the seal in its first line, and names with their keys or roots in the others, in order (this project's own).
 use Rattle.std.specs.Prelude.{◌≡◌, ◌+◌, ℕ, List, [], ◌∷◌, Result, Ok, Err}
 use Rattle.line_text.specs.Lines.{lines_of}
 use Rattle.pcfs_secrets.specs.declared.secrets.Secrets.{Secrets}

@@ -1,4 +1,4 @@
-//! The keys of the lines after the first.
+//! The keys and roots of the lines after the first.
 
 ghost use Rattle.std.specs.Prelude.{OnOk, IfErr};
 ghost use Rattle.line_text.specs.Lines.{lines_of};
@@ -14,7 +14,7 @@ use std::alloc::Global;
 /// The number of the first line that may give a key.
 const FIRST_KEY_LINE: usize = 2;
 
-/// Gives the keys of the lines to their names, in order, up to the first line that gives none to a name that has none.
+/// Gives the keys and roots of the lines to their names, in order, up to the first line that gives none to a name that has none.
 pub fn add_keys(alloc: Global, ring: &mut Keyring, text: &[u8]) -> Result<(), SecretFault>
     ensures ok { OnOk result (GiveKeys ring.old (lines_of text.now) ring.new) }
     ensures err { IfErr result (IsFaultOfKeys ring.old (lines_of text.now)) }

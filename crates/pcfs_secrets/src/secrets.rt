@@ -32,9 +32,9 @@ impl Secrets {
         }
     }
 
-    /// The secrets of a secrets file: the line `seal HEX`, and then lines `key NAME HEX`, each with a name of its own.
-    /// A key is at most 1,024 bytes, in hexadecimal, `-` for no bytes. `BadLine` is returned exactly if the text has
-    /// a first bad line.
+    /// The secrets of a secrets file: the line `seal HEX`, and then lines `key NAME HEX` and `root NAME H HEX`, each with
+    /// a name of its own. A key is at most 1,024 bytes, in hexadecimal, `-` for no bytes; a root is 32 bytes, of a tree of
+    /// the height H from 0 to 8. `BadLine` is returned exactly if the text has a first bad line.
     pub fn parse(alloc: Global, text: &[u8]) -> Result<Secrets, SecretFault>
         ensures { ReadsSecrets text.now result }
     {

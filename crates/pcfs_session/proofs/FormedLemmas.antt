@@ -1,28 +1,24 @@
 -- What a line makes of the state is well formed.
-use Rattle.std.proofs.Common.{◌≡◌, suc, ap, ◌∙◌, ℕ, List, [], ◌∷◌, length, refl, sym, subst, arith}
+use Rattle.std.proofs.Common.{◌≡◌, suc, ap, ◌∙◌, ℕ, List, [], ◌∷◌, length, refl, sym}
 use Rattle.std.specs.List.{AllByRecursion}
-use Rattle.std.proofs.lemmas.List.{take_all}
 use Rattle.bl_syntax.specs.declared.grant.Goal.{Goal}
-use Rattle.bl_syntax.specs.Statement.{StatementView, IsStatement}
+use Rattle.bl_syntax.specs.Statement.{IsStatement}
 use Rattle.bl_syntax.specs.Grant.{GrantView}
 use Rattle.procap.specs.declared.procap.Procap.{Procap as Sealed}
 use Rattle.proof_term.specs.Proof.{ProofView}
 use Rattle.proof_term.specs.Limits.{HasTimesInRange}
 use Rattle.proof_verifier.specs.declared.cites.Cite.{Cite}
-use Rattle.proof_verifier.specs.Cited.{statements_of, AreCited}
+use Rattle.proof_verifier.specs.Cited.{statements_of}
 use Rattle.proof_verifier.specs.CheckedView.{IsGranted}
 use Rattle.proof_verifier.proofs.SoundnessVerdict.{SoundGrant-verdict, goal-verdict, IsGrant-verdict}
 use Rattle.pcfs_secrets.specs.declared.secrets.Secrets.{Secrets}
 use Rattle.access_history.specs.declared.event.Issue.{Issue}
 use Rattle.access_history.specs.declared.request.StepRequest.{StepRequest}
 use Rattle.access_history.specs.Authority.{sayings}
+use Rattle.access_history.specs.Books.{Book, book_of, statements_in}
 use Rattle.access_history.specs.Base.{BaseView}
-use Rattle.bl_syntax.specs.Citable.{AreCitable}
-use Rattle.access_history.specs.Citing.{StandsUnderNumber, AreFound}
 use Rattle.access_history.specs.WellFormed.{IsWellFormed}
-use Rattle.access_history.proofs.ListLemmas.{AllByRecursion-contains}
-use Rattle.access_history.proofs.NumberedLemmas.{Contains-numbered}
-use Rattle.op_gate.proofs.CitingLemmas.{AreCited-found}
+use Rattle.access_history.proofs.CitingLemmas.{AreCited-found, all_cited, all_standing}
 use Rattle.line_words.specs.declared.procap_word.ProcapWord.{ProcapWord}
 use Rattle.line_forms.specs.declared.command.Command.{Command}
 use Rattle.line_forms.specs.Lines.{IsLine}
@@ -41,22 +37,11 @@ same_length key issues [] (p ∷ procaps) all = absurd all
 same_length key issues (word ∷ words) [] all = absurd all
 same_length key issues (word ∷ words) (p ∷ procaps) all = ap suc (same_length key issues words procaps all.1)
 
--- what is found among statements is a statement
-found_statements : (statements : List StatementView) (cites : List Cite) → AllByRecursion IsStatement statements → AllByRecursion (StandsUnderNumber statements) cites → AllByRecursion IsStatement (statements_of cites)
-found_statements statements [] are stand = tt
-found_statements statements (cite ∷ cites) are stand =
-    (AllByRecursion-contains IsStatement statements cite.statement are (Contains-numbered statements cite.number cite.statement stand.0), found_statements statements cites are stand.1)
-
--- the statements of numbers that can be cited
-pub AreCited-numbers : (statements : List StatementView) (numbers : List ℕ) (cites : List Cite) → AreFound statements numbers cites → AreCitable numbers → AreCited cites
-AreCited-numbers statements numbers cites found citable =
-    AreCited-found statements numbers (length numbers) cites (omega arith) (subst (λ (ns : List ℕ). AreFound statements ns cites) (sym (take_all (length numbers) numbers (omega arith))) found) citable
-
 -- what a proof proves from statements is sound
-IsGranted-proved : (statements : List StatementView) (goal : Goal) (numbers : List ℕ) (proof : ProofView) (cites : List Cite) (g : GrantView) → AllByRecursion IsStatement statements → HasTimesInRange proof → IsProved statements goal numbers proof cites g →
+IsGranted-proved : (book : Book) (goal : Goal) (numbers : List ℕ) (proof : ProofView) (cites : List Cite) (g : GrantView) → AllByRecursion IsStatement (statements_in book) → HasTimesInRange proof → IsProved book goal numbers proof cites g →
     IsGranted (statements_of cites) goal proof g
-IsGranted-proved statements goal numbers proof cites g are times proved =
-    let all = found_statements statements cites are proved.found.stand in
+IsGranted-proved book goal numbers proof cites g are times proved =
+    let all = all_cited IsStatement book cites are proved.found.stand in
     record {
       verdict_is = proved.verdict_is;
       sound = SoundGrant-verdict (statements_of cites) goal proof g all times proved.verdict_is;
@@ -70,11 +55,11 @@ pub IsWellFormed-within : (secrets : Secrets) (state : BaseView) (asker : Asker)
 IsWellFormed-within secrets state asker _ _ is_asker are within (line_answer.registers signature statement) = within
 IsWellFormed-within secrets state asker _ _ is_asker are within (line_answer.shows number) = tt
 IsWellFormed-within secrets state asker _ _ is_asker are within (line_answer.verifies goal numbers proof cites g proved) = (
-  AreCited-numbers (sayings state.statements) numbers cites proved.found within.0,
-  IsGranted-proved (sayings state.statements) goal numbers proof cites g are within.1 proved,
+  AreCited-found (book_of state) numbers cites proved.found within.0,
+  IsGranted-proved (book_of state) goal numbers proof cites g (all_standing IsStatement state are) within.1 proved,
 )
 IsWellFormed-within secrets state asker _ _ is_asker are within (line_answer.acts op words procaps brought) =
-    record { named = is_asker.named; operation = within.operation; slots = sym (same_length secrets.seal_key state.issues words procaps brought) ∙ within.one_each; few_bytes = within.few_bytes }
+    record { named = is_asker.named; operation = within.operation; brought = record { slots = sym (same_length secrets.seal_key state.issues words procaps brought) ∙ within.one_each; few_bytes = within.few_bytes } }
 
 -- a request that a line of a script leads to is
 pub IsWellFormed-line : (secrets : Secrets) (state : BaseView) (asker : Asker) (line : List ℕ) (command : Command) (request : StepRequest) → IsAsker asker → AllByRecursion IsStatement (sayings state.statements) → IsLine line command →

@@ -9,7 +9,8 @@ use Rattle.proof_term.specs.Proof.{ProofView}
 use Rattle.proof_verifier.specs.declared.cites.Cite.{Cite}
 use Rattle.proof_verifier.specs.declared.fault.CheckFault.{CheckFault}
 use Rattle.proof_verifier.specs.declared.fault.CheckFault.TheVariants as check_faults
-use Rattle.proof_verifier.specs.Cited.{statements_of}
+use Rattle.bl_syntax.specs.Citable.{AreCitable}
+use Rattle.proof_verifier.specs.Cited.{AreCited, statements_of}
 use Rattle.proof_verifier.specs.CheckedView.{CheckedView, checked_view, IsChecked, IsGranted}
 use Rattle.proof_verifier.specs.Run.{IsFault}
 use Rattle.proof_verifier.specs.Verdict.{verdict}
@@ -17,7 +18,7 @@ use Rattle.file_world.specs.declared.operation.Op.{Op}
 use Rattle.access_history.specs.declared.request.StepRequest.{StepRequest}
 use Rattle.access_history.specs.declared.request.StepRequest.TheVariants as requests
 use Rattle.access_history.specs.declared.reply.StepReply.TheVariants.{Absent}
-use Rattle.access_history.specs.Authority.{sayings}
+use Rattle.access_history.specs.Books.{Book, book_of}
 use Rattle.access_history.specs.Citing.{AreFound}
 use Rattle.op_gate.specs.declared.cite.Citation.{Citation}
 use Rattle.op_gate.specs.declared.cite.Citation.TheVariants as citations
@@ -44,6 +45,7 @@ use Rattle.pcfs_session.specs.LineAnswer.{signature_under, replied, requested, C
 use Rattle.pcfs_session.specs.LineAnswer as line_answer
 use Rattle.pcfs_session.specs.ScriptRun.{Standing, state_of_standing, Becomes, kept, IsReplied, answered, without_memory}
 use Rattle.pcfs_session.specs.Interpreter.{IsDecidedAs, IsFollowed, unread_reply}
+use Rattle.access_history.proofs.CitingLemmas.{AreCited-found}
 use Rattle.pcfs_session.proofs.BroughtLemmas.{unissued_seated, brought_seated}
 
 -- ---- commands
@@ -103,12 +105,16 @@ abbrev gate_of : {D : Type 0} → StoreView D → GateView
 gate_of s = record { key = s.key; ring = s.ring; base = s.base; events = s.events; pending = None }
 
 -- the statements that an interpreter cites
-pub Cites-seated : {D : Type 0} (gate : GateView) (inside seated : InterpreterView D) (shown numbers : List ℕ) (citation : Citation) → gate ≡ gate_of inside.store → inside ≡ seated → shown ≡ numbers → GivesCitation (sayings (replay gate.base gate.events).statements) shown citation →
-    GivesCitation (sayings (state_of_standing (standing_of seated None)).statements) numbers citation
+pub Cites-seated : {D : Type 0} (gate : GateView) (inside seated : InterpreterView D) (shown numbers : List ℕ) (citation : Citation) → gate ≡ gate_of inside.store → inside ≡ seated → shown ≡ numbers → GivesCitation (book_of (replay gate.base gate.events)) shown citation →
+    GivesCitation (book_of (state_of_standing (standing_of seated None))) numbers citation
 Cites-seated {D} gate inside seated shown numbers citation is same numbers_are found =
-    subst (λ (i : InterpreterView D). GivesCitation (sayings (state_of_standing (standing_of i None)).statements) numbers citation) same
-    (subst (λ (ns : List ℕ). GivesCitation (sayings (state_of_standing (standing_of inside None)).statements) ns citation) numbers_are
-    (subst (λ (h : GateView). GivesCitation (sayings (replay h.base h.events).statements) shown citation) is found))
+    subst (λ (i : InterpreterView D). GivesCitation (book_of (state_of_standing (standing_of i None))) numbers citation) same
+    (subst (λ (ns : List ℕ). GivesCitation (book_of (state_of_standing (standing_of inside None))) ns citation) numbers_are
+    (subst (λ (h : GateView). GivesCitation (book_of (replay h.base h.events)) shown citation) is found))
+
+-- what is found of numbers that can be cited can be cited
+pub AreCited-given : (book : Book) (numbers shown : List ℕ) (citation : Citation) (cites : List Cite) → citation ≡ citations.Cited cites → shown ≡ numbers → GivesCitation book shown citation → AreCitable numbers → AreCited cites
+AreCited-given book numbers shown citation cites is numbers_are found citable = AreCited-found book shown cites (subst (GivesCitation book shown) is found) (subst AreCitable (sym numbers_are) citable)
 
 -- what the words of a line bring where an interpreter stands
 pub unissued_here : {D : Type 0} (gate : GateView) (inside seated : InterpreterView D) (shown words : List ProcapWord) (none added : List Sealed) (told : Option ℕ) (number : ℕ) → gate ≡ gate_of inside.store → inside ≡ seated → shown ≡ words → told ≡ Some number →
@@ -123,54 +129,54 @@ brought_here {D} gate inside seated shown words none added told is same words_ar
     brought_seated (standing_of inside None) (standing_of seated None) shown words none added told (ap (λ (i : InterpreterView D). standing_of i None) same) words_are told_is empty
     (subst (λ (h : GateView). AreProcapsAdded h.key (replay h.base h.events).issues shown none added told) is all)
 
-absent : (statements : List StatementView) (goal : Goal) (numbers : List ℕ) (proof : ProofView) (citation : Citation) (number : ℕ) → citation ≡ citations.Absent number → GivesCitation statements numbers citation → IsUnproved statements goal numbers proof (replies.Step (Absent number))
-absent statements goal numbers proof citation number is found = cites_none number (subst (GivesCitation statements numbers) is found)
+absent : (book : Book) (goal : Goal) (numbers : List ℕ) (proof : ProofView) (citation : Citation) (number : ℕ) → citation ≡ citations.Absent number → GivesCitation book numbers citation → IsUnproved book goal numbers proof (replies.Step (Absent number))
+absent book goal numbers proof citation number is found = cites_none number (subst (GivesCitation book numbers) is found)
 
 -- the statements that were found
-AreFound-cited : (statements : List StatementView) (numbers : List ℕ) (citation : Citation) (cites : List Cite) → citation ≡ citations.Cited cites → GivesCitation statements numbers citation → AreFound statements numbers cites
-AreFound-cited statements numbers citation cites is found = subst (GivesCitation statements numbers) is found
+AreFound-cited : (book : Book) (numbers : List ℕ) (citation : Citation) (cites : List Cite) → citation ≡ citations.Cited cites → GivesCitation book numbers citation → AreFound book numbers cites
+AreFound-cited book numbers citation cites is found = subst (GivesCitation book numbers) is found
 
-refused : (statements : List StatementView) (goal : Goal) (numbers : List ℕ) (proof : ProofView) (citation : Citation) (cites : List Cite) (fault : CheckFault) (reply : LineReply) → citation ≡ citations.Cited cites → GivesCitation statements numbers citation →
-    (reply ≡ replies.Unproved fault) × (fault ≢ check_faults.NoMemory) → IsFault fault (verdict (statements_of cites) goal proof) → IsUnproved statements goal numbers proof reply
-refused statements goal numbers proof citation cites fault reply is found told refusal =
-    subst (IsUnproved statements goal numbers proof) (sym told.0)
-    (⊎_elim (λ (none : fault ≡ check_faults.NoMemory). absurd (told.1 none)) (λ (same : verdict (statements_of cites) goal proof ≡ Err fault). proves_none cites fault (AreFound-cited statements numbers citation cites is found) same) refusal)
+refused : (book : Book) (goal : Goal) (numbers : List ℕ) (proof : ProofView) (citation : Citation) (cites : List Cite) (fault : CheckFault) (reply : LineReply) → citation ≡ citations.Cited cites → GivesCitation book numbers citation →
+    (reply ≡ replies.Unproved fault) × (fault ≢ check_faults.NoMemory) → IsFault fault (verdict (statements_of cites) goal proof) → IsUnproved book goal numbers proof reply
+refused book goal numbers proof citation cites fault reply is found told refusal =
+    subst (IsUnproved book goal numbers proof) (sym told.0)
+    (⊎_elim (λ (none : fault ≡ check_faults.NoMemory). absurd (told.1 none)) (λ (same : verdict (statements_of cites) goal proof ≡ Err fault). proves_none cites fault (AreFound-cited book numbers citation cites is found) same) refusal)
 
-granted : (statements : List StatementView) (goal : Goal) (numbers : List ℕ) (proof : ProofView) (citation : Citation) (cites : List Cite) (g : GrantView) → citation ≡ citations.Cited cites → GivesCitation statements numbers citation → IsGranted (statements_of cites) goal proof g →
-    IsProved statements goal numbers proof cites g
-granted statements goal numbers proof citation cites g is found grant = record { found = AreFound-cited statements numbers citation cites is found; verdict_is = grant.verdict_is }
+granted : (book : Book) (goal : Goal) (numbers : List ℕ) (proof : ProofView) (citation : Citation) (cites : List Cite) (g : GrantView) → citation ≡ citations.Cited cites → GivesCitation book numbers citation → IsGranted (statements_of cites) goal proof g →
+    IsProved book goal numbers proof cites g
+granted book goal numbers proof citation cites g is found grant = record { found = AreFound-cited book numbers citation cites is found; verdict_is = grant.verdict_is }
 
-pub IsFollowed-verify_absent : (s : Standing) (goal : Goal) (numbers : List ℕ) (proof : ProofView) (citation : Citation) (number : ℕ) → citation ≡ citations.Absent number → GivesCitation (sayings (state_of_standing s).statements) numbers citation →
+pub IsFollowed-verify_absent : (s : Standing) (goal : Goal) (numbers : List ℕ) (proof : ProofView) (citation : Citation) (number : ℕ) → citation ≡ citations.Absent number → GivesCitation (book_of (state_of_standing s)) numbers citation →
     IsFollowed (commands.Verify goal numbers proof) s (replies.Step (Absent number)) s
 IsFollowed-verify_absent s goal numbers proof citation number is found =
-    followed_at_once s (commands.Verify goal numbers proof) (replies.Step (Absent number)) refl (line_answer.verifies_nothing goal numbers proof (replies.Step (Absent number)) (absent (sayings (state_of_standing s).statements) goal numbers proof citation number is found))
+    followed_at_once s (commands.Verify goal numbers proof) (replies.Step (Absent number)) refl (line_answer.verifies_nothing goal numbers proof (replies.Step (Absent number)) (absent (book_of (state_of_standing s)) goal numbers proof citation number is found))
 
-pub IsFollowed-verify_refused : (s : Standing) (goal : Goal) (numbers : List ℕ) (proof : ProofView) (citation : Citation) (cites : List Cite) (fault : CheckFault) (reply : LineReply) → citation ≡ citations.Cited cites → GivesCitation (sayings (state_of_standing s).statements) numbers citation →
+pub IsFollowed-verify_refused : (s : Standing) (goal : Goal) (numbers : List ℕ) (proof : ProofView) (citation : Citation) (cites : List Cite) (fault : CheckFault) (reply : LineReply) → citation ≡ citations.Cited cites → GivesCitation (book_of (state_of_standing s)) numbers citation →
     IsFault fault (verdict (statements_of cites) goal proof) → (reply ≡ replies.Unproved fault) × (fault ≢ check_faults.NoMemory) → IsFollowed (commands.Verify goal numbers proof) s reply s
 IsFollowed-verify_refused s goal numbers proof citation cites fault reply is found refusal told =
-    followed_at_once s (commands.Verify goal numbers proof) reply refl (line_answer.verifies_nothing goal numbers proof reply (refused (sayings (state_of_standing s).statements) goal numbers proof citation cites fault reply is found told refusal))
+    followed_at_once s (commands.Verify goal numbers proof) reply refl (line_answer.verifies_nothing goal numbers proof reply (refused (book_of (state_of_standing s)) goal numbers proof citation cites fault reply is found told refusal))
 
-pub IsFollowed-verify : (before after : Standing) (goal : Goal) (numbers : List ℕ) (proof : ProofView) (citation : Citation) (cites : List Cite) (checked : CheckedView) (reply : LineReply) → citation ≡ citations.Cited cites → GivesCitation (sayings (state_of_standing before).statements) numbers citation →
+pub IsFollowed-verify : (before after : Standing) (goal : Goal) (numbers : List ℕ) (proof : ProofView) (citation : Citation) (cites : List Cite) (checked : CheckedView) (reply : LineReply) → citation ≡ citations.Cited cites → GivesCitation (book_of (state_of_standing before)) numbers citation →
     checked ≡ checked_view cites goal proof checked.grant → IsChecked checked → IsDecidedAs (requests.Issue checked) before reply after → IsFollowed (commands.Verify goal numbers proof) before reply after
 IsFollowed-verify before after goal numbers proof citation cites checked reply is found same grant asked =
     followed_by before after (commands.Verify goal numbers proof) (requests.Issue (checked_view cites goal proof checked.grant)) reply refl
-    (line_answer.verifies goal numbers proof cites checked.grant (granted (sayings (state_of_standing before).statements) goal numbers proof citation cites checked.grant is found (subst IsChecked same grant)))
+    (line_answer.verifies goal numbers proof cites checked.grant (granted (book_of (state_of_standing before)) goal numbers proof citation cites checked.grant is found (subst IsChecked same grant)))
     (subst (λ (c : CheckedView). IsDecidedAs (requests.Issue c) before reply after) same asked)
 
-pub IsFollowed-check_absent : (s : Standing) (goal : Goal) (numbers : List ℕ) (proof : ProofView) (citation : Citation) (number : ℕ) → citation ≡ citations.Absent number → GivesCitation (sayings (state_of_standing s).statements) numbers citation →
+pub IsFollowed-check_absent : (s : Standing) (goal : Goal) (numbers : List ℕ) (proof : ProofView) (citation : Citation) (number : ℕ) → citation ≡ citations.Absent number → GivesCitation (book_of (state_of_standing s)) numbers citation →
     IsFollowed (commands.Check goal numbers proof) s (replies.Step (Absent number)) s
 IsFollowed-check_absent s goal numbers proof citation number is found =
-    followed_at_once s (commands.Check goal numbers proof) (replies.Step (Absent number)) refl (line_answer.checks_nothing goal numbers proof (replies.Step (Absent number)) (absent (sayings (state_of_standing s).statements) goal numbers proof citation number is found))
+    followed_at_once s (commands.Check goal numbers proof) (replies.Step (Absent number)) refl (line_answer.checks_nothing goal numbers proof (replies.Step (Absent number)) (absent (book_of (state_of_standing s)) goal numbers proof citation number is found))
 
-pub IsFollowed-check_refused : (s : Standing) (goal : Goal) (numbers : List ℕ) (proof : ProofView) (citation : Citation) (cites : List Cite) (fault : CheckFault) (reply : LineReply) → citation ≡ citations.Cited cites → GivesCitation (sayings (state_of_standing s).statements) numbers citation →
+pub IsFollowed-check_refused : (s : Standing) (goal : Goal) (numbers : List ℕ) (proof : ProofView) (citation : Citation) (cites : List Cite) (fault : CheckFault) (reply : LineReply) → citation ≡ citations.Cited cites → GivesCitation (book_of (state_of_standing s)) numbers citation →
     IsFault fault (verdict (statements_of cites) goal proof) → (reply ≡ replies.Unproved fault) × (fault ≢ check_faults.NoMemory) → IsFollowed (commands.Check goal numbers proof) s reply s
 IsFollowed-check_refused s goal numbers proof citation cites fault reply is found refusal told =
-    followed_at_once s (commands.Check goal numbers proof) reply refl (line_answer.checks_nothing goal numbers proof reply (refused (sayings (state_of_standing s).statements) goal numbers proof citation cites fault reply is found told refusal))
+    followed_at_once s (commands.Check goal numbers proof) reply refl (line_answer.checks_nothing goal numbers proof reply (refused (book_of (state_of_standing s)) goal numbers proof citation cites fault reply is found told refusal))
 
-pub IsFollowed-check : (s : Standing) (goal : Goal) (numbers : List ℕ) (proof : ProofView) (citation : Citation) (cites : List Cite) (g : GrantView) → citation ≡ citations.Cited cites → GivesCitation (sayings (state_of_standing s).statements) numbers citation →
+pub IsFollowed-check : (s : Standing) (goal : Goal) (numbers : List ℕ) (proof : ProofView) (citation : Citation) (cites : List Cite) (g : GrantView) → citation ≡ citations.Cited cites → GivesCitation (book_of (state_of_standing s)) numbers citation →
     IsGranted (statements_of cites) goal proof g → IsFollowed (commands.Check goal numbers proof) s (replies.Checked g) s
 IsFollowed-check s goal numbers proof citation cites g is found grant =
-    followed_at_once s (commands.Check goal numbers proof) (replies.Checked g) refl (line_answer.checks goal numbers proof cites g (granted (sayings (state_of_standing s).statements) goal numbers proof citation cites g is found grant))
+    followed_at_once s (commands.Check goal numbers proof) (replies.Checked g) refl (line_answer.checks goal numbers proof cites g (granted (book_of (state_of_standing s)) goal numbers proof citation cites g is found grant))
 
 -- ---- operations
 

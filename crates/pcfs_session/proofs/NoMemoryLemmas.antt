@@ -1,7 +1,6 @@
 -- No answer to a line says that memory ran out.
 use Rattle.std.proofs.Common.{◌≡◌, ℕ, List, get_or, Option, Err, refl, ap, subst, arith}
 use Rattle.std.specs.Prelude.{codes, ◌≢◌}
-use Rattle.bl_syntax.specs.Statement.{StatementView}
 use Rattle.bl_syntax.specs.declared.grant.Goal.{Goal}
 use Rattle.bl_tokens.specs.declared.faults.TextFault.{TextFault}
 use Rattle.bl_tokens.specs.declared.faults.TextFault.TheVariants as texts
@@ -14,7 +13,7 @@ use Rattle.proof_verifier.proofs.MemoryLemmas.{verdict-memoryless}
 use Rattle.pcfs_secrets.specs.declared.secrets.Secrets.{Secrets}
 use Rattle.access_history.specs.declared.reply.StepReply.{StepReply}
 use Rattle.access_history.specs.declared.reply.StepReply.TheVariants as steps
-use Rattle.access_history.specs.Authority.{sayings}
+use Rattle.access_history.specs.Books.{Book, book_of}
 use Rattle.access_history.specs.Base.{BaseView}
 use Rattle.line_forms.specs.declared.command.Command.{Command}
 use Rattle.line_forms.specs.declared.fault.LineFault.{LineFault}
@@ -91,9 +90,9 @@ check_memory (faults.BadTerm node) some is = not_unproved is
 check_memory (faults.TooManyConditions node) some is = not_unproved is
 check_memory faults.NoMemory some is = some refl
 
-unproved_memory : (statements : List StatementView) (goal : Goal) (numbers : List ℕ) (proof : ProofView) (reply : LineReply) → IsUnproved statements goal numbers proof reply → reply_word reply ≡ codes "nomemory" → ⊥
-unproved_memory statements goal numbers proof _ (cites_none number absent) is = step_memory (steps.Absent number) is
-unproved_memory statements goal numbers proof _ (proves_none cites fault found verdict_is) is =
+unproved_memory : (book : Book) (goal : Goal) (numbers : List ℕ) (proof : ProofView) (reply : LineReply) → IsUnproved book goal numbers proof reply → reply_word reply ≡ codes "nomemory" → ⊥
+unproved_memory book goal numbers proof _ (cites_none number absent) is = step_memory (steps.Absent number) is
+unproved_memory book goal numbers proof _ (proves_none cites fault found verdict_is) is =
     check_memory fault (λ (none : fault ≡ faults.NoMemory). verdict-memoryless (statements_of cites) goal proof (subst (λ (f : CheckFault). verdict (statements_of cites) goal proof ≡ Err f) none verdict_is)) is
 
 -- a look at the state says so of nothing
@@ -108,9 +107,9 @@ look_memory secrets state asker _ _ (line_answer.sets_caller who) is = not_ok is
 look_memory secrets state asker _ _ (line_answer.registers signature statement) is = is
 look_memory secrets state asker _ _ (line_answer.shows number) is = is
 look_memory secrets state asker _ _ line_answer.makes_checkpoint is = is
-look_memory secrets state asker _ _ (line_answer.verifies_nothing goal numbers proof reply refused) is = unproved_memory (sayings state.statements) goal numbers proof reply refused is
+look_memory secrets state asker _ _ (line_answer.verifies_nothing goal numbers proof reply refused) is = unproved_memory (book_of state) goal numbers proof reply refused is
 look_memory secrets state asker _ _ (line_answer.verifies goal numbers proof cites g proved) is = is
-look_memory secrets state asker _ _ (line_answer.checks_nothing goal numbers proof reply refused) is = unproved_memory (sayings state.statements) goal numbers proof reply refused is
+look_memory secrets state asker _ _ (line_answer.checks_nothing goal numbers proof reply refused) is = unproved_memory (book_of state) goal numbers proof reply refused is
 look_memory secrets state asker _ _ (line_answer.checks goal numbers proof cites g proved) is = not_ok is
 look_memory secrets state asker _ _ (line_answer.acts_under_none op words number none) is = step_memory (steps.Absent number) is
 look_memory secrets state asker _ _ (line_answer.acts op words procaps brought) is = is

@@ -2,7 +2,6 @@
 use Rattle.std.proofs.Common.{◌≡◌, ℕ, List, [], ◌∷◌, Option, Ok, Err, refl, sym, ap, subst, ◌∙◌}
 use Rattle.std.specs.List.{AllByRecursion}
 use Rattle.bl_syntax.specs.declared.grant.Goal.{Goal}
-use Rattle.bl_syntax.specs.Statement.{StatementView}
 use Rattle.bl_syntax.specs.Grant.{GrantView}
 use Rattle.procap.specs.declared.procap.Procap.{Procap as Sealed}
 use Rattle.proof_term.specs.Proof.{ProofView}
@@ -19,12 +18,12 @@ use Rattle.access_history.specs.declared.reply.StepReply.{StepReply}
 use Rattle.access_history.specs.declared.reply.StepReply.TheVariants.{Absent}
 use Rattle.access_history.specs.Base.{BaseView}
 use Rattle.access_history.specs.Answer.{Answers}
-use Rattle.access_history.specs.Authority.{sayings, procap_of}
-use Rattle.access_history.specs.Citing.{StandsUnderNumber, AreFound, IsAbsent, numbers_of}
+use Rattle.access_history.specs.Authority.{procap_of}
+use Rattle.access_history.specs.Books.{Book, book_of}
 use Rattle.access_history.specs.Lawful.{IsLawful}
-use Rattle.access_history.specs.Numbered.{IsNumbered, HasNumber}
 use Rattle.access_history.proofs.AnswerLemmas.{one_answer}
-use Rattle.access_history.proofs.NumberedLemmas.{HasNumber-item, numbered_item, none_fails, first_failing}
+use Rattle.access_history.proofs.CitingLemmas.{absent_not_found, absent_once, found_once}
+use Rattle.access_history.proofs.NumberedLemmas.{numbered_item, none_fails, first_failing}
 use Rattle.line_words.specs.declared.procap_word.ProcapWord.{ProcapWord}
 use Rattle.line_words.specs.declared.procap_word.ProcapWord.TheVariants as words
 use Rattle.line_forms.specs.declared.command.Command.{Command}
@@ -43,54 +42,28 @@ use Rattle.pcfs_session.proofs.BroughtLemmas.{NamesIssue-brought}
 
 -- ---- the statements of numbers, and what a proof from them comes to
 
-found_numbers : (statements : List StatementView) (cites : List Cite) → AllByRecursion (StandsUnderNumber statements) cites → AllByRecursion (HasNumber statements) (numbers_of cites)
-found_numbers statements [] stand = tt
-found_numbers statements (cite ∷ cites) stand = (HasNumber-item statements cite.number cite.statement stand.0, found_numbers statements cites stand.1)
-
-same_cite : (statements : List StatementView) (a b : Cite) → a.number ≡ b.number → StandsUnderNumber statements a → StandsUnderNumber statements b → a ≡ b
-same_cite statements a b number one other =
-    let there : IsNumbered statements b.number a.statement = subst (λ (n : ℕ). IsNumbered statements n a.statement) number one in
-    let statement : a.statement ≡ b.statement = numbered_item statements b.number a.statement b.statement there other in
-    ap (λ (n : ℕ). record { number = n; statement = a.statement }) number ∙ ap (λ (s : StatementView). record { number = b.number; statement = s }) statement
-
-same_cites : (statements : List StatementView) (xs ys : List Cite) → numbers_of xs ≡ numbers_of ys → AllByRecursion (StandsUnderNumber statements) xs → AllByRecursion (StandsUnderNumber statements) ys → xs ≡ ys
-same_cites statements [] [] numbers one other = refl
-same_cites statements [] (b ∷ ys) numbers one other = absurd cc
-same_cites statements (a ∷ xs) [] numbers one other = absurd cc
-same_cites statements (a ∷ xs) (b ∷ ys) numbers one other =
-    let first : a.number ≡ b.number = cc in
-    let others : numbers_of xs ≡ numbers_of ys = cc in
-    ap (λ (c : Cite). c ∷ xs) (same_cite statements a b first one.0 other.0) ∙ ap (λ (cs : List Cite). b ∷ cs) (same_cites statements xs ys others one.1 other.1)
-
-found_once : (statements : List StatementView) (numbers : List ℕ) (xs ys : List Cite) → AreFound statements numbers xs → AreFound statements numbers ys → xs ≡ ys
-found_once statements numbers xs ys one other = same_cites statements xs ys (one.numbers_are ∙ sym other.numbers_are) one.stand other.stand
-
-absent_or_found : (statements : List StatementView) (numbers : List ℕ) (number : ℕ) (cites : List Cite) → IsAbsent statements numbers number → AreFound statements numbers cites → ⊥
-absent_or_found statements numbers number cites absent found =
-    none_fails (HasNumber statements) numbers absent.place number (subst (AllByRecursion (HasNumber statements)) found.numbers_are (found_numbers statements cites found.stand)) absent.first
-
-module _ (statements : List StatementView) (goal : Goal) (numbers : List ℕ) (proof : ProofView) where
-  one_refusal : (first second : LineReply) → IsUnproved statements goal numbers proof first → IsUnproved statements goal numbers proof second → first ≡ second
+module _ (book : Book) (goal : Goal) (numbers : List ℕ) (proof : ProofView) where
+  one_refusal : (first second : LineReply) → IsUnproved book goal numbers proof first → IsUnproved book goal numbers proof second → first ≡ second
   one_refusal _ _ (cites_none number absent) (cites_none other absent') =
-      ap (λ (n : ℕ). replies.Step (Absent n)) (first_failing (HasNumber statements) numbers absent.place absent'.place number other absent.first absent'.first).1
-  one_refusal _ _ (cites_none number absent) (proves_none cites fault found is) = absurd (absent_or_found statements numbers number cites absent found)
-  one_refusal _ _ (proves_none cites fault found is) (cites_none number absent) = absurd (absent_or_found statements numbers number cites absent found)
+      ap (λ (n : ℕ). replies.Step (Absent n)) (absent_once book numbers number other absent absent')
+  one_refusal _ _ (cites_none number absent) (proves_none cites fault found is) = absurd (absent_not_found book numbers number cites absent found)
+  one_refusal _ _ (proves_none cites fault found is) (cites_none number absent) = absurd (absent_not_found book numbers number cites absent found)
   one_refusal _ _ (proves_none cites fault found is) (proves_none others other found' is') =
-      let same : cites ≡ others = found_once statements numbers cites others found found' in
+      let same : cites ≡ others = found_once book numbers cites others found found' in
       let faults : Err fault ≡ Err other = sym is ∙ (ap (λ (cs : List Cite). verdict (statements_of cs) goal proof) same ∙ is') in
       let fault_is : fault ≡ other = cc in
       ap replies.Unproved fault_is
 
-  refused_or_proved : (reply : LineReply) (cites : List Cite) (g : GrantView) → IsUnproved statements goal numbers proof reply → IsProved statements goal numbers proof cites g → ⊥
-  refused_or_proved _ cites g (cites_none number absent) proved = absent_or_found statements numbers number cites absent proved.found
+  refused_or_proved : (reply : LineReply) (cites : List Cite) (g : GrantView) → IsUnproved book goal numbers proof reply → IsProved book goal numbers proof cites g → ⊥
+  refused_or_proved _ cites g (cites_none number absent) proved = absent_not_found book numbers number cites absent proved.found
   refused_or_proved _ cites g (proves_none others fault found is) proved =
-      let same : others ≡ cites = found_once statements numbers others cites found proved.found in
+      let same : others ≡ cites = found_once book numbers others cites found proved.found in
       let both : Err fault ≡ Ok g = sym is ∙ (ap (λ (cs : List Cite). verdict (statements_of cs) goal proof) same ∙ proved.verdict_is) in
       cc
 
-  one_grant : (cites others : List Cite) (g h : GrantView) → IsProved statements goal numbers proof cites g → IsProved statements goal numbers proof others h → (cites ≡ others) × (g ≡ h)
+  one_grant : (cites others : List Cite) (g h : GrantView) → IsProved book goal numbers proof cites g → IsProved book goal numbers proof others h → (cites ≡ others) × (g ≡ h)
   one_grant cites others g h one other =
-      let same : cites ≡ others = found_once statements numbers cites others one.found other.found in
+      let same : cites ≡ others = found_once book numbers cites others one.found other.found in
       let both : Ok g ≡ Ok h = sym one.verdict_is ∙ (ap (λ (cs : List Cite). verdict (statements_of cs) goal proof) same ∙ other.verdict_is) in
       let grant : g ≡ h = cc in
       (same, grant)
@@ -136,22 +109,22 @@ module _ (secrets : Secrets) (state : BaseView) (asker : Asker) where
   one_look _ _ _ (line_answer.shows number) (line_answer.shows _) = refl
   one_look _ _ _ line_answer.makes_checkpoint line_answer.makes_checkpoint = refl
   one_look _ _ _ (line_answer.verifies_nothing goal numbers proof first refused) (line_answer.verifies_nothing _ _ _ second refused') =
-      ap replied (one_refusal (sayings state.statements) goal numbers proof first second refused refused')
+      ap replied (one_refusal (book_of state) goal numbers proof first second refused refused')
   one_look _ _ _ (line_answer.verifies_nothing goal numbers proof first refused) (line_answer.verifies _ _ _ cites g proved) =
-      absurd (refused_or_proved (sayings state.statements) goal numbers proof first cites g refused proved)
+      absurd (refused_or_proved (book_of state) goal numbers proof first cites g refused proved)
   one_look _ _ _ (line_answer.verifies goal numbers proof cites g proved) (line_answer.verifies_nothing _ _ _ second refused) =
-      absurd (refused_or_proved (sayings state.statements) goal numbers proof second cites g refused proved)
+      absurd (refused_or_proved (book_of state) goal numbers proof second cites g refused proved)
   one_look _ _ _ (line_answer.verifies goal numbers proof cites g proved) (line_answer.verifies _ _ _ others h proved') =
-      let same = one_grant (sayings state.statements) goal numbers proof cites others g h proved proved' in
+      let same = one_grant (book_of state) goal numbers proof cites others g h proved proved' in
       ap (λ (cs : List Cite). requested (requests.Issue (checked_view cs goal proof g))) same.0 ∙ ap (λ (k : GrantView). requested (requests.Issue (checked_view others goal proof k))) same.1
   one_look _ _ _ (line_answer.checks_nothing goal numbers proof first refused) (line_answer.checks_nothing _ _ _ second refused') =
-      ap replied (one_refusal (sayings state.statements) goal numbers proof first second refused refused')
+      ap replied (one_refusal (book_of state) goal numbers proof first second refused refused')
   one_look _ _ _ (line_answer.checks_nothing goal numbers proof first refused) (line_answer.checks _ _ _ cites g proved) =
-      absurd (refused_or_proved (sayings state.statements) goal numbers proof first cites g refused proved)
+      absurd (refused_or_proved (book_of state) goal numbers proof first cites g refused proved)
   one_look _ _ _ (line_answer.checks goal numbers proof cites g proved) (line_answer.checks_nothing _ _ _ second refused) =
-      absurd (refused_or_proved (sayings state.statements) goal numbers proof second cites g refused proved)
+      absurd (refused_or_proved (book_of state) goal numbers proof second cites g refused proved)
   one_look _ _ _ (line_answer.checks goal numbers proof cites g proved) (line_answer.checks _ _ _ others h proved') =
-      ap (λ (k : GrantView). replied (replies.Checked k)) (one_grant (sayings state.statements) goal numbers proof cites others g h proved proved').1
+      ap (λ (k : GrantView). replied (replies.Checked k)) (one_grant (book_of state) goal numbers proof cites others g h proved proved').1
   one_look _ _ _ (line_answer.acts_under_none op ws number none) (line_answer.acts_under_none _ _ other none') =
       ap (λ (n : ℕ). replied (replies.Step (Absent n))) (one_unissued state.issues ws number other none none')
   one_look _ _ _ (line_answer.acts_under_none op ws number none) (line_answer.acts _ _ procaps brought) = absurd (unissued_or_brought secrets.seal_key state.issues ws number procaps none brought)

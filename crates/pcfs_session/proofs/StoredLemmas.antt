@@ -76,14 +76,15 @@ record StaysInPlace {D : Type 0} (old new : StoreView D) : Type 0 where
   place : new.second_active ≡ old.second_active
   other : new.other ≡ old.other
   checkpoints : new.checkpoints ≡ old.checkpoints
+  opened : new.opened ≡ old.opened
 
 stays_in_place : {D : Type 0} (faults : D → ℕ) (old new : StoreView D) (pass : ℕ) (clock : ℤ) (request : StepRequest) (reply : StoreReply) → Steps faults old pass clock request reply new → StaysInPlace old new
-stays_in_place faults old _ pass clock request _ (steps.answered reply is answer) = record { generation = refl; place = refl; other = refl; checkpoints = refl }
-stays_in_place faults old _ pass clock request _ (steps.kept reply event active is answer room) = record { generation = refl; place = refl; other = refl; checkpoints = refl }
-stays_in_place faults old _ pass clock request _ (steps.full reply event is answer is_full) = record { generation = refl; place = refl; other = refl; checkpoints = refl }
-stays_in_place faults old _ pass clock request _ (steps.failed reply event active is answer room risen) = record { generation = refl; place = refl; other = refl; checkpoints = refl }
-stays_in_place faults old _ pass clock request _ (steps.stopped earlier is) = record { generation = refl; place = refl; other = refl; checkpoints = refl }
-stays_in_place faults old _ pass clock request _ (steps.without_memory is) = record { generation = refl; place = refl; other = refl; checkpoints = refl }
+stays_in_place faults old _ pass clock request _ (steps.answered reply is answer) = record { generation = refl; place = refl; other = refl; checkpoints = refl; opened = refl }
+stays_in_place faults old _ pass clock request _ (steps.kept reply event active is answer room) = record { generation = refl; place = refl; other = refl; checkpoints = refl; opened = refl }
+stays_in_place faults old _ pass clock request _ (steps.full reply event is answer is_full) = record { generation = refl; place = refl; other = refl; checkpoints = refl; opened = refl }
+stays_in_place faults old _ pass clock request _ (steps.failed reply event active is answer room risen) = record { generation = refl; place = refl; other = refl; checkpoints = refl; opened = refl }
+stays_in_place faults old _ pass clock request _ (steps.stopped earlier is) = record { generation = refl; place = refl; other = refl; checkpoints = refl; opened = refl }
+stays_in_place faults old _ pass clock request _ (steps.without_memory is) = record { generation = refl; place = refl; other = refl; checkpoints = refl; opened = refl }
 
 abbrev seen : {D : Type 0} → StoreView D → Asker → InterpreterView D
 seen store asker = record { store = store; asker = asker }
@@ -121,6 +122,7 @@ module _ {D : Type 0} (clock : D → ℕ) (left_since : D → ℕ → List ℕ �
 
   goes_running : (old new : StoreView D) (asker : Asker) (request : StepRequest) (result : StoreReply) → result ≢ stores.Stopped → Stepped old asker request result new → StoreGoesOn clock left_since image faults old new None
   goes_running old new asker request result going s = record {
+    opened_stays = (stays_in_place faults old new asker.pass asker.clock request result s.answer).opened;
     checkpoints_go_on = ([], append-nil old.checkpoints ∙ sym (stays_in_place faults old new asker.pass asker.clock request result s.answer).checkpoints);
     generation_grows = omega (arith, (stays_in_place faults old new asker.pass asker.clock request result s.answer).generation);
     place_is = (stays_in_place faults old new asker.pass asker.clock request result s.answer).place;
@@ -170,6 +172,7 @@ module _ {D : Type 0} (clock : D → ℕ) (left_since : D → ℕ → List ℕ �
     holds = record { told = reply; event = Some event; answer = answer; becomes = stopped (happened event) room };
     goes_on = record {
       stop_for = tt;
+      opened_stays = refl;
       checkpoints_go_on = ([], append-nil old.checkpoints);
       generation_grows = omega arith;
       place_is = refl;
@@ -209,6 +212,7 @@ module _ {D : Type 0} (clock : D → ℕ) (left_since : D → ℕ → List ℕ �
   pub StoreGoesOn-same : (s : StoreView D) → s.stop ≡ None → StoreGoesOn clock left_since image faults s s None
   StoreGoesOn-same s running = record {
     stop_for = running_for s.stop running;
+    opened_stays = refl;
     checkpoints_go_on = ([], append-nil s.checkpoints);
     generation_grows = omega arith;
     place_is = refl;
@@ -226,6 +230,7 @@ module _ {D : Type 0} (clock : D → ℕ) (left_since : D → ℕ → List ℕ �
       StoreGoesOn clock left_since image faults old (with_checkpoint old asker.pass active) None
   checkpoint_goes old asker active fits running s = record {
     stop_for = running_for old.stop running;
+    opened_stays = refl;
     checkpoints_go_on = (record { after = length old.events; pass = asker.pass } ∷ [], refl);
     generation_grows = refl;
     place_is = refl;
@@ -261,6 +266,7 @@ module _ {D : Type 0} (clock : D → ℕ) (left_since : D → ℕ → List ℕ �
         holds = record { told = replies.Checkpointed; entry = Some (checkpointed asker.pass); answer = line_answer.made line_answer.makes_checkpoint; becomes = stopped (checkpointed asker.pass) fits };
         goes_on = record {
           stop_for = tt;
+          opened_stays = refl;
           checkpoints_go_on = ([], append-nil old.checkpoints);
           generation_grows = omega arith;
           place_is = refl;
@@ -325,6 +331,7 @@ module _ {D : Type 0} (clock : D → ℕ) (left_since : D → ℕ → List ℕ �
   pub StoreGoesOn-on : (old mid new : StoreView D) (met : Option StoreEntry) → StoreGoesOn clock left_since image faults old mid None → StoreGoesOn clock left_since image faults mid new met → StoreGoesOn clock left_since image faults old new met
   StoreGoesOn-on old mid new met one other = record {
     stop_for = other.stop_for;
+    opened_stays = other.opened_stays ∙ one.opened_stays;
     checkpoints_go_on = (one.checkpoints_go_on.0 ++ other.checkpoints_go_on.0, sym (append_assoc old.checkpoints one.checkpoints_go_on.0 other.checkpoints_go_on.0) ∙ ap (λ (cs : List Checkpoint). cs ++ other.checkpoints_go_on.0) one.checkpoints_go_on.1 ∙ other.checkpoints_go_on.1);
     generation_grows = let long = length-append one.checkpoints_go_on.0 other.checkpoints_go_on.0 in omega (arith, long, one.generation_grows, other.generation_grows);
     place_is = other.place_is ∙ ap (place_after (length other.checkpoints_go_on.0)) one.place_is ∙ sym (place_both one.checkpoints_go_on.0 other.checkpoints_go_on.0 old.second_active);

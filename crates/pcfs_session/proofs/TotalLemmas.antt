@@ -1,11 +1,11 @@
 -- Each line has an answer, and the lines of a script have an outcome.
-use Rattle.std.proofs.Common.{◌≡◌, ◌⊎◌, inl, inr, ◌+◌, ◌-◌, ◌^◌, ◌≤◌, ◌<◌, ℕ, List, [], ◌∷◌, Option, Some, None, length, Result, Ok, Err, refl, ap, arith}
+use Rattle.std.proofs.Common.{◌≡◌, ◌⊎◌, inl, inr, ◌+◌, ◌-◌, ◌^◌, ◌≤◌, ◌<◌, ℕ, List, [], ◌∷◌, Option, Some, None, length, Result, Ok, Err, refl, arith}
 use Rattle.std.proofs.lemmas.Bool.{cases_lt}
 use Rattle.journal_core.specs.Area.{area_limit}
 use Rattle.std.specs.List.{AllByRecursion}
 use Rattle.bl_syntax.specs.declared.grant.Goal.{Goal}
 use Rattle.bl_syntax.specs.FirstFailing.{IsFirstFailing}
-use Rattle.bl_syntax.specs.Statement.{StatementView, IsStatement}
+use Rattle.bl_syntax.specs.Statement.{IsStatement}
 use Rattle.bl_syntax.specs.Grant.{GrantView}
 use Rattle.procap.specs.declared.procap.Procap.{Procap as Sealed}
 use Rattle.proof_term.specs.Proof.{ProofView}
@@ -20,13 +20,14 @@ use Rattle.access_history.specs.declared.event.Issue.{Issue}
 use Rattle.access_history.specs.declared.request.StepRequest.TheVariants as requests
 use Rattle.access_history.specs.declared.reply.StepReply.TheVariants.{Absent}
 use Rattle.access_history.specs.Authority.{sayings, procap_of}
+use Rattle.access_history.specs.Books.{Book, book_of}
 use Rattle.access_history.specs.Base.{BaseView}
-use Rattle.access_history.specs.Citing.{AreFound, IsAbsent}
-use Rattle.access_history.specs.Numbered.{HasNumber, IsNumbered}
+use Rattle.access_history.specs.Citing.{AreFound}
+use Rattle.access_history.specs.Numbered.{IsNumbered}
 use Rattle.access_history.proofs.AnswerableLemmas.{has_answer}
-use Rattle.access_history.proofs.EitherLemmas.{OrNot, HasFailing, all_or_failing, HasItem, item_or_none, item_of_number}
+use Rattle.access_history.proofs.CitingLemmas.{IsToldOfNumbers, found_or_absent}
+use Rattle.access_history.proofs.EitherLemmas.{OrNot, HasFailing, all_or_failing, HasItem, item_or_none}
 use Rattle.access_history.proofs.LawfulLemmas.{IsLawfulBase-lawful}
-use Rattle.access_history.proofs.NumberedLemmas.{HasNumber-item}
 use Rattle.line_words.specs.declared.procap_word.ProcapWord.{ProcapWord}
 use Rattle.line_words.specs.declared.procap_word.ProcapWord.TheVariants as words
 use Rattle.line_forms.specs.declared.command.Command.{Command}
@@ -49,49 +50,22 @@ use Rattle.pcfs_session.specs.ScriptRun.{Standing, state_of_standing, standing_a
 use Rattle.pcfs_session.proofs.FormedLemmas.{IsWellFormed-line}
 use Rattle.pcfs_session.proofs.LawfulRunLemmas.{IsLawfulStanding-replied}
 
--- ---- the statements of numbers
-
--- the statements of the numbers, or the first number that has none
-abbrev IsToldOfNumbers : List StatementView → List ℕ → Type 0
-IsToldOfNumbers statements numbers = ((cites : List Cite) × AreFound statements numbers cites) ⊎ ((number : ℕ) × IsAbsent statements numbers number)
-
-has_of_item : (statements : List StatementView) (number : ℕ) → HasItem statements number ⊎ ((s : StatementView) → IsNumbered statements number s → ⊥) → OrNot (HasNumber statements number)
-has_of_item statements number (inl found) = inl (HasNumber-item statements number found.item found.numbered)
-has_of_item statements number (inr none) = inr (λ has. let found = item_of_number statements number has.0 has.1 in none found.item found.numbered)
-
-has_or_not : (statements : List StatementView) (number : ℕ) → OrNot (HasNumber statements number)
-has_or_not statements number = has_of_item statements number (item_or_none statements number)
-
-all_found : (statements : List StatementView) (numbers : List ℕ) → AllByRecursion (HasNumber statements) numbers → (cites : List Cite) × AreFound statements numbers cites
-all_found statements [] all = ([], record { numbers_are = refl; stand = tt })
-all_found statements (number ∷ numbers) all =
-    let first = item_of_number statements number all.0.0 all.0.1 in
-    let rest = all_found statements numbers all.1 in
-    (record { number = number; statement = first.item } ∷ rest.0, record { numbers_are = ap (λ (ns : List ℕ). number ∷ ns) rest.1.numbers_are; stand = (first.numbered, rest.1.stand) })
-
-told_of : (statements : List StatementView) (numbers : List ℕ) → AllByRecursion (HasNumber statements) numbers ⊎ HasFailing (HasNumber statements) numbers → IsToldOfNumbers statements numbers
-told_of statements numbers (inl all) = inl (all_found statements numbers all)
-told_of statements numbers (inr failing) = inr (failing.item, record { place = failing.place; first = failing.first })
-
-told_of_numbers : (statements : List StatementView) (numbers : List ℕ) → IsToldOfNumbers statements numbers
-told_of_numbers statements numbers = told_of statements numbers (all_or_failing (HasNumber statements) (has_or_not statements) numbers)
-
 -- ---- a proof from the statements of numbers
 
 -- what it proves, or why it proves nothing
-abbrev IsToldOfProof : List StatementView → Goal → List ℕ → ProofView → Type 0
-IsToldOfProof statements goal numbers proof = ((cites : List Cite) × (g : GrantView) × IsProved statements goal numbers proof cites g) ⊎ ((reply : LineReply) × IsUnproved statements goal numbers proof reply)
+abbrev IsToldOfProof : Book → Goal → List ℕ → ProofView → Type 0
+IsToldOfProof book goal numbers proof = ((cites : List Cite) × (g : GrantView) × IsProved book goal numbers proof cites g) ⊎ ((reply : LineReply) × IsUnproved book goal numbers proof reply)
 
-by_verdict : (statements : List StatementView) (goal : Goal) (numbers : List ℕ) (proof : ProofView) (cites : List Cite) → AreFound statements numbers cites → (r : Result GrantView CheckFault) → verdict (statements_of cites) goal proof ≡ r → IsToldOfProof statements goal numbers proof
-by_verdict statements goal numbers proof cites found (Ok g) is = inl (cites, g, record { found = found; verdict_is = is })
-by_verdict statements goal numbers proof cites found (Err fault) is = inr (replies.Unproved fault, proves_none cites fault found is)
+by_verdict : (book : Book) (goal : Goal) (numbers : List ℕ) (proof : ProofView) (cites : List Cite) → AreFound book numbers cites → (r : Result GrantView CheckFault) → verdict (statements_of cites) goal proof ≡ r → IsToldOfProof book goal numbers proof
+by_verdict book goal numbers proof cites found (Ok g) is = inl (cites, g, record { found = found; verdict_is = is })
+by_verdict book goal numbers proof cites found (Err fault) is = inr (replies.Unproved fault, proves_none cites fault found is)
 
-by_numbers : (statements : List StatementView) (goal : Goal) (numbers : List ℕ) (proof : ProofView) → IsToldOfNumbers statements numbers → IsToldOfProof statements goal numbers proof
-by_numbers statements goal numbers proof (inl found) = by_verdict statements goal numbers proof found.0 found.1 (verdict (statements_of found.0) goal proof) refl
-by_numbers statements goal numbers proof (inr absent) = inr (replies.Step (Absent absent.0), cites_none absent.0 absent.1)
+by_numbers : (book : Book) (goal : Goal) (numbers : List ℕ) (proof : ProofView) → IsToldOfNumbers book numbers → IsToldOfProof book goal numbers proof
+by_numbers book goal numbers proof (inl found) = by_verdict book goal numbers proof found.0 found.1 (verdict (statements_of found.0) goal proof) refl
+by_numbers book goal numbers proof (inr absent) = inr (replies.Step (Absent absent.0), cites_none absent.0 absent.1)
 
-told_of_proof : (statements : List StatementView) (goal : Goal) (numbers : List ℕ) (proof : ProofView) → IsToldOfProof statements goal numbers proof
-told_of_proof statements goal numbers proof = by_numbers statements goal numbers proof (told_of_numbers statements numbers)
+told_of_proof : (book : Book) (goal : Goal) (numbers : List ℕ) (proof : ProofView) → IsToldOfProof book goal numbers proof
+told_of_proof book goal numbers proof = by_numbers book goal numbers proof (found_or_absent book numbers)
 
 -- ---- the procaps that words bring
 
@@ -136,11 +110,11 @@ abbrev IsLooked : Secrets → BaseView → Asker → Command → Type 0
 IsLooked secrets state asker command = (look : Look) × ComesTo secrets state asker command look
 
 module _ (secrets : Secrets) (state : BaseView) (asker : Asker) where
-  verified : (goal : Goal) (numbers : List ℕ) (proof : ProofView) → IsToldOfProof (sayings state.statements) goal numbers proof → IsLooked secrets state asker (Verify goal numbers proof)
+  verified : (goal : Goal) (numbers : List ℕ) (proof : ProofView) → IsToldOfProof (book_of state) goal numbers proof → IsLooked secrets state asker (Verify goal numbers proof)
   verified goal numbers proof (inl proved) = (requested (requests.Issue (checked_view proved.0 goal proof proved.1)), line_answer.verifies goal numbers proof proved.0 proved.1 proved.2)
   verified goal numbers proof (inr refused) = (replied refused.0, line_answer.verifies_nothing goal numbers proof refused.0 refused.1)
 
-  checked : (goal : Goal) (numbers : List ℕ) (proof : ProofView) → IsToldOfProof (sayings state.statements) goal numbers proof → IsLooked secrets state asker (Check goal numbers proof)
+  checked : (goal : Goal) (numbers : List ℕ) (proof : ProofView) → IsToldOfProof (book_of state) goal numbers proof → IsLooked secrets state asker (Check goal numbers proof)
   checked goal numbers proof (inl proved) = (replied (replies.Checked proved.1), line_answer.checks goal numbers proof proved.0 proved.1 proved.2)
   checked goal numbers proof (inr refused) = (replied refused.0, line_answer.checks_nothing goal numbers proof refused.0 refused.1)
 
@@ -152,8 +126,8 @@ module _ (secrets : Secrets) (state : BaseView) (asker : Asker) where
   look_at (At second) = (replied replies.Done, line_answer.sets_clock second)
   look_at (As who) = (replied replies.Done, line_answer.sets_caller who)
   look_at (Register signature statement) = (requested (requests.Register statement (signature_under secrets.ring statement signature)), line_answer.registers signature statement)
-  look_at (Verify goal numbers proof) = verified goal numbers proof (told_of_proof (sayings state.statements) goal numbers proof)
-  look_at (Check goal numbers proof) = checked goal numbers proof (told_of_proof (sayings state.statements) goal numbers proof)
+  look_at (Verify goal numbers proof) = verified goal numbers proof (told_of_proof (book_of state) goal numbers proof)
+  look_at (Check goal numbers proof) = checked goal numbers proof (told_of_proof (book_of state) goal numbers proof)
   look_at (Procap number) = (requested (requests.ShowProcap number asker.sees), line_answer.shows number)
   look_at Checkpoint = (line_answer.checkpoint, line_answer.makes_checkpoint)
   look_at (Do op given) = done op given (told_of_words secrets.seal_key state.issues given)
@@ -189,9 +163,9 @@ IsCalm (replied reply) = IsUndisturbed reply
 IsCalm (requested request) = Unit {0}
 IsCalm line_answer.checkpoint = Unit {0}
 
-unproved_calm : (statements : List StatementView) (goal : Goal) (numbers : List ℕ) (proof : ProofView) (reply : LineReply) → IsUnproved statements goal numbers proof reply → IsUndisturbed reply
-unproved_calm statements goal numbers proof _ (cites_none number absent) = record { had_memory = λ is. absurd cc; not_stopped = λ is. absurd cc }
-unproved_calm statements goal numbers proof _ (proves_none cites fault found verdict_is) = record { had_memory = λ is. absurd cc; not_stopped = λ is. absurd cc }
+unproved_calm : (book : Book) (goal : Goal) (numbers : List ℕ) (proof : ProofView) (reply : LineReply) → IsUnproved book goal numbers proof reply → IsUndisturbed reply
+unproved_calm book goal numbers proof _ (cites_none number absent) = record { had_memory = λ is. absurd cc; not_stopped = λ is. absurd cc }
+unproved_calm book goal numbers proof _ (proves_none cites fault found verdict_is) = record { had_memory = λ is. absurd cc; not_stopped = λ is. absurd cc }
 
 looked_calm : (secrets : Secrets) (state : BaseView) (asker : Asker) (command : Command) (look : Look) → ComesTo secrets state asker command look → IsCalm look
 looked_calm secrets state asker _ _ (line_answer.sets_clock second) = record { had_memory = λ is. absurd cc; not_stopped = λ is. absurd cc }
@@ -199,9 +173,9 @@ looked_calm secrets state asker _ _ (line_answer.sets_caller who) = record { had
 looked_calm secrets state asker _ _ (line_answer.registers signature statement) = tt
 looked_calm secrets state asker _ _ (line_answer.shows number) = tt
 looked_calm secrets state asker _ _ line_answer.makes_checkpoint = tt
-looked_calm secrets state asker _ _ (line_answer.verifies_nothing goal numbers proof reply refused) = unproved_calm (sayings state.statements) goal numbers proof reply refused
+looked_calm secrets state asker _ _ (line_answer.verifies_nothing goal numbers proof reply refused) = unproved_calm (book_of state) goal numbers proof reply refused
 looked_calm secrets state asker _ _ (line_answer.verifies goal numbers proof cites g proved) = tt
-looked_calm secrets state asker _ _ (line_answer.checks_nothing goal numbers proof reply refused) = unproved_calm (sayings state.statements) goal numbers proof reply refused
+looked_calm secrets state asker _ _ (line_answer.checks_nothing goal numbers proof reply refused) = unproved_calm (book_of state) goal numbers proof reply refused
 looked_calm secrets state asker _ _ (line_answer.checks goal numbers proof cites g proved) = record { had_memory = λ is. absurd cc; not_stopped = λ is. absurd cc }
 looked_calm secrets state asker _ _ (line_answer.acts_under_none op given number none) = record { had_memory = λ is. absurd cc; not_stopped = λ is. absurd cc }
 looked_calm secrets state asker _ _ (line_answer.acts op given procaps brought) = tt

@@ -19,7 +19,8 @@ use Rattle.access_history.specs.declared.reply.StepReply.{StepReply}
 use Rattle.access_history.specs.declared.reply.StepReply.TheVariants.{Absent}
 use Rattle.access_history.specs.Base.{BaseView}
 use Rattle.access_history.specs.Answer.{Answers}
-use Rattle.access_history.specs.Authority.{Authority, sayings}
+use Rattle.access_history.specs.Authority.{Authority}
+use Rattle.access_history.specs.Books.{book_of}
 use Rattle.access_history.specs.History.{authority_with}
 use Rattle.line_words.specs.declared.procap_word.ProcapWord.{ProcapWord}
 use Rattle.line_forms.specs.declared.command.Command.{Command}
@@ -58,13 +59,13 @@ pub data ComesTo (secrets : Secrets) (state : BaseView) (asker : Asker) : Comman
       ComesTo secrets state asker (Register signature statement) (requested (requests.Register statement (signature_under secrets.ring statement signature)))
   shows : (number : ℕ) → ComesTo secrets state asker (Procap number) (requested (requests.ShowProcap number asker.sees))
   makes_checkpoint : ComesTo secrets state asker Checkpoint checkpoint
-  verifies_nothing : (goal : Goal) (numbers : List ℕ) (proof : ProofView) (reply : LineReply) → IsUnproved (sayings state.statements) goal numbers proof reply →
+  verifies_nothing : (goal : Goal) (numbers : List ℕ) (proof : ProofView) (reply : LineReply) → IsUnproved (book_of state) goal numbers proof reply →
       ComesTo secrets state asker (Verify goal numbers proof) (replied reply)
-  verifies : (goal : Goal) (numbers : List ℕ) (proof : ProofView) (cites : List Cite) (g : GrantView) → IsProved (sayings state.statements) goal numbers proof cites g →
+  verifies : (goal : Goal) (numbers : List ℕ) (proof : ProofView) (cites : List Cite) (g : GrantView) → IsProved (book_of state) goal numbers proof cites g →
       ComesTo secrets state asker (Verify goal numbers proof) (requested (requests.Issue (checked_view cites goal proof g)))
-  checks_nothing : (goal : Goal) (numbers : List ℕ) (proof : ProofView) (reply : LineReply) → IsUnproved (sayings state.statements) goal numbers proof reply →
+  checks_nothing : (goal : Goal) (numbers : List ℕ) (proof : ProofView) (reply : LineReply) → IsUnproved (book_of state) goal numbers proof reply →
       ComesTo secrets state asker (Check goal numbers proof) (replied reply)
-  checks : (goal : Goal) (numbers : List ℕ) (proof : ProofView) (cites : List Cite) (g : GrantView) → IsProved (sayings state.statements) goal numbers proof cites g →
+  checks : (goal : Goal) (numbers : List ℕ) (proof : ProofView) (cites : List Cite) (g : GrantView) → IsProved (book_of state) goal numbers proof cites g →
       ComesTo secrets state asker (Check goal numbers proof) (replied (replies.Checked g))
   acts_under_none : (op : Op) (words : List ProcapWord) (number : ℕ) → IsFirstUnissued state.issues words number →
       ComesTo secrets state asker (Do op words) (replied (replies.Step (Absent number)))

@@ -14,6 +14,7 @@ use Rattle.journal_core.specs.Area.{area_limit}
 use Rattle.checkpoint_image.specs.ImageSpelling.{image_spelling}
 use Rattle.pcfs_store.specs.declared.checkpoints.Checkpoint.{Checkpoint}
 use Rattle.pcfs_store.specs.Entries.{StoreEntry, happened, checkpointed, stopped as stop_mark}
+use Rattle.pcfs_store.specs.Image.{fresh_image}
 use Rattle.pcfs_store.specs.StoredHistory.{IsFull}
 use Rattle.pcfs_session.specs.Room.{used_with}
 
@@ -98,7 +99,7 @@ script_pass = 1
 
 -- where the closed gate of an area without an event stands, after its image
 abbrev pub fresh_used : ℕ
-fresh_used = 89
+fresh_used = 24 + length fresh_image
 
 -- where a script over a store before its first event begins, under these secrets
 abbrev pub fresh_start : Secrets → Standing

@@ -28,6 +28,7 @@ module _ {D : Type 0} (clock : D → ℕ) (left_since : D → ℕ → List ℕ �
   -- or, if it was for an event, with it the event.
   pub record StoreGoesOn (old new : StoreView D) (met : Option StoreEntry) : Type 0 where
     pub stop_for : IsStopFor new.stop met
+    pub opened_stays : new.opened ≡ old.opened
     pub checkpoints_go_on : IsPrefix old.checkpoints new.checkpoints
     pub generation_grows : new.generation ≡ old.generation + length checkpoints_go_on.0
     pub place_is : new.second_active ≡ place_after (length checkpoints_go_on.0) old.second_active

@@ -21,7 +21,7 @@ use Rattle.pcfs_store.specs.declared.reply.CheckpointReply.TheVariants.{Checkpoi
 use Rattle.pcfs_store.specs.Image.{IsImageOf}
 use Rattle.pcfs_store.specs.StoredHistory.{payloads_of, state_after, area_since}
 use Rattle.pcfs_store.specs.Newest.{newest, one_of, SurvivesWholeClosed}
-use Rattle.pcfs_store.specs.StoreView.{StoreView, first_disk, second_disk, last_after, settled_of, body_of, state_of_store, AreInOrder, IsStore}
+use Rattle.pcfs_store.specs.StoreView.{StoreView, first_disk, second_disk, last_after, settled_of, head_of, image_since, image_of, body_of, state_of_store, AreInOrder, IsStore}
 use Rattle.pcfs_store.specs.Ready.{tie, IsBehind, IsReady, IsCurrent, StopsLeave, StopsNow, Keeps, ready, halted, halted_whole}
 use Rattle.pcfs_store.specs.Checkpoints.{IsFullForCheckpoint, with_checkpoint, MakesCheckpoint, made, full, failed, stopped, without_memory, IsNewestCheckpoint, Checkpoints}
 use Rattle.pcfs_store.specs.Moving.{Overwrites}
@@ -57,14 +57,17 @@ order_push : (least most : ℕ) (checkpoints : List Checkpoint) (mark : Checkpoi
 order_push least most [] mark order is = (omega (arith, order, is), omega (arith, is))
 order_push least most (checkpoint ∷ checkpoints) mark order is = (order.0, order_push checkpoint.after most checkpoints mark order.1 is)
 
--- the state after all events, and the area with its image
+-- the state after all events, and the area with an image of it
 state_whole : (base : BaseView) (events : List Event) → state_after base events (length events) ≡ replay base events
 state_whole base events = ap (replay base) (take_all (length events) events (omega arith))
 
-area_whole : (generation : ℕ) (base : BaseView) (events : List Event) → area_since generation base events (length events) ≡ area_bytes generation (image_spelling (replay base events)) []
-area_whole generation base events =
-    ap (λ (b : BaseView). area_bytes generation (image_spelling b) (payloads_of (drop (length events) events))) (state_whole base events)
-    ∙ ap (λ (es : List Event). area_bytes generation (image_spelling (replay base events)) (payloads_of es)) (drop_all (length events) events (omega arith))
+area_whole : (generation : ℕ) (image : List ℕ) (events : List Event) → area_since generation image events (length events) ≡ area_bytes generation image []
+area_whole generation image events = ap (λ (es : List Event). area_bytes generation image (payloads_of es)) (drop_all (length events) events (omega arith))
+
+-- the image of the last checkpoint
+image_push : (opened : List ℕ) (head : BaseView) (checkpoints : List Checkpoint) (mark : Checkpoint) → image_since opened head (checkpoints ++ mark ∷ []) ≡ image_spelling head
+image_push opened head [] mark = refl
+image_push opened head (checkpoint ∷ checkpoints) mark = refl
 
 -- the next generation is one
 next_generation : (generation : ℕ) → IsGeneration generation → (2 ^ 48 - 1 ≤ generation → ⊥) → IsGeneration (generation + 1)
@@ -143,8 +146,11 @@ module _ {D : Type 0} (clock : D → ℕ) (left_since : D → ℕ → List ℕ �
 
   module _ (old : StoreView D) (store : IsStore old) (is_image : IsImageOf (state_of_store old) (image_spelling (state_of_store old))) (few : 2 ^ 48 - 1 ≤ old.generation → ⊥) (disk : D)
       (writes : Overwrites clock left_since image faults old.other disk (old.generation + 1) (image_spelling (state_of_store old))) where
+    abbrev written_image : List ℕ
+    written_image = image_spelling (state_of_store old)
+
     abbrev area : List ℕ
-    area = area_bytes (old.generation + 1) (image_spelling (state_of_store old)) []
+    area = area_bytes (old.generation + 1) written_image []
 
     abbrev all : ℕ
     all = length old.events
@@ -154,21 +160,24 @@ module _ {D : Type 0} (clock : D → ℕ) (left_since : D → ℕ → List ℕ �
     room (inr last) = few last
 
     fits : length area < area_limit
-    fits = fits_next (old.generation + 1) (image_spelling (state_of_store old)) writes.fits
+    fits = fits_next (old.generation + 1) written_image writes.fits
 
-    next_tellable : IsTellable (old.generation + 1) old.base old.events all
+    next_whole : area_since (old.generation + 1) written_image old.events all ≡ area
+    next_whole = area_whole (old.generation + 1) written_image old.events
+
+    next_tellable : IsTellable (old.generation + 1) written_image old.base old.events all
     next_tellable = record {
       generated = next_generation old.generation store.generated few;
       within = omega arith;
-      is_image = subst (λ (b : BaseView). IsImageOf b (image_spelling b)) (sym (state_whole old.base old.events)) is_image;
+      is_image = subst (λ (b : BaseView). IsImageOf b written_image) (sym (state_whole old.base old.events)) is_image;
       spelled = store.spelled;
-      fits = subst (λ (bytes : List ℕ). length bytes < area_limit) (sym (area_whole (old.generation + 1) old.base old.events)) fits;
+      fits = subst (λ (bytes : List ℕ). length bytes < area_limit) (sym next_whole) fits;
     }
 
     -- an area of this generation is older than the next one
     older : (bytes : List ℕ) → StandsForBody (body_of old) bytes → IsBehind (not old.second_active) (old.generation + 1) (generation_of bytes)
     older bytes stands =
-        subst (IsBehind (not old.second_active) (old.generation + 1)) (sym (generation_since old.generation old.base old.events (settled_of old) bytes (tellable_store old store) stands)) (by old.second_active)
+        subst (IsBehind (not old.second_active) (old.generation + 1)) (sym (generation_since old.generation (image_of old) old.base old.events (settled_of old) bytes (tellable_store old store) stands)) (by old.second_active)
       where
         by : (second : Bool) → old.generation + tie (not second) ≤ old.generation + 1
         by false = omega arith
@@ -177,12 +186,12 @@ module _ {D : Type 0} (clock : D → ℕ) (left_since : D → ℕ → List ℕ �
     -- a pair of which the other has the area of the next generation, or an area that is older, or none
     survives_pair : (a o : List ℕ) → Closed (body_of old) a → IsBehind old.second_active old.generation (generation_of o) ⊎ Closed area o →
         SurvivesWholeClosed old.base old.events (one_of a o old.second_active) (one_of o a old.second_active)
-    survives_pair a o closed (inl behind) = survives_closed old.second_active a o old.generation old.base old.events (settled_of old) (tellable_store old store) closed behind
+    survives_pair a o closed (inl behind) = survives_closed old.second_active a o old.generation (image_of old) old.base old.events (settled_of old) (tellable_store old store) closed behind
     survives_pair a o closed (inr next) =
         subst (λ (x : List ℕ). SurvivesWholeClosed old.base old.events x (one_of o a old.second_active)) (exchanged old.second_active o a)
         (subst (λ (y : List ℕ). SurvivesWholeClosed old.base old.events (one_of o a (not old.second_active)) y) (exchanged old.second_active a o)
-        (survives_closed (not old.second_active) o a (old.generation + 1) old.base old.events all next_tellable
-        (subst (λ (body : List ℕ). Closed body o) (sym (area_whole (old.generation + 1) old.base old.events)) next) (older a closed.stands)))
+        (survives_closed (not old.second_active) o a (old.generation + 1) written_image old.base old.events all next_tellable
+        (subst (λ (body : List ℕ). Closed body o) (sym next_whole) next) (older a closed.stands)))
 
     goes_on : (is_ready : IsReady clock left_since image old) → LeavesOnly clock left_since old.other disk (IsOldOrShutOrNew is_ready.other_bytes area)
     goes_on is_ready = writes.any_moment is_ready.other_bytes is_ready.other_told is_ready.other_pinned
@@ -209,18 +218,27 @@ module _ {D : Type 0} (clock : D → ℕ) (left_since : D → ℕ → List ℕ �
       last_is : settled_of new ≡ all
       last_is = last_push 0 old.checkpoints (record { after = all; pass = pass })
 
+      head_is : head_of new ≡ state_of_store old
+      head_is = ap (state_after old.base old.events) last_is ∙ state_whole old.base old.events
+
+      image_is : image_of new ≡ written_image
+      image_is = image_push old.opened (head_of new) old.checkpoints (record { after = all; pass = pass }) ∙ ap image_spelling head_is
+
       body_is : body_of new ≡ area
-      body_is = ap (area_since (old.generation + 1) old.base old.events) last_is ∙ area_whole (old.generation + 1) old.base old.events
+      body_is =
+          ap (λ (i : List ℕ). area_since (old.generation + 1) i old.events (settled_of new)) image_is
+          ∙ ap (area_since (old.generation + 1) written_image old.events) last_is
+          ∙ next_whole
 
       pub next_store : IsStore new
       next_store = record {
         generated = next_tellable.generated;
         counted = let more = length-append old.checkpoints (record { after = all; pass = pass } ∷ []) in omega (arith, more, store.counted);
         in_order = order_push 0 all old.checkpoints (record { after = all; pass = pass }) store.in_order refl;
-        is_image = subst (λ (n : ℕ). IsImageOf (state_after old.base old.events n) (image_spelling (state_after old.base old.events n))) (sym last_is) next_tellable.is_image;
+        is_image = subst (IsImageOf (head_of new)) (sym image_is) (subst (λ (b : BaseView). IsImageOf b written_image) (sym head_is) is_image);
         spelled = store.spelled;
-        used_is = let long = area-length (old.generation + 1) (image_spelling (state_of_store old)) [] in omega (arith, long, ap length body_is);
-        fits = let long = area-length (old.generation + 1) (image_spelling (state_of_store old)) [] in omega (arith, long, fits);
+        used_is = let long = area-length (old.generation + 1) written_image [] in omega (arith, long, ap length body_is);
+        fits = let long = area-length (old.generation + 1) written_image [] in omega (arith, long, fits);
       }
 
       closed_next : (before : List ℕ) → Closed area (written 0 (area ++ 0 ∷ []) before)
@@ -273,7 +291,7 @@ module _ {D : Type 0} (clock : D → ℕ) (left_since : D → ℕ → List ℕ �
           record {
             bytes = o;
             counts = newest_active (not old.second_active) o a (old.generation + 1)
-                (generation_since (old.generation + 1) old.base old.events all o next_tellable (subst (λ (body : List ℕ). StandsForBody body o) (sym (area_whole (old.generation + 1) old.base old.events)) closed.stands))
+                (generation_since (old.generation + 1) written_image old.base old.events all o next_tellable (subst (λ (body : List ℕ). StandsForBody body o) (sym next_whole) closed.stands))
                 (older a (at_some (image old.active) (StandsForBody (body_of old)) a is_a current.active));
             closed = closed;
           })

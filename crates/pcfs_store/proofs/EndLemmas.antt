@@ -38,10 +38,10 @@ gate_is gate after key ring base events =
     ∙ ap (λ e. record after { key = gate.key; ring = gate.ring; base = gate.base; events = e }) events
 
 module _ {D : Type 0} (clock : D → ℕ) (left_since : D → ℕ → List ℕ → Type 0) (image : D → Option (List ℕ)) (faults : D → ℕ)
-    (area : AreaView D) (other : D) (second : Bool) (generation : ℕ) (gate : GateView) (checkpoints : List Checkpoint) (stop : Option ℕ) (keeping : IsKeeping area other second generation gate checkpoints stop)
-    (s : StoreView D) (view_is : store_of area other second generation gate checkpoints stop ≡ s) (pass : ℕ) (raw at : ℤ) (raw_is : raw ≡ at) (request : StepRequest) where
+    (area : AreaView D) (other : D) (second : Bool) (generation : ℕ) (opened : List ℕ) (gate : GateView) (checkpoints : List Checkpoint) (stop : Option ℕ) (keeping : IsKeeping area other second generation opened gate checkpoints stop)
+    (s : StoreView D) (view_is : store_of area other second generation opened gate checkpoints stop ≡ s) (pass : ℕ) (raw at : ℤ) (raw_is : raw ≡ at) (request : StepRequest) where
   abbrev before : StoreView D
-  before = store_of area other second generation gate checkpoints stop
+  before = store_of area other second generation opened gate checkpoints stop
 
   abbrev Ends : StoreReply → StoreView D → Type 0
   Ends result new = Clauses clock left_since image faults s pass at request result new
@@ -66,19 +66,19 @@ module _ {D : Type 0} (clock : D → ℕ) (left_since : D → ℕ → List ℕ �
     after_is = gate_is gate after key ring base events
 
     -- nothing is kept
-    same_end : (result : StoreReply) → (result ≡ Stopped → ⊥) → Steps faults before pass at request result before → Ends result (store_of area other second generation after checkpoints stop)
+    same_end : (result : StoreReply) → (result ≡ Stopped → ⊥) → Steps faults before pass at request result before → Ends result (store_of area other second generation opened after checkpoints stop)
     same_end result goes steps =
-        subst (λ (g : GateView). Ends result (store_of area other second generation g checkpoints stop)) (sym after_is)
+        subst (λ (g : GateView). Ends result (store_of area other second generation opened g checkpoints stop)) (sym after_is)
         (ends result before (nothing_changed clock left_since image faults before pass at request result keeping.store steps (λ _ is. goes is)))
 
-    pub answered_end : (reply : StepReply) → Answers (authority_with gate.key gate.ring) (replay gate.base gate.events) pass raw request reply None → Ends (Step reply) (store_of area other second generation after checkpoints stop)
+    pub answered_end : (reply : StepReply) → Answers (authority_with gate.key gate.ring) (replay gate.base gate.events) pass raw request reply None → Ends (Step reply) (store_of area other second generation opened after checkpoints stop)
     answered_end reply answers =
         same_end (Step reply) (λ is. unlike is) (answered reply running (subst (λ (z : ℤ). Answers (authority_with gate.key gate.ring) (replay gate.base gate.events) pass z request reply None) raw_is answers))
       where
         unlike : Step reply ≡ Stopped → ⊥
         unlike is = cc
 
-    pub undecided_end : Ends NoMemory (store_of area other second generation after checkpoints stop)
+    pub undecided_end : Ends NoMemory (store_of area other second generation opened after checkpoints stop)
     undecided_end = same_end NoMemory (λ is. unlike is) (without_memory running)
       where
         unlike : NoMemory ≡ Stopped → ⊥
@@ -108,19 +108,19 @@ module _ {D : Type 0} (clock : D → ℕ) (left_since : D → ℕ → List ℕ �
 
       -- it was kept
       kept_is : HasWritten clock left_since image faults area area_after event → gate_after ≡ with_kept (record gate { pending = after.pending }) event →
-          store_of area_after other second generation gate_after checkpoints stop ≡ with_event before event area_after.disk
+          store_of area_after other second generation opened gate_after checkpoints stop ≡ with_event before event area_after.disk
       kept_is written is =
-          ap (λ (g : GateView). store_of area_after other second generation g checkpoints stop) is
+          ap (λ (g : GateView). store_of area_after other second generation opened g checkpoints stop) is
           ∙ ap (λ (n : ℕ). record before { active = area_after.disk; used = n; events = gate.events ++ event ∷ [] }) (let long : area_after.end ≡ area.end + (5 + length (event_spelling event)) = omega (arith, written.end) in long)
 
-      pub kept_end : IfSome after.pending (λ e. KeepsPending clock left_since image faults area after e (Ok tt) area_after gate_after) → Ends (Step reply) (store_of area_after other second generation gate_after checkpoints stop)
+      pub kept_end : IfSome after.pending (λ e. KeepsPending clock left_since image faults area after e (Ok tt) area_after gate_after) → Ends (Step reply) (store_of area_after other second generation opened gate_after checkpoints stop)
       kept_end keeps =
           let k = became (Ok tt) keeps in
           subst (Ends (Step reply)) (sym (kept_is k.0 k.2))
           (ends (Step reply) (with_event before event area_after.disk)
           (was_kept clock left_since image faults before event area_after keeping.store k.0.writes k.0 pass at request reply running answers k.1))
 
-      pub kept_keeps : IfSome after.pending (λ e. KeepsPending clock left_since image faults area after e (Ok tt) area_after gate_after) → IsKeeping area_after other second generation gate_after checkpoints stop
+      pub kept_keeps : IfSome after.pending (λ e. KeepsPending clock left_since image faults area after e (Ok tt) area_after gate_after) → IsKeeping area_after other second generation opened gate_after checkpoints stop
       kept_keeps keeps =
           let k = became (Ok tt) keeps in
           record {
@@ -129,15 +129,15 @@ module _ {D : Type 0} (clock : D → ℕ) (left_since : D → ℕ → List ℕ �
           }
 
       -- it was dropped
-      dropped_is : area_after ≡ area → gate_after ≡ without_pending (record gate { pending = after.pending }) → store_of area_after other second generation gate_after checkpoints stop ≡ before
-      dropped_is same is = ap (λ (a : AreaView D). store_of a other second generation gate_after checkpoints stop) same ∙ ap (λ (g : GateView). store_of area other second generation g checkpoints stop) is
+      dropped_is : area_after ≡ area → gate_after ≡ without_pending (record gate { pending = after.pending }) → store_of area_after other second generation opened gate_after checkpoints stop ≡ before
+      dropped_is same is = ap (λ (a : AreaView D). store_of a other second generation opened gate_after checkpoints stop) same ∙ ap (λ (g : GateView). store_of area other second generation opened g checkpoints stop) is
 
       dropped_end : (result : StoreReply) → (result ≡ Stopped → ⊥) → Steps faults before pass at request result before → area_after ≡ area → gate_after ≡ without_pending (record gate { pending = after.pending }) →
-          Ends result (store_of area_after other second generation gate_after checkpoints stop)
+          Ends result (store_of area_after other second generation opened gate_after checkpoints stop)
       dropped_end result goes steps same is =
           subst (Ends result) (sym (dropped_is same is)) (ends result before (nothing_changed clock left_since image faults before pass at request result keeping.store steps (λ _ at_end. goes at_end)))
 
-      pub full_end : (fault : AreaFault) → fault ≡ faults_of_area.AreaFull → IfSome after.pending (λ e. KeepsPending clock left_since image faults area after e (Err fault) area_after gate_after) → Ends Full (store_of area_after other second generation gate_after checkpoints stop)
+      pub full_end : (fault : AreaFault) → fault ≡ faults_of_area.AreaFull → IfSome after.pending (λ e. KeepsPending clock left_since image faults area after e (Err fault) area_after gate_after) → Ends Full (store_of area_after other second generation opened gate_after checkpoints stop)
       full_end fault fault_is keeps =
           let k = became (Err faults_of_area.AreaFull) (with_fault fault faults_of_area.AreaFull fault_is keeps) in
           dropped_end Full (λ is. unlike is) (full reply event running answers k.0) k.1 k.2
@@ -145,7 +145,7 @@ module _ {D : Type 0} (clock : D → ℕ) (left_since : D → ℕ → List ℕ �
           unlike : Full ≡ Stopped → ⊥
           unlike is = cc
 
-      pub unrecorded_end : (fault : AreaFault) → fault ≡ faults_of_area.NoMemory → IfSome after.pending (λ e. KeepsPending clock left_since image faults area after e (Err fault) area_after gate_after) → Ends NoMemory (store_of area_after other second generation gate_after checkpoints stop)
+      pub unrecorded_end : (fault : AreaFault) → fault ≡ faults_of_area.NoMemory → IfSome after.pending (λ e. KeepsPending clock left_since image faults area after e (Err fault) area_after gate_after) → Ends NoMemory (store_of area_after other second generation opened gate_after checkpoints stop)
       unrecorded_end fault fault_is keeps =
           let k = became (Err faults_of_area.NoMemory) (with_fault fault faults_of_area.NoMemory fault_is keeps) in
           dropped_end NoMemory (λ is. unlike is) (without_memory running) k.0 k.1
@@ -155,13 +155,13 @@ module _ {D : Type 0} (clock : D → ℕ) (left_since : D → ℕ → List ℕ �
 
       -- the disk failed
       failed_is : HasFailed clock left_since image faults area area_after event → gate_after ≡ without_pending (record gate { pending = after.pending }) →
-          store_of area_after other second generation gate_after checkpoints (Some pass) ≡ record before { active = area_after.disk; stop = Some pass }
+          store_of area_after other second generation opened gate_after checkpoints (Some pass) ≡ record before { active = area_after.disk; stop = Some pass }
       failed_is fault is =
-          ap (λ (g : GateView). store_of area_after other second generation g checkpoints (Some pass)) is
+          ap (λ (g : GateView). store_of area_after other second generation opened g checkpoints (Some pass)) is
           ∙ ap (λ (n : ℕ). record before { active = area_after.disk; used = n; stop = Some pass }) fault.end
 
       pub failed_end : ((disk : D) (t u : ℕ) (bytes : List ℕ) → t ≤ u → left_since disk u bytes → left_since disk t bytes) →
-          (fault : AreaFault) → fault ≡ faults_of_area.Disk → IfSome after.pending (λ e. KeepsPending clock left_since image faults area after e (Err fault) area_after gate_after) → Ends Stopped (store_of area_after other second generation gate_after checkpoints (Some pass))
+          (fault : AreaFault) → fault ≡ faults_of_area.Disk → IfSome after.pending (λ e. KeepsPending clock left_since image faults area after e (Err fault) area_after gate_after) → Ends Stopped (store_of area_after other second generation opened gate_after checkpoints (Some pass))
       failed_end earlier fault fault_is keeps =
           let k = became (Err faults_of_area.Disk) (with_fault fault faults_of_area.Disk fault_is keeps) in
           subst (Ends Stopped) (sym (failed_is k.0 k.2))

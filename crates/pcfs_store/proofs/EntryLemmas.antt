@@ -17,7 +17,7 @@ use Rattle.pcfs_store.specs.declared.reply.StoreReply.TheVariants.{Full, NoMemor
 use Rattle.checkpoint_image.specs.ImageSpelling.{image_spelling}
 use Rattle.pcfs_store.specs.declared.checkpoints.Checkpoint.{Checkpoint}
 use Rattle.pcfs_store.specs.StoredHistory.{payloads_of, state_after, area_since}
-use Rattle.pcfs_store.specs.StoreView.{StoreView, AnswersIn, authority_of_store, last_after, settled_of, AreInOrder, IsStore}
+use Rattle.pcfs_store.specs.StoreView.{StoreView, AnswersIn, authority_of_store, last_after, settled_of, image_since, AreInOrder, IsStore}
 use Rattle.pcfs_store.specs.Entries.{StoreEntry, happened, checkpointed, stopped as stop_mark, stop_entries, root_of, merged, entries_of, events_among, checkpoints_among, used_after, used_by}
 use Rattle.pcfs_store.specs.Checkpoints.{with_checkpoint}
 use Rattle.pcfs_store.proofs.SurvivalLemmas.{order_within, order_above}
@@ -107,6 +107,10 @@ used-stop : (state : BaseView) (used : ℕ) (stop : Option ℕ) → used_after s
 used-stop state used None = refl
 used-stop state used (Some pass) = refl
 
+-- the area after these checkpoints of a history
+abbrev area_at : ℕ → List ℕ → BaseView → List Event → List Checkpoint → ℕ → List ℕ
+area_at generation opened state events checkpoints settled = area_since generation (image_since opened (state_after state events settled) checkpoints) events settled
+
 -- the state after some first events, and then some
 after-both : (state : BaseView) (some more : ℕ) (events : List Event) → state_after (state_after state events some) (drop some events) more ≡ state_after state events (some + more)
 after-both state zero more events = ap (state_after state events) (let same : more ≡ 0 + more = omega arith in same)
@@ -114,13 +118,19 @@ after-both state (suc some) more [] = ap (replay state) (take_all more [] (omega
 after-both state (suc some) more (event ∷ events) =
     after-both (next_state state event) some more events ∙ ap (state_after state (event ∷ events)) (let same : suc (some + more) ≡ suc some + more = omega arith in same)
 
-used-merged : (generation : ℕ) (state : BaseView) (before : ℕ) (events : List Event) (most : ℕ) (checkpoints : List Checkpoint) → AreInOrder before most checkpoints →
-    used_after state (24 + length (image_spelling state)) (merged before events checkpoints) ≡ length (area_since generation state events (last_after before checkpoints - before))
-used-merged generation state before events most [] order =
-    used-happened state (24 + length (image_spelling state)) events
-    ∙ sym (area-length generation (image_spelling state) (payloads_of events))
-    ∙ ap (λ (n : ℕ). length (area_since generation state events n)) (let none : 0 ≡ before - before = omega arith in none)
-used-merged generation state before events most (checkpoint ∷ checkpoints) order =
+-- after a checkpoint and others, the image is that of the state at the last
+image-last : (state : BaseView) (events : List Event) (before more : ℕ) (checkpoints : List Checkpoint) → more ≡ last_after before checkpoints - before →
+    image_since (image_spelling state) (state_after state events more) checkpoints ≡ image_spelling (state_after state events more)
+image-last state events before more [] is = ap (λ (n : ℕ). image_spelling (state_after state events n)) (let none : 0 ≡ more = omega (arith, is) in none)
+image-last state events before more (checkpoint ∷ checkpoints) is = refl
+
+used-merged : (generation : ℕ) (opened : List ℕ) (state : BaseView) (before : ℕ) (events : List Event) (most : ℕ) (checkpoints : List Checkpoint) → AreInOrder before most checkpoints →
+    used_after state (24 + length opened) (merged before events checkpoints) ≡ length (area_at generation opened state events checkpoints (last_after before checkpoints - before))
+used-merged generation opened state before events most [] order =
+    used-happened state (24 + length opened) events
+    ∙ sym (area-length generation opened (payloads_of events))
+    ∙ ap (λ (n : ℕ). length (area_since generation opened events n)) (let none : 0 ≡ before - before = omega arith in none)
+used-merged generation opened state before events most (checkpoint ∷ checkpoints) order =
     let some = checkpoint.after - before in
     let last = last_after checkpoint.after checkpoints in
     let more = last - checkpoint.after in
@@ -128,25 +138,29 @@ used-merged generation state before events most (checkpoint ∷ checkpoints) ord
     let sum : some + more ≡ last - before = omega (arith, above, order.0) in
     let then : BaseView = state_after state events some in
     let rest : List StoreEntry = merged checkpoint.after (drop some events) checkpoints in
-    used-append state (24 + length (image_spelling state)) (map happened (take some events)) (checkpointed checkpoint.pass ∷ rest)
+    used-append state (24 + length opened) (map happened (take some events)) (checkpointed checkpoint.pass ∷ rest)
     ∙ ap (λ (es : List Event). used_after (replay state es) (24 + length (image_spelling (replay state es))) rest) (among-happened (take some events))
-    ∙ used-merged generation then checkpoint.after (drop some events) most checkpoints order.1
+    ∙ used-merged generation (image_spelling then) then checkpoint.after (drop some events) most checkpoints order.1
+    ∙ ap (λ (image : List ℕ). length (area_bytes generation image (payloads_of (drop more (drop some events))))) (image-last then (drop some events) checkpoint.after more checkpoints refl)
     ∙ ap (λ (b : BaseView). length (area_bytes generation (image_spelling b) (payloads_of (drop more (drop some events))))) (after-both state some more events)
     ∙ ap (λ (es : List Event). length (area_bytes generation (image_spelling (state_after state events (some + more))) (payloads_of es))) (drop-drop more some events)
-    ∙ ap (λ (n : ℕ). length (area_since generation state events n)) sum
+    ∙ ap (λ (n : ℕ). length (area_since generation (image_spelling (state_after state events n)) events n)) sum
 
 pub used-entries : {D : Type 0} (s : StoreView D) → IsStore s → s.used ≡ used_by (root_of s) (entries_of s)
 used-entries s store =
-    let image_length : ℕ = length (image_spelling s.base) in
+    let image_length : ℕ = length s.opened in
     store.used_is
-    ∙ ap (λ (n : ℕ). length (area_since s.generation s.base s.events n)) (let none : settled_of s ≡ settled_of s - 0 = omega arith in none)
-    ∙ sym (used-merged s.generation s.base 0 s.events (length s.events) s.checkpoints store.in_order)
+    ∙ ap (λ (n : ℕ). length (area_at s.generation s.opened s.base s.events s.checkpoints n)) (let none : settled_of s ≡ settled_of s - 0 = omega arith in none)
+    ∙ sym (used-merged s.generation s.opened s.base 0 s.events (length s.events) s.checkpoints store.in_order)
     ∙ sym (used-stop (replay s.base (events_among (merged 0 s.events s.checkpoints))) (used_after s.base (24 + image_length) (merged 0 s.events s.checkpoints)) s.stop)
     ∙ sym (used-append s.base (24 + image_length) (merged 0 s.events s.checkpoints) (stop_entries s.stop))
 
--- the same over the root of a store with this base
-pub used-since : {D : Type 0} (opening now : StoreView D) → now.base ≡ opening.base → IsStore now → now.used ≡ used_by (root_of opening) (entries_of now)
-used-since opening now base store = used-entries now store ∙ ap (λ (b : BaseView). used_after b (24 + length (image_spelling b)) (entries_of now)) base
+-- the same over the root of a store with this base and this image
+pub used-since : {D : Type 0} (opening now : StoreView D) → now.base ≡ opening.base → now.opened ≡ opening.opened → IsStore now → now.used ≡ used_by (root_of opening) (entries_of now)
+used-since opening now base opened store =
+    used-entries now store
+    ∙ ap (λ (b : BaseView). used_after b (24 + length now.opened) (entries_of now)) base
+    ∙ ap (λ (image : List ℕ). used_after opening.base (24 + length image) (entries_of now)) opened
 
 -- ---- what is added to entries
 

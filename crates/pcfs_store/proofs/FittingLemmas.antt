@@ -1,14 +1,10 @@
 -- What may come next in a history fits the fields of its record.
 use Rattle.std.proofs.Common.{◌≡◌, ℕ, ◌≤◌, List, [], ◌∷◌, length, Option, Some, None, true, false, ◌&&◌, refl, sym, ◌∙◌, ap, arith}
-use Rattle.std.specs.Option.{option_map, option_map_or}
 use Rattle.std.specs.Prelude.{nat_le}
 use Rattle.std.specs.List.{list_all}
-use Rattle.std.specs.Str.{bytes_eq}
 use Rattle.std.proofs.lemmas.Bool.{and_parts, leb-true, not-false}
-use Rattle.std.proofs.lemmas.Slice.Eq.{bytes_eq-Decides}
-use Rattle.sha2.proofs.Facts256.{length-sha256}
-use Rattle.pcfs_hmac.specs.Hmac.{hmac}
-use Rattle.policy_statement.specs.Ring.{KeyView, key_of}
+use Rattle.policy_statement.specs.Ring.{KeyView}
+use Rattle.policy_statement.proofs.RingLemmas.{accepted_length}
 use Rattle.policy_statement.specs.Messages.{statement_message}
 use Rattle.file_world.specs.declared.operation.Op.{Op}
 use Rattle.file_world.specs.declared.operation.Op.TheVariants.{Read, Write, Truncate, List as ListOf, Lookup, Create, Mkdir, Unlink, Rename, Getattr, Setattr, Delattr, Chown}
@@ -28,16 +24,6 @@ use Rattle.proof_verifier.specs.declared.cites.Cite.{Cite}
 use Rattle.record_parts.specs.Fields.{FitsOneByte}
 use Rattle.record_parts.specs.OperationSpelling.{HasFittingWords}
 use Rattle.journal_records.specs.EventSpelling.{HasFittingFields}
-
--- ---- signatures
-
-length-hmac : (key text : List ℕ) → length (hmac key text) ≡ 32
-unfolding hmac
-length-hmac key text = length-sha256 _
-
-accepted_length : (found : Option (List ℕ)) (message signature : List ℕ) → option_map_or (λ (tag : List ℕ). bytes_eq tag signature) (option_map (λ (key : List ℕ). hmac key message) found) false ≡ true → length signature ≡ 32
-accepted_length None message signature e = absurd cc
-accepted_length (Some key) message signature e = sym (ap length ((bytes_eq-Decides (hmac key message) signature).0 e)) ∙ length-hmac key message
 
 -- ---- names
 
@@ -97,9 +83,9 @@ numbers-length (cite ∷ cites) = let rest = numbers-length cites in omega (arit
 -- what may come next fits its fields
 pub fits_fields : (key : List ℕ) (ring : List KeyView) (state : BaseView) (event : Event) → MayFollow (authority_with key ring) state event → HasFittingFields event
 fits_fields key ring state (Registered pass statement signature) may =
-    let short = accepted_length (key_of ring statement.who) (statement_message statement) signature may.signed in
+    let short = accepted_length ring statement.who (statement_message statement) signature may.signed in
     omega (arith, short)
 fits_fields key ring state (Issued pass cited proof grant) may =
-    omega (arith, ap length may.cited, numbers-length may.cites, may.rising.few)
+    omega (arith, ap length may.good.cited, numbers-length may.good.cites, may.good.rising.few)
 fits_fields key ring state (Acted pass caller op procaps moment) may =
-    (words_fit state.world op may.formed.few_bytes may.not_refused, (omega (arith, may.formed.slots, few_slots op), may.in_range))
+    (words_fit state.world op may.formed.brought.few_bytes may.not_refused, (omega (arith, may.formed.brought.slots, few_slots op), may.in_range))

@@ -16,7 +16,6 @@ use Rattle.op_gate.specs.Decision.{GateView}
 use Rattle.access_history.specs.declared.event.Event.{Event}
 use Rattle.access_history.specs.Base.{BaseView}
 use Rattle.access_history.specs.Replay.{fresh}
-use Rattle.checkpoint_image.specs.ImageSpelling.{image_spelling}
 use Rattle.pcfs_store.specs.Image.{fresh_image, IsImageOf}
 use Rattle.pcfs_store.specs.Newest.{newest, one_of, newer}
 use Rattle.pcfs_store.specs.StoredHistory.{payloads_of}
@@ -25,7 +24,7 @@ use Rattle.pcfs_store.specs.Inside.{store_of}
 use Rattle.pcfs_store.specs.Ready.{IsBehind, IsReady}
 use Rattle.pcfs_store.specs.Formats.{IsNewStore, IsNoneOrFresh, PairsLeft}
 use Rattle.pcfs_store.proofs.SurvivalLemmas.{IsTellable, survives_closed}
-use Rattle.pcfs_store.proofs.ImageLemmas.{fresh_spelling, fresh_has_image}
+use Rattle.pcfs_store.proofs.ImageLemmas.{fresh_has_image}
 
 -- an area that is shut has no generation, and one that has none is shut
 pub none_shut : (bytes : List ℕ) → IsShut bytes → generation_of bytes ≡ None
@@ -56,13 +55,13 @@ one_open first second e shut = clash (e ∙ ap (λ (o : Option ℕ). is_some o |
     clash : true ≡ false → ⊥
     clash e = cc
 
-fresh_tellable : IsTellable 1 fresh [] 0
+fresh_tellable : IsTellable 1 fresh_image fresh [] 0
 fresh_tellable = record {
   generated = record { low = omega arith; high = omega arith };
   within = omega arith;
-  is_image = subst (IsImageOf fresh) fresh_spelling fresh_has_image;
+  is_image = fresh_has_image;
   spelled = tt;
-  fits = subst (λ (image : List ℕ). length (area_bytes 1 image []) < area_limit) fresh_spelling (omega arith);
+  fits = omega arith;
 }
 
 -- what a crash leaves on the first disk beside a second one that is shut
@@ -72,7 +71,7 @@ none_or_fresh old first second shut behind left =
     (λ is_old. inl (none (subst IsShut (sym is_old) shut)))
     (λ other. ⊎_elim
     (λ is_shut. inl (none is_shut))
-    (λ is_new. inr (survives_closed false first second 1 fresh [] 0 fresh_tellable (subst (λ (image : List ℕ). Closed (area_bytes 1 image []) first) fresh_spelling is_new) (subst (IsBehind false 1) (sym (none_shut second behind)) tt)))
+    (λ is_new. inr (survives_closed false first second 1 fresh_image fresh [] 0 fresh_tellable is_new (subst (IsBehind false 1) (sym (none_shut second behind)) tt)))
     other)
     left
   where
@@ -105,19 +104,17 @@ module _ {D : Type 0} (clock : D → ℕ) (left_since : D → ℕ → List ℕ �
       (leaves.since (clock a) x idles_a.later left_x))
 
   -- the disk of a new store is at rest
-  pub new_rests : (a : D) (active : AreaView D) (other : D) (gate : GateView) (s : StoreView D) (first : List ℕ) → s ≡ store_of active other false 1 gate [] None → gate.base ≡ fresh → gate.events ≡ [] →
+  pub new_rests : (a : D) (active : AreaView D) (other : D) (gate : GateView) (s : StoreView D) (first : List ℕ) → s ≡ store_of active other false 1 fresh_image gate [] None → gate.events ≡ [] →
       image active.disk ≡ option_map (written 0 (area_bytes 1 fresh_image [] ++ 0 ∷ [])) (image a) → IsPinned clock left_since image active.disk → image a ≡ Some first → Rests clock left_since image s.active (body_of s)
-  new_rests a active other gate s first is base none made pinned told =
+  new_rests a active other gate s first is none made pinned told =
       subst (λ (new : StoreView D). Rests clock left_since image new.active (body_of new)) (sym is)
-      (subst (λ (b : BaseView). Rests clock left_since image active.disk (area_bytes 1 (image_spelling b) (payloads_of gate.events))) (sym base)
-      (subst (λ (events : List Event). Rests clock left_since image active.disk (area_bytes 1 (image_spelling fresh) (payloads_of events))) (sym none)
-      (subst (λ (bytes : List ℕ). Rests clock left_since image active.disk (area_bytes 1 bytes [])) fresh_spelling
+      (subst (λ (events : List Event). Rests clock left_since image active.disk (area_bytes 1 fresh_image (payloads_of events))) (sym none)
       (record {
         bytes = written 0 (area_bytes 1 fresh_image [] ++ 0 ∷ []) first;
         told = made ∙ ap (option_map (written 0 (area_bytes 1 fresh_image [] ++ 0 ∷ []))) told;
         closed = closed_written [] (area_bytes 1 fresh_image []) first refl;
         pinned = pinned;
-      }))))
+      }))
 
   -- ---- what was made
 
@@ -201,11 +198,9 @@ module _ {D : Type 0} (clock : D → ℕ) (left_since : D → ℕ → List ℕ �
 
 -- ---- the gate of a new store
 
-pub new_has_image : (gate : GateView) → gate.base ≡ fresh → IsImageOf gate.base (image_spelling gate.base)
-new_has_image gate is = subst (λ (b : BaseView). IsImageOf b (image_spelling b)) (sym is) (subst (IsImageOf fresh) fresh_spelling fresh_has_image)
+pub new_has_image : (gate : GateView) → gate.base ≡ fresh → IsImageOf gate.base fresh_image
+new_has_image gate is = subst (λ (b : BaseView). IsImageOf b fresh_image) (sym is) fresh_has_image
 
-pub new_used : (gate : GateView) (end : ℕ) → gate.base ≡ fresh → gate.events ≡ [] → end ≡ length fresh_image + 24 → end ≡ length (area_bytes 1 (image_spelling gate.base) (payloads_of gate.events))
-new_used gate end base none is =
-    subst (λ (b : BaseView). end ≡ length (area_bytes 1 (image_spelling b) (payloads_of gate.events))) (sym base)
-    (subst (λ (events : List Event). end ≡ length (area_bytes 1 (image_spelling fresh) (payloads_of events))) (sym none)
-    (subst (λ (bytes : List ℕ). end ≡ length (area_bytes 1 bytes [])) fresh_spelling (let same : length fresh_image + 24 ≡ length (area_bytes 1 fresh_image []) = refl in is ∙ same)))
+pub new_used : (gate : GateView) (end : ℕ) → gate.events ≡ [] → end ≡ length fresh_image + 24 → end ≡ length (area_bytes 1 fresh_image (payloads_of gate.events))
+new_used gate end none is =
+    subst (λ (events : List Event). end ≡ length (area_bytes 1 fresh_image (payloads_of events))) (sym none) (let same : length fresh_image + 24 ≡ length (area_bytes 1 fresh_image []) = refl in is ∙ same)

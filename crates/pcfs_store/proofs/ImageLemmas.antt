@@ -10,6 +10,7 @@ use Rattle.record_parts.specs.Fields.{number_spelling, moment_spelling, sized_by
 use Rattle.checkpoint_image.specs.NodeSpelling.{node_head_spelling, node_tail_spelling}
 use Rattle.checkpoint_image.specs.ImageSpelling.{head_spelling, image_spelling, IsSpellableImage}
 use Rattle.checkpoint_image.proofs.WorldLemmas.{worlds_have_images}
+use Rattle.checkpoint.specs.Reading.{IsSpelledAs, current}
 use Rattle.pcfs_store.specs.Image.{fresh_image, IsImageOf}
 
 -- ---- the state before the first event
@@ -34,4 +35,4 @@ nobody : Authority
 nobody = record { key = []; accepts = λ who message signature. false }
 
 pub fresh_has_image : IsImageOf fresh fresh_image
-fresh_has_image = record { spelled = fresh_is nobody; world = (IsLawfulBase-fresh nobody).tree; image_is = fresh_spelling }
+fresh_has_image = record { world = (IsLawfulBase-fresh nobody).tree; spelled = subst (IsSpelledAs fresh) (sym fresh_spelling) (current (fresh_is nobody)) }

@@ -14,8 +14,9 @@ use Rattle.record_parts.specs.RecordSpelling.{issued_spelling}
 use Rattle.journal_records.specs.EventSpelling.{event_spelling}
 use Rattle.checkpoint_image.specs.NodeSpelling.{nodes_spelling}
 use Rattle.checkpoint_image.specs.ImageSpelling.{head_spelling, statements_spelling, issue_spelling, issues_spelling, image_spelling}
+use Rattle.checkpoint.specs.Reading.{IsSpelledAs, current}
 use Rattle.pcfs_store.specs.StoredHistory.{payloads_of, state_after}
-use Rattle.pcfs_store.specs.StoreView.{StoreView, settled_of, head_of, records_of, state_of_store, IsStore}
+use Rattle.pcfs_store.specs.StoreView.{StoreView, settled_of, head_of, records_of, image_of, state_of_store, IsStore}
 use Rattle.pcfs_store.proofs.EntryLemmas.{area-length}
 
 -- an issue takes a byte
@@ -29,10 +30,10 @@ issues_long (issue ∷ issues) =
     let rest = issues_long issues in
     omega (arith, rest, issue_long issue, length-append (issue_spelling issue) (flat_map issue_spelling issues))
 
--- and so does each in the image of a state
-image_long : (base : BaseView) → length base.issues ≤ length (image_spelling base)
+-- and so does each in an image of a state
+image_long : (base : BaseView) (image : List ℕ) → IsSpelledAs base image → length base.issues ≤ length image
 unfolding image_spelling
-image_long base =
+image_long base _ (current spelled) =
     let statements = statements_spelling base.statements in
     let issues = issues_spelling base.issues in
     let nodes = nodes_spelling base.world.rows in
@@ -75,9 +76,9 @@ few_issues s store =
       arith,
       ap (λ (state : BaseView). length state.issues) (state_split s.base s.events (settled_of s)),
       replay_issues head since,
-      image_long head,
+      image_long head (image_of s) store.is_image.spelled,
       records_long since,
-      area-length s.generation (image_spelling head) (payloads_of since),
+      area-length s.generation (image_of s) (payloads_of since),
       store.used_is,
       store.fits,
     )

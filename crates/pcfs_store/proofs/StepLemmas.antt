@@ -2,26 +2,30 @@
 use Rattle.std.proofs.Common.{◌≡◌, ◌≢◌, ℕ, ◌+◌, ◌<◌, ◌≤◌, List, [], ◌∷◌, ◌++◌, length, Some, None, IfSome, Bool, true, false, refl, sym, ◌∙◌, ap, subst, inl, inr, ⊎_elim, arith, length-append}
 use Rattle.std.specs.Prelude.{Option, is_some, ℤ}
 use Rattle.pcfs_ports.specs.Faults.{HasRisen}
-use Rattle.pcfs_ports.specs.Disk.{LeavesOnly}
+use Rattle.pcfs_ports.specs.Disk.{LeavesOnly, IsPinned}
 use Rattle.journal_core.specs.Area.{area_limit, record_bytes, StandsForBody, generation_of, Closed}
 use Rattle.journal_core.specs.AreaView.{AreaView}
 use Rattle.journal_core.specs.Rest.{Rests, IsWithOrWithout}
 use Rattle.journal_core.proofs.RecordLemmas.{record_length}
-use Rattle.journal_core.proofs.RestsLemmas.{some_same}
+use Rattle.journal_core.proofs.RestsLemmas.{some_same, at_told}
 use Rattle.access_history.specs.declared.event.Event.{Event}
 use Rattle.access_history.specs.declared.request.StepRequest.{StepRequest}
 use Rattle.access_history.specs.declared.reply.StepReply.{StepReply}
+use Rattle.access_history.specs.Base.{BaseView}
 use Rattle.bl_syntax.proofs.GrantLemmas.{AllByRecursion-push}
 use Rattle.journal_records.specs.EventSpelling.{event_spelling, IsSpellableEvent}
 use Rattle.pcfs_store.specs.declared.reply.StoreReply.{StoreReply}
 use Rattle.pcfs_store.specs.declared.reply.StoreReply.TheVariants.{Step, Stopped}
 use Rattle.pcfs_store.specs.StoredHistory.{area_since}
 use Rattle.pcfs_store.specs.Newest.{one_of}
-use Rattle.pcfs_store.specs.StoreView.{StoreView, first_disk, second_disk, settled_of, body_of, AnswersIn, IsStore}
+use Rattle.pcfs_store.specs.StoreView.{StoreView, first_disk, second_disk, settled_of, image_since, image_of, body_of, AnswersIn, IsStore}
 use Rattle.pcfs_store.specs.Ready.{IsBehind, IsReady, IsCurrent, StopsLeave, StopsNow, SurvivesWithOrWithout, Keeps, ready, halted, halted_whole}
 use Rattle.pcfs_store.specs.Steps.{IsFullFor, with_event, Steps, kept, failed, LeavesStep}
 use Rattle.pcfs_store.specs.Keeping.{Writes, HasWritten}
-use Rattle.pcfs_store.proofs.SurvivalLemmas.{IsTellable, tellable_store, tellable_push, survives_closed, since_push, image_push, order_within, order_more, left_pairs, ready_survives_now, if_some}
+use Rattle.pcfs_store.proofs.SurvivalLemmas.{IsTellable, tellable_store, tellable_push, survives_closed, since_push, state_push, order_within, order_more, left_pairs, ready_survives_now, if_some}
+
+none_more : (events : List Event) → length events < length events → ⊥
+none_more events more = omega (arith, more)
 
 none_some : (o : Option ℕ) (pass : ℕ) → o ≡ None → o ≡ Some pass → ⊥
 none_some o pass none some = cc
@@ -33,6 +37,8 @@ module _ {D : Type 0} (clock : D → ℕ) (left_since : D → ℕ → List ℕ �
     pub stays_ready : IsReady clock left_since image old → result ≢ Stopped → IsReady clock left_since image new
     pub stays_kept : Keeps clock left_since image old → Keeps clock left_since image new
     pub stays_current : IsCurrent clock left_since image old → result ≢ Stopped → IsCurrent clock left_since image new
+    pub makes_ready : IsCurrent clock left_since image old → length old.events < length new.events → (active other : List ℕ) → image old.active ≡ Some active → image old.other ≡ Some other →
+        IsPinned clock left_since image old.other → IsReady clock left_since image new
     pub any_moment : IsReady clock left_since image old → StopsLeave clock left_since image old new (LeavesStep old pass at request)
     pub met : IsReady clock left_since image old → result ≡ Stopped →
         (reply : StepReply) × (event : Event) × AnswersIn old pass at request reply (Some event) × StopsNow clock left_since image new (SurvivesWithOrWithout old.base old.events event)
@@ -50,6 +56,7 @@ module _ {D : Type 0} (clock : D → ℕ) (left_since : D → ℕ → List ℕ �
     stays_ready = λ is_ready _. is_ready;
     stays_kept = λ keeps. keeps;
     stays_current = λ current _. current;
+    makes_ready = λ _ more _ _ _ _ _. absurd (none_more old.events more);
     any_moment = λ is_ready x y left_x left_y. inl (ready_survives_now clock left_since image old store is_ready x y left_x left_y);
     met = λ is_ready is_stopped. absurd (runs is_ready.running is_stopped);
     first_told = refl;
@@ -94,17 +101,28 @@ module _ {D : Type 0} (clock : D → ℕ) (left_since : D → ℕ → List ℕ �
     within : settled_of old ≤ length old.events
     within = order_within 0 (length old.events) old.checkpoints store.in_order
 
-    push_is : area_since old.generation old.base (old.events ++ event ∷ []) (settled_of old) ≡ body_of old ++ record_bytes payload
-    push_is = since_push old.generation old.base old.events event (settled_of old) within
+    abbrev pushed : StoreView D
+    pushed = with_event old event after.disk
 
-    push_long : length (area_since old.generation old.base (old.events ++ event ∷ []) (settled_of old)) ≡ old.used + (5 + length payload)
+    -- the area begins with the same image
+    image_is : image_of pushed ≡ image_of old
+    image_is = ap (λ (head : BaseView). image_since old.opened head old.checkpoints) (state_push old.base old.events event (settled_of old) within)
+
+    push_is : body_of pushed ≡ body_of old ++ record_bytes payload
+    push_is =
+        ap (λ (i : List ℕ). area_since old.generation i (old.events ++ event ∷ []) (settled_of old)) image_is
+        ∙ since_push old.generation (image_of old) old.events event (settled_of old) within
+
+    push_long : length (body_of pushed) ≡ old.used + (5 + length payload)
     push_long = omega (arith, ap length push_is, length-append (body_of old) (record_bytes payload), record_length payload, store.used_is)
 
-    push_fits : length (area_since old.generation old.base (old.events ++ event ∷ []) (settled_of old)) < area_limit
+    push_fits : length (body_of pushed) < area_limit
     push_fits = omega (arith, push_long, writes.room)
 
-    pub push_tellable : IsTellable old.generation old.base (old.events ++ event ∷ []) (settled_of old)
-    push_tellable = tellable_push old.generation old.base old.events (settled_of old) event (tellable_store old store) writes.spelled push_fits
+    push_tellable : IsTellable old.generation (image_of pushed) old.base (old.events ++ event ∷ []) (settled_of old)
+    push_tellable =
+        tellable_push old.generation (image_of pushed) old.base old.events (settled_of old) event
+        (subst (λ (i : List ℕ). IsTellable old.generation i old.base old.events (settled_of old)) (sym image_is) (tellable_store old store)) writes.spelled push_fits
 
     -- a store keeps what a store keeps
     pub push_store : IsStore (with_event old event after.disk)
@@ -112,7 +130,7 @@ module _ {D : Type 0} (clock : D → ℕ) (left_since : D → ℕ → List ℕ �
       generated = store.generated;
       counted = store.counted;
       in_order = let more = length-append old.events (event ∷ []) in order_more 0 (length old.events) (length (old.events ++ event ∷ [])) old.checkpoints (omega (arith, more)) store.in_order;
-      is_image = image_push old.base old.events event (settled_of old) within store.is_image;
+      is_image = push_tellable.is_image;
       spelled = AllByRecursion-push IsSpellableEvent old.events event store.spelled writes.spelled;
       used_is = sym push_long;
       fits = subst (λ (n : ℕ). n < area_limit) push_long push_fits;
@@ -130,8 +148,8 @@ module _ {D : Type 0} (clock : D → ℕ) (left_since : D → ℕ → List ℕ �
         let behind : IsBehind old.second_active old.generation (generation_of o) =
         subst (λ (bytes : List ℕ). IsBehind old.second_active old.generation (generation_of bytes)) (some_same is_ready.other_bytes o (sym is_ready.other_told ∙ is_ready.other_pinned o left_o)) is_ready.behind in
         ⊎_elim
-        (λ without. inl (survives_closed old.second_active a o old.generation old.base old.events (settled_of old) (tellable_store old store) without behind))
-        (λ with_it. inr (survives_closed old.second_active a o old.generation old.base (old.events ++ event ∷ []) (settled_of old) push_tellable
+        (λ without. inl (survives_closed old.second_active a o old.generation (image_of old) old.base old.events (settled_of old) (tellable_store old store) without behind))
+        (λ with_it. inr (survives_closed old.second_active a o old.generation (image_of pushed) old.base (old.events ++ event ∷ []) (settled_of old) push_tellable
         (subst (λ (body : List ℕ). Closed body a) (sym push_is) with_it) behind))
         ((goes_on is_ready).each a left_a))
         x y left_x left_y
@@ -146,7 +164,7 @@ module _ {D : Type 0} (clock : D → ℕ) (left_since : D → ℕ → List ℕ �
 
     module _ (written : HasWritten clock left_since image faults (record { disk = old.active; end = old.used }) after event) where
       rests_after : (bytes : List ℕ) → image old.active ≡ Some bytes → StandsForBody (body_of old) bytes →
-          Rests clock left_since image after.disk (area_since old.generation old.base (old.events ++ event ∷ []) (settled_of old))
+          Rests clock left_since image after.disk (body_of pushed)
       rests_after bytes told stands = subst (Rests clock left_since image after.disk) (sym push_is) (written.rests (body_of old) bytes (sym store.used_is) told stands)
 
       ready_after : IsReady clock left_since image old → IsReady clock left_since image (with_event old event after.disk)
@@ -160,10 +178,10 @@ module _ {D : Type 0} (clock : D → ℕ) (left_since : D → ℕ → List ℕ �
       }
 
       active_after : (told : Option (List ℕ)) → image old.active ≡ told → IfSome told (StandsForBody (body_of old)) → (told_now : Option (List ℕ)) → image after.disk ≡ told_now →
-          IfSome told_now (StandsForBody (area_since old.generation old.base (old.events ++ event ∷ []) (settled_of old)))
+          IfSome told_now (StandsForBody (body_of pushed))
       active_after (Some bytes) told stands told_now now =
           let rests = rests_after bytes told stands in
-          if_some told_now (StandsForBody (area_since old.generation old.base (old.events ++ event ∷ []) (settled_of old))) rests.bytes (sym now ∙ rests.told) rests.closed.stands
+          if_some told_now (StandsForBody (body_of pushed)) rests.bytes (sym now ∙ rests.told) rests.closed.stands
       active_after None told stands None now = tt
       active_after None told stands (Some bytes) now = absurd (untold (image old.active) (image after.disk) bytes told now writes.told)
         where
@@ -180,6 +198,17 @@ module _ {D : Type 0} (clock : D → ℕ) (left_since : D → ℕ → List ℕ �
         other = current.other;
       }
 
+      ready_from : IsCurrent clock left_since image old → (active other : List ℕ) → image old.active ≡ Some active → image old.other ≡ Some other → IsPinned clock left_since image old.other →
+          IsReady clock left_since image (with_event old event after.disk)
+      ready_from current active other told other_told pinned = record {
+        running = current.running;
+        rests = rests_after active told (at_told (image old.active) (StandsForBody (body_of old)) active told current.active);
+        other_bytes = other;
+        other_told = other_told;
+        other_pinned = pinned;
+        behind = at_told (image old.other) (λ (bytes : List ℕ). IsBehind old.second_active old.generation (generation_of bytes)) other other_told current.other;
+      }
+
       pub was_kept : (pass : ℕ) (at : ℤ) (request : StepRequest) (reply : StepReply) → old.stop ≡ None → AnswersIn old pass at request reply (Some event) → (IsFullFor old event → ⊥) →
           Clauses old pass at request (Step reply) (with_event old event after.disk)
       was_kept pass at request reply running answers fits = record {
@@ -187,6 +216,7 @@ module _ {D : Type 0} (clock : D → ℕ) (left_since : D → ℕ → List ℕ �
         stays_ready = λ is_ready _. ready_after is_ready;
         stays_kept = λ keeps. stays keeps;
         stays_current = λ current _. current_after current;
+        makes_ready = λ current _ active other told other_told pinned. ready_from current active other told other_told pinned;
         any_moment = λ is_ready. leaves_step pass at request reply answers is_ready;
         met = λ is_ready is_stopped. absurd (unlike is_stopped);
         first_told = told_first old.second_active after.disk old.active old.other writes.told;
@@ -213,6 +243,7 @@ module _ {D : Type 0} (clock : D → ℕ) (left_since : D → ℕ → List ℕ �
       stays_ready = λ is_ready goes. absurd (goes refl);
       stays_kept = λ keeps. stays keeps;
       stays_current = λ current goes. absurd (goes refl);
+      makes_ready = λ _ more _ _ _ _ _. absurd (none_more old.events more);
       any_moment = λ is_ready. leaves_step pass at request reply answers is_ready;
       met = λ is_ready _. (reply, event, answers, leaves_now is_ready);
       first_told = told_first old.second_active after.disk old.active old.other writes.told;

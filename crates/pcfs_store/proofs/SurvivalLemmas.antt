@@ -10,18 +10,17 @@ use Rattle.journal_core.proofs.RecordLemmas.{base_generation, base_within, recor
 use Rattle.journal_core.proofs.ReadingLemmas.{base_begins, opens}
 use Rattle.journal_core.proofs.RestsLemmas.{some_same}
 use Rattle.access_history.specs.declared.event.Event.{Event}
-use Rattle.access_history.specs.declared.event.Event.TheVariants.{Registered, Issued, Acted}
 use Rattle.access_history.specs.Base.{BaseView}
 use Rattle.bl_syntax.proofs.GrantLemmas.{AllByRecursion-push}
-use Rattle.journal_records.specs.EventSpelling.{erase, event_spelling, IsSpellableEvent}
-use Rattle.journal_records.proofs.EventLemmas.{same_spelling}
+use Rattle.access_history.specs.Passes.{erase}
+use Rattle.journal_records.specs.EventSpelling.{event_spelling, IsSpellableEvent}
+use Rattle.journal_records.proofs.EventLemmas.{erased_spellable, same_spelling}
 use Rattle.access_history.specs.Replay.{replay}
-use Rattle.checkpoint_image.specs.ImageSpelling.{image_spelling}
 use Rattle.pcfs_store.specs.declared.checkpoints.Checkpoint.{Checkpoint}
 use Rattle.pcfs_store.specs.Image.{IsImageOf}
 use Rattle.pcfs_store.specs.StoredHistory.{payloads_of, AreSpellable, state_after, area_since, StandsFor, Resumes}
 use Rattle.pcfs_store.specs.Newest.{newer, one_of, newest, SurvivesWhole, SurvivesWholeClosed}
-use Rattle.pcfs_store.specs.StoreView.{StoreView, first_disk, second_disk, last_after, settled_of, head_of, records_of, body_of, AreInOrder, IsStore}
+use Rattle.pcfs_store.specs.StoreView.{StoreView, first_disk, second_disk, last_after, settled_of, head_of, records_of, image_of, body_of, AreInOrder, IsStore}
 use Rattle.pcfs_store.specs.Ready.{IsBehind, IsReady, IsCurrent, StopsNow}
 
 -- ---- generations
@@ -79,14 +78,9 @@ payloads_erased [] = refl
 payloads_erased (event ∷ events) =
     ap (λ (p : List ℕ). p ∷ payloads_of (map erase events)) (same_spelling event) ∙ ap (λ (l : List (List ℕ)). event_spelling event ∷ l) (payloads_erased events)
 
-spellable_erased : (event : Event) → IsSpellableEvent event → IsSpellableEvent (erase event)
-spellable_erased (Registered pass statement signature) spelled = spelled
-spellable_erased (Issued pass cited proof grant) spelled = spelled
-spellable_erased (Acted pass caller op procaps moment) spelled = spelled
-
 all_erased : (events : List Event) → AreSpellable events → AreSpellable (map erase events)
 all_erased [] spelled = tt
-all_erased (event ∷ events) spelled = (spellable_erased event spelled.0, all_erased events spelled.1)
+all_erased (event ∷ events) spelled = (erased_spellable event spelled.0, all_erased events spelled.1)
 
 -- what stands for a history stands for it without its passes
 pub stands_erased : (bytes : List ℕ) (generation : ℕ) (base : BaseView) (events : List Event) → StandsFor bytes generation base events → StandsFor bytes generation base (map erase events)
@@ -125,13 +119,13 @@ survives_stands base events settled within first second bytes generation counts 
   resumes = resumes_since base events settled within;
 }
 
--- what a history has to keep to be told in an area by the image of the state after its first `settled` events
-pub record IsTellable (generation : ℕ) (base : BaseView) (events : List Event) (settled : ℕ) : Type 0 where
+-- what a history has to keep to be told in an area by this image of the state after its first `settled` events
+pub record IsTellable (generation : ℕ) (image : List ℕ) (base : BaseView) (events : List Event) (settled : ℕ) : Type 0 where
   pub generated : IsGeneration generation
   pub within : settled ≤ length events
-  pub is_image : IsImageOf (state_after base events settled) (image_spelling (state_after base events settled))
+  pub is_image : IsImageOf (state_after base events settled) image
   pub spelled : AreSpellable events
-  pub fits : length (area_since generation base events settled) < area_limit
+  pub fits : length (area_since generation image events settled) < area_limit
 
 -- ---- checkpoints in order
 
@@ -147,7 +141,7 @@ pub order_more : (least most more : ℕ) (checkpoints : List Checkpoint) → mos
 order_more least most more [] le order = omega (arith, le, order)
 order_more least most more (checkpoint ∷ checkpoints) le order = (order.0, order_more checkpoint.after most more checkpoints le order.1)
 
-pub tellable_store : {D : Type 0} (s : StoreView D) → IsStore s → IsTellable s.generation s.base s.events (settled_of s)
+pub tellable_store : {D : Type 0} (s : StoreView D) → IsStore s → IsTellable s.generation (image_of s) s.base s.events (settled_of s)
 tellable_store s store = record {
   generated = store.generated;
   within = order_within 0 (length s.events) s.checkpoints store.in_order;
@@ -163,23 +157,22 @@ pub state_push : (base : BaseView) (events : List Event) (event : Event) (settle
 state_push base events event settled within = ap (replay base) (take-append-le settled events (event ∷ []) within)
 
 -- the area has its record more
-pub since_push : (generation : ℕ) (base : BaseView) (events : List Event) (event : Event) (settled : ℕ) → settled ≤ length events →
-    area_since generation base (events ++ event ∷ []) settled ≡ area_since generation base events settled ++ record_bytes (event_spelling event)
-since_push generation base events event settled within =
-    ap (λ (b : BaseView). area_bytes generation (image_spelling b) (payloads_of (drop settled (events ++ event ∷ [])))) (state_push base events event settled within)
-    ∙ ap (λ (es : List Event). area_bytes generation (image_spelling (state_after base events settled)) (payloads_of es)) (drop-append-le settled events (event ∷ []) within)
-    ∙ area_push generation (image_spelling (state_after base events settled)) (drop settled events) event
+pub since_push : (generation : ℕ) (image : List ℕ) (events : List Event) (event : Event) (settled : ℕ) → settled ≤ length events →
+    area_since generation image (events ++ event ∷ []) settled ≡ area_since generation image events settled ++ record_bytes (event_spelling event)
+since_push generation image events event settled within =
+    ap (λ (es : List Event). area_bytes generation image (payloads_of es)) (drop-append-le settled events (event ∷ []) within)
+    ∙ area_push generation image (drop settled events) event
 
-pub image_push : (base : BaseView) (events : List Event) (event : Event) (settled : ℕ) → settled ≤ length events → IsImageOf (state_after base events settled) (image_spelling (state_after base events settled)) →
-    IsImageOf (state_after base (events ++ event ∷ []) settled) (image_spelling (state_after base (events ++ event ∷ []) settled))
-image_push base events event settled within is_image = subst (λ (b : BaseView). IsImageOf b (image_spelling b)) (sym (state_push base events event settled within)) is_image
+image_push : (base : BaseView) (image : List ℕ) (events : List Event) (event : Event) (settled : ℕ) → settled ≤ length events → IsImageOf (state_after base events settled) image →
+    IsImageOf (state_after base (events ++ event ∷ []) settled) image
+image_push base image events event settled within is_image = subst (λ (b : BaseView). IsImageOf b image) (sym (state_push base events event settled within)) is_image
 
-pub tellable_push : (generation : ℕ) (base : BaseView) (events : List Event) (settled : ℕ) (event : Event) → IsTellable generation base events settled → IsSpellableEvent event →
-    length (area_since generation base (events ++ event ∷ []) settled) < area_limit → IsTellable generation base (events ++ event ∷ []) settled
-tellable_push generation base events settled event told spelled fits = record {
+pub tellable_push : (generation : ℕ) (image : List ℕ) (base : BaseView) (events : List Event) (settled : ℕ) (event : Event) → IsTellable generation image base events settled →
+    IsSpellableEvent event → length (area_since generation image (events ++ event ∷ []) settled) < area_limit → IsTellable generation image base (events ++ event ∷ []) settled
+tellable_push generation image base events settled event told spelled fits = record {
   generated = told.generated;
   within = let more = length-append events (event ∷ []) in omega (arith, told.within, more);
-  is_image = image_push base events event settled told.within told.is_image;
+  is_image = image_push base image events event settled told.within told.is_image;
   spelled = AllByRecursion-push IsSpellableEvent events event told.spelled spelled;
   fits = fits;
 }
@@ -187,38 +180,37 @@ tellable_push generation base events settled event told spelled fits = record {
 -- ---- what survives
 
 -- bytes of a tellable history stand for its state and its records
-pub stands_since : (generation : ℕ) (base : BaseView) (events : List Event) (settled : ℕ) (bytes : List ℕ) → IsTellable generation base events settled → StandsForBody (area_since generation base events settled) bytes →
-    StandsFor bytes generation (state_after base events settled) (drop settled events)
-stands_since generation base events settled bytes told stands = record {
-  image = image_spelling (state_after base events settled);
+pub stands_since : (generation : ℕ) (image : List ℕ) (base : BaseView) (events : List Event) (settled : ℕ) (bytes : List ℕ) → IsTellable generation image base events settled →
+    StandsForBody (area_since generation image events settled) bytes → StandsFor bytes generation (state_after base events settled) (drop settled events)
+stands_since generation image base events settled bytes told stands = record {
+  image = image;
   is_image = told.is_image;
   spelled = all_dropped settled events told.spelled;
   is_area = record { generated = told.generated; fits = told.fits; stands = stands };
 }
 
 -- their generation
-pub generation_since : (generation : ℕ) (base : BaseView) (events : List Event) (settled : ℕ) (bytes : List ℕ) → IsTellable generation base events settled → StandsForBody (area_since generation base events settled) bytes →
-    generation_of bytes ≡ Some generation
-generation_since generation base events settled bytes told stands =
-    generation_begins bytes generation (image_spelling (state_after base events settled)) (payloads_of (drop settled events)) told.generated told.fits stands.front
+pub generation_since : (generation : ℕ) (image : List ℕ) (base : BaseView) (events : List Event) (settled : ℕ) (bytes : List ℕ) → IsTellable generation image base events settled →
+    StandsForBody (area_since generation image events settled) bytes → generation_of bytes ≡ Some generation
+generation_since generation image base events settled bytes told stands = generation_begins bytes generation image (payloads_of (drop settled events)) told.generated told.fits stands.front
 
 -- bytes of the area that counts, beside others that are older
-pub survives_beside : (second : Bool) (active other : List ℕ) (generation : ℕ) (base : BaseView) (events : List Event) (settled : ℕ) → IsTellable generation base events settled →
-    StandsForBody (area_since generation base events settled) active → IsBehind second generation (generation_of other) →
+pub survives_beside : (second : Bool) (active other : List ℕ) (generation : ℕ) (image : List ℕ) (base : BaseView) (events : List Event) (settled : ℕ) → IsTellable generation image base events settled →
+    StandsForBody (area_since generation image events settled) active → IsBehind second generation (generation_of other) →
     SurvivesWhole base events (one_of active other second) (one_of other active second)
-survives_beside second active other generation base events settled told stands behind =
+survives_beside second active other generation image base events settled told stands behind =
     survives_stands base events settled told.within (one_of active other second) (one_of other active second) active generation
-    (newest_active second active other generation (generation_since generation base events settled active told stands) behind)
-    (stands_since generation base events settled active told stands)
+    (newest_active second active other generation (generation_since generation image base events settled active told stands) behind)
+    (stands_since generation image base events settled active told stands)
 
 -- the same of bytes that are closed
-pub survives_closed : (second : Bool) (active other : List ℕ) (generation : ℕ) (base : BaseView) (events : List Event) (settled : ℕ) → IsTellable generation base events settled →
-    Closed (area_since generation base events settled) active → IsBehind second generation (generation_of other) →
+pub survives_closed : (second : Bool) (active other : List ℕ) (generation : ℕ) (image : List ℕ) (base : BaseView) (events : List Event) (settled : ℕ) → IsTellable generation image base events settled →
+    Closed (area_since generation image events settled) active → IsBehind second generation (generation_of other) →
     SurvivesWholeClosed base events (one_of active other second) (one_of other active second)
 unfolding survives_beside survives_stands stands_erased stands_since
-survives_closed second active other generation base events settled told closed behind = record {
-  survives = survives_beside second active other generation base events settled told closed.stands behind;
-  gate = subst (λ (payloads : List (List ℕ)). length (area_bytes generation (image_spelling (state_after base events settled)) payloads) < length active) (sym (payloads_erased (drop settled events))) closed.gate;
+survives_closed second active other generation image base events settled told closed behind = record {
+  survives = survives_beside second active other generation image base events settled told closed.stands behind;
+  gate = subst (λ (payloads : List (List ℕ)). length (area_bytes generation image payloads) < length active) (sym (payloads_erased (drop settled events))) closed.gate;
 }
 
 -- ---- stores
@@ -257,7 +249,7 @@ module _ {D : Type 0} where
     pub current_survives : IsStore s → IsCurrent clock left_since image s → (x y : List ℕ) → image (first_disk s) ≡ Some x → image (second_disk s) ≡ Some y → SurvivesWhole s.base s.events x y
     current_survives store current x y is_x is_y =
         told_pairs image s.second_active s.active s.other (SurvivesWhole s.base s.events)
-        (λ a o is_a is_o. survives_beside s.second_active a o s.generation s.base s.events (settled_of s) (tellable_store s store)
+        (λ a o is_a is_o. survives_beside s.second_active a o s.generation (image_of s) s.base s.events (settled_of s) (tellable_store s store)
         (at_some (image s.active) (StandsForBody (body_of s)) a is_a current.active)
         (at_some (image s.other) (λ bytes. IsBehind s.second_active s.generation (generation_of bytes)) o is_o current.other))
         x y is_x is_y
@@ -266,7 +258,7 @@ module _ {D : Type 0} where
     pub ready_survives_now : IsStore s → IsReady clock left_since image s → StopsNow clock left_since image s (SurvivesWholeClosed s.base s.events)
     ready_survives_now store ready x y left_x left_y =
         left_pairs clock left_since s.second_active s.active s.active s.other (SurvivesWholeClosed s.base s.events)
-        (λ a o left_a left_o. survives_closed s.second_active a o s.generation s.base s.events (settled_of s) (tellable_store s store)
+        (λ a o left_a left_o. survives_closed s.second_active a o s.generation (image_of s) s.base s.events (settled_of s) (tellable_store s store)
         (subst (Closed (body_of s)) (some_same ready.rests.bytes a (sym ready.rests.told ∙ ready.rests.pinned a left_a)) ready.rests.closed)
         (subst (λ (bytes : List ℕ). IsBehind s.second_active s.generation (generation_of bytes)) (some_same ready.other_bytes o (sym ready.other_told ∙ ready.other_pinned o left_o)) ready.behind))
         x y left_x left_y
@@ -275,7 +267,7 @@ module _ {D : Type 0} where
     pub ready_survives : IsStore s → IsReady clock left_since image s → (x y : List ℕ) → image (first_disk s) ≡ Some x → image (second_disk s) ≡ Some y → SurvivesWholeClosed s.base s.events x y
     ready_survives store ready x y is_x is_y =
         told_pairs image s.second_active s.active s.other (SurvivesWholeClosed s.base s.events)
-        (λ a o is_a is_o. survives_closed s.second_active a o s.generation s.base s.events (settled_of s) (tellable_store s store)
+        (λ a o is_a is_o. survives_closed s.second_active a o s.generation (image_of s) s.base s.events (settled_of s) (tellable_store s store)
         (subst (Closed (body_of s)) (some_same ready.rests.bytes a (sym ready.rests.told ∙ is_a)) ready.rests.closed)
         (subst (λ (bytes : List ℕ). IsBehind s.second_active s.generation (generation_of bytes)) (some_same ready.other_bytes o (sym ready.other_told ∙ is_o)) ready.behind))
         x y is_x is_y
@@ -289,8 +281,8 @@ module _ {D : Type 0} where
         let told = tellable_store s store in
         let stands = at_some (image s.active) (StandsForBody (body_of s)) a is_a current.active in (
           a,
-          newest_active s.second_active a o s.generation (generation_since s.generation s.base s.events (settled_of s) a told stands)
+          newest_active s.second_active a o s.generation (generation_since s.generation (image_of s) s.base s.events (settled_of s) a told stands)
               (at_some (image s.other) (λ bytes. IsBehind s.second_active s.generation (generation_of bytes)) o is_o current.other),
-          stands_since s.generation s.base s.events (settled_of s) a told stands,
+          stands_since s.generation (image_of s) s.base s.events (settled_of s) a told stands,
         ))
         x y is_x is_y

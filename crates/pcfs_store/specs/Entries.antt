@@ -29,7 +29,7 @@ stop_entries None = []
 stop_entries (Some pass) = stopped pass ∷ []
 
 abbrev pub root_of : {D : Type 0} → StoreView D → Root
-root_of s = record { base = s.base; key = s.key; ring = s.ring; generation = s.generation - length s.checkpoints; image_length = length (image_spelling s.base) }
+root_of s = record { base = s.base; key = s.key; ring = s.ring; generation = s.generation - length s.checkpoints; image_length = length s.opened }
 
 -- events, after so many others, and the checkpoints that were made of all: each after its number of events
 abbrev pub merged : ℕ → List Event → List Checkpoint → List StoreEntry

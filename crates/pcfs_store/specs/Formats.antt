@@ -1,7 +1,8 @@
 -- What the making of a store reports, and what a crash within it may leave. This project's own.
-use Rattle.std.specs.Prelude.{◌≡◌, ◌⊎◌, ℕ, List, [], None, false}
+use Rattle.std.specs.Prelude.{◌≡◌, ◌⊎◌, ℕ, ◌+◌, List, [], length, None, false}
 use Rattle.policy_statement.specs.Ring.{KeyView}
 use Rattle.access_history.specs.Replay.{fresh}
+use Rattle.pcfs_store.specs.Image.{fresh_image}
 use Rattle.pcfs_store.specs.Newest.{newest, SurvivesWholeClosed}
 use Rattle.pcfs_store.specs.StoreView.{StoreView}
 
@@ -13,7 +14,8 @@ pub record IsNewStore {D : Type 0} (key : List ℕ) (ring : List KeyView) (s : S
   pub no_events : s.events ≡ []
   pub no_checkpoints : s.checkpoints ≡ []
   pub generation_is : s.generation ≡ 1
-  pub used_is : s.used ≡ 89
+  pub opened_is : s.opened ≡ fresh_image
+  pub used_is : s.used ≡ 24 + length fresh_image
   pub on_first : s.second_active ≡ false
   pub running : s.stop ≡ None
 

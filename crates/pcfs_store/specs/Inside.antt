@@ -6,8 +6,8 @@ use Rattle.pcfs_store.specs.declared.checkpoints.Checkpoint.{Checkpoint}
 use Rattle.pcfs_store.specs.StoreView.{StoreView, IsStore}
 
 -- the store of these fields
-abbrev pub store_of : {D : Type 0} → AreaView D → D → Bool → ℕ → GateView → List Checkpoint → Option ℕ → StoreView D
-store_of area other second_active generation gate checkpoints stop = record {
+abbrev pub store_of : {D : Type 0} → AreaView D → D → Bool → ℕ → List ℕ → GateView → List Checkpoint → Option ℕ → StoreView D
+store_of area other second_active generation opened gate checkpoints stop = record {
   active = area.disk;
   other = other;
   second_active = second_active;
@@ -16,12 +16,13 @@ store_of area other second_active generation gate checkpoints stop = record {
   key = gate.key;
   ring = gate.ring;
   base = gate.base;
+  opened = opened;
   events = gate.events;
   checkpoints = checkpoints;
   stop = stop;
 }
 
 -- the fields keep what a store keeps, and nothing is pending
-pub record IsKeeping {D : Type 0} (area : AreaView D) (other : D) (second_active : Bool) (generation : ℕ) (gate : GateView) (checkpoints : List Checkpoint) (stop : Option ℕ) : Type 0 where
-  pub store : IsStore (store_of area other second_active generation gate checkpoints stop)
+pub record IsKeeping {D : Type 0} (area : AreaView D) (other : D) (second_active : Bool) (generation : ℕ) (opened : List ℕ) (gate : GateView) (checkpoints : List Checkpoint) (stop : Option ℕ) : Type 0 where
+  pub store : IsStore (store_of area other second_active generation opened gate checkpoints stop)
   pub idle : gate.pending ≡ None

@@ -16,9 +16,9 @@ use Rattle.pcfs_store.specs.Image.{IsImageOf}
 use Rattle.pcfs_store.specs.StoredHistory.{AreSpellable, state_after, area_since}
 use Rattle.pcfs_store.specs.Newest.{one_of}
 
--- the disk with the area that counts, and the other one; whether it is the second; the area's generation, and how many bytes stand in it before its closed gate; the key of the seal and the ring of those
--- whose signatures are accepted; the base and the events since, each with its pass, which is 0 if it was read from an area; the checkpoints that were made of them; and, if a disk failed, the pass of the
--- step or checkpoint in which it did
+-- the disk with the area that counts, and the other one; whether it is the second; the area's generation, and how many bytes stand in it before its closed gate;
+-- the key of the seal and the ring of those whose signatures are accepted; the base, the image of it with which the store was opened, and the events since,
+-- each with its pass, which is 0 if it was read from an area; the checkpoints that were made of them; and, if a disk failed, the pass of the step or checkpoint in which it did
 pub record StoreView (D : Type 0) : Type 0 where
   pub active : D
   pub other : D
@@ -28,6 +28,7 @@ pub record StoreView (D : Type 0) : Type 0 where
   pub key : List ℕ
   pub ring : List KeyView
   pub base : BaseView
+  pub opened : List ℕ
   pub events : List Event
   pub checkpoints : List Checkpoint
   pub stop : Option ℕ
@@ -66,9 +67,17 @@ head_of s = state_after s.base s.events (settled_of s)
 abbrev pub records_of : {D : Type 0} → StoreView D → List Event
 records_of s = drop (settled_of s) s.events
 
+-- the image with which the area begins after these checkpoints: the one that was opened if there is none, or what is written of the state at the last of them
+abbrev pub image_since : List ℕ → BaseView → List Checkpoint → List ℕ
+image_since opened head [] = opened
+image_since opened head (checkpoint ∷ checkpoints) = image_spelling head
+
+abbrev pub image_of : {D : Type 0} → StoreView D → List ℕ
+image_of s = image_since s.opened (head_of s) s.checkpoints
+
 -- the area of the history, without its closed gate
 abbrev pub body_of : {D : Type 0} → StoreView D → List ℕ
-body_of s = area_since s.generation s.base s.events (settled_of s)
+body_of s = area_since s.generation (image_of s) s.events (settled_of s)
 
 -- each checkpoint was made after no fewer events than the one before it, and after no more than there are
 abbrev pub AreInOrder : ℕ → ℕ → List Checkpoint → Type 0
@@ -80,7 +89,7 @@ pub record IsStore {D : Type 0} (s : StoreView D) : Type 0 where
   pub generated : IsGeneration s.generation
   pub counted : length s.checkpoints < s.generation
   pub in_order : AreInOrder 0 (length s.events) s.checkpoints
-  pub is_image : IsImageOf (head_of s) (image_spelling (head_of s))
+  pub is_image : IsImageOf (head_of s) (image_of s)
   pub spelled : AreSpellable s.events
   pub used_is : s.used ≡ length (body_of s)
   pub fits : s.used < area_limit

@@ -5,8 +5,8 @@ use Rattle.journal_core.specs.Area.{area_limit, area_bytes, IsArea}
 use Rattle.access_history.specs.declared.event.Event.{Event}
 use Rattle.access_history.specs.Base.{BaseView}
 use Rattle.access_history.specs.Replay.{replay}
-use Rattle.journal_records.specs.EventSpelling.{event_spelling, erase, IsSpellableEvent}
-use Rattle.checkpoint_image.specs.ImageSpelling.{image_spelling}
+use Rattle.access_history.specs.Passes.{erase}
+use Rattle.journal_records.specs.EventSpelling.{event_spelling, IsSpellableEvent}
 use Rattle.pcfs_store.specs.Image.{IsImageOf}
 
 -- the payloads of the records of events; they do not say of which pass an event is
@@ -21,11 +21,11 @@ AreSpellable events = AllByRecursion IsSpellableEvent events
 abbrev pub state_after : BaseView → List Event → ℕ → BaseView
 state_after base events settled = replay base (take settled events)
 
--- the area that tells a history by the image of the state after its first `settled` events and the records of the others, without its closed gate
-abbrev pub area_since : ℕ → BaseView → List Event → ℕ → List ℕ
-area_since generation base events settled = area_bytes generation (image_spelling (state_after base events settled)) (payloads_of (drop settled events))
+-- the area that tells a history by an image of the state after its first `settled` events and the records of the others, without its closed gate
+abbrev pub area_since : ℕ → List ℕ → List Event → ℕ → List ℕ
+area_since generation image events settled = area_bytes generation image (payloads_of (drop settled events))
 
--- Bytes stand for a history under a generation: they begin with the area of the image of its base and the records of its events, and what follows is empty or begins with no open gate.
+-- Bytes stand for a history under a generation: they begin with the area of an image of its base and the records of its events, and what follows is empty or begins with no open gate.
 pub record StandsFor (bytes : List ℕ) (generation : ℕ) (base : BaseView) (events : List Event) : Type 0 where
   pub image : List ℕ
   pub is_image : IsImageOf base image

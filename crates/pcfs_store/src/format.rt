@@ -127,8 +127,8 @@ fn format_first<D: Disk>(
     ensures risen { IfErr result (λ e. e.0 ≡ FormatFault.Disk → HasRisen (D.faults a) (D.faults e.1)) }
     ensures never_falls { MatchResult result (λ s. D.faults a ≤ D.faults s.active) (λ e. D.faults a ≤ D.faults e.1) }
 {
-    match Area::format(alloc, a, 1, &FRESH_IMAGE) {
-        Ok(active) => Ok(Store::from_scan(alloc, active, b, false, 1, gate)),
+    match Area::format(alloc, a, 1, FRESH_IMAGE) {
+        Ok(active) => Ok(Store::from_scan(alloc, active, b, false, 1, FRESH_IMAGE, gate)),
         Err((fault, a)) => Err((fault_of(fault), a, b)),
     }
 }

@@ -13,6 +13,7 @@ mod format;
 mod image;
 mod keeping;
 pub mod laws;
+mod opened;
 mod reply;
 mod store;
 

@@ -2,12 +2,13 @@
 
 ghost use Rattle.std.specs.Prelude.{◌≡◌, ◌≢◌, ◌↔◌, ◌<◌, ◌≤◌, ◌-◌, ◌^◌, [], Some, None, IsSome, IsTrue, length, is_some};
 ghost use Rattle.journal_core.specs.Area.{area_bytes, IsGeneration};
-ghost use Rattle.checkpoint_image.specs.ImageSpelling.{image_spelling};
+ghost use Rattle.checkpoint.specs.Writing.{IsWrittenImageOf};
 ghost use Rattle.pcfs_store.specs.Image.{IsImageOf};
 ghost use Rattle.pcfs_store.specs.StoredHistory.{payloads_of, AreSpellable};
 
 use crate::checkpoints::{Checkpoint, move_area};
 use crate::keeping::keep_pending;
+use crate::opened::{Opened, opened_with};
 use crate::reply::{CheckpointReply, StoreReply};
 use access_history::StepRequest;
 use bl_syntax::{Bytes, NoMemory};
@@ -29,6 +30,8 @@ pub struct Store<D: Disk> {
     other: D,
     second_active: bool,
     generation: u64,
+    /// The image with which the store was opened, for contracts alone.
+    opened: Opened,
     gate: Gate,
     checkpoints: Vec<Checkpoint>,
     stop: Option<u64>,
@@ -44,9 +47,9 @@ impl<D: Disk> Model for Store<D> {
 
     ghost use Rattle.pcfs_store.specs.Inside.{store_of, IsKeeping};
 
-    ghost view = { λ s. store_of s.active s.other s.second_active s.generation s.gate s.checkpoints.items s.stop };
+    ghost view = { λ s. store_of s.active s.other s.second_active s.generation s.opened.value s.gate s.checkpoints.items s.stop };
 
-    ghost invariant = { λ s. IsKeeping s.active s.other s.second_active s.generation s.gate s.checkpoints.items s.stop };
+    ghost invariant = { λ s. IsKeeping s.active s.other s.second_active s.generation s.opened.value s.gate s.checkpoints.items s.stop };
 }
 
 impl<D: Disk> Store<D> {
@@ -63,19 +66,20 @@ impl<D: Disk> Store<D> {
     ghost use Rattle.pcfs_store.specs.Newest.{SurvivesWholeClosed};
 
     /// A store over what was read of two disks. The area is the one that counts, the second exactly if `second_active`; it
-    /// has that generation, the image of the gate's base, and the records of its events. It takes no memory.
+    /// has that generation, this image, which is one of the gate's base, and the records of its events. It takes no memory.
     pub fn from_scan(
         alloc: Global,
         active: Area<D>,
         other: D,
         second_active: bool,
         generation: u64,
+        image: &[u8],
         gate: Gate,
     ) -> Store<D>
         requires generated { IsGeneration generation }
-        requires image { IsImageOf gate.base (image_spelling gate.base) }
+        requires image { IsImageOf gate.base image.now }
         requires spelled { AreSpellable gate.events }
-        requires used { active.end ≡ length (area_bytes generation (image_spelling gate.base) (payloads_of gate.events)) }
+        requires used { active.end ≡ length (area_bytes generation image.now (payloads_of gate.events)) }
         requires nothing_pending { gate.pending ≡ None }
         ensures { result ≡ record {
           active = active.disk;
@@ -86,6 +90,7 @@ impl<D: Disk> Store<D> {
           key = gate.key;
           ring = gate.ring;
           base = gate.base;
+          opened = image.now;
           events = gate.events;
           checkpoints = [];
           stop = None;
@@ -96,6 +101,7 @@ impl<D: Disk> Store<D> {
             other,
             second_active,
             generation,
+            opened: opened_with(image),
             gate,
             checkpoints: Vec::new(alloc),
             stop: None,
@@ -151,6 +157,11 @@ impl<D: Disk> Store<D> {
         ensures ready { IsReady D.clock D.left_since D.image self.old → result ≢ StoreReply.Stopped → IsReady D.clock D.left_since D.image self.new }
         ensures keeps { Keeps D.clock D.left_since D.image self.old → Keeps D.clock D.left_since D.image self.new }
         ensures current { IsCurrent D.clock D.left_since D.image self.old → result ≢ StoreReply.Stopped → IsCurrent D.clock D.left_since D.image self.new }
+
+        // After an event that is kept a store is ready, also if its area lacked its closed gate before, or something was pending on it.
+        ensures makes_ready { IsCurrent D.clock D.left_since D.image self.old → length self.old.events < length self.new.events → (active other : List ℕ) →
+            D.image self.old.active ≡ Some active → D.image self.old.other ≡ Some other → IsPinned D.clock D.left_since D.image self.old.other →
+            IsReady D.clock D.left_since D.image self.new }
 
         // A crash at any moment leaves the history as it was, or with the one event that the answer keeps.
         ensures any_moment { IsReady D.clock D.left_since D.image self.old → StopsLeave D.clock D.left_since D.image self.old self.new (LeavesStep self.old pass clock request) }
@@ -241,7 +252,7 @@ impl<D: Disk> Store<D> {
 
     // The image of the state.
     fn image(&self, alloc: Global) -> Result<Bytes, NoMemory>
-        ensures { IfOk result (IsImageOf (state_of_store self.now)) }
+        ensures { IfOk result (IsWrittenImageOf (state_of_store self.now)) }
     {
         let history = self.gate.history();
         history.lawful();
@@ -252,7 +263,7 @@ impl<D: Disk> Store<D> {
     fn place_image(&mut self, alloc: Global, pass: u64, image: &[u8]) -> CheckpointReply
         requires running { self.old.stop ≡ None }
         requires numbered { self.old.generation < 2 ^ 48 - 1 }
-        requires image { IsImageOf (state_of_store self.old) image.now }
+        requires image { IsWrittenImageOf (state_of_store self.old) image.now }
         ensures { Checkpoints D.clock D.left_since D.image D.faults self.old pass result self.new }
     {
         let made = Checkpoint {

@@ -5,13 +5,14 @@ use Rattle.std.specs.Str.{bytes_eq}
 use Rattle.line_text.specs.Lines.{lines_of}
 use Rattle.line_words.specs.Cutting.{first_cut}
 use Rattle.generated_script.specs.Script.{script_text}
+use Rattle.policy_statement.specs.Ring.{keyed}
 use Rattle.pcfs_secrets.specs.declared.secrets.Secrets.{Secrets}
 use Rattle.pcfs_session.specs.ScriptEnds.{RunsOver}
 use Rattle.pcfs_session.specs.ScriptRun.{Standing, fresh_start, state_of_standing}
 
 -- the secrets of a large run: the key of the seal is the byte 2, and `admin` alone has a key, the byte 1
 abbrev pub load_secrets : Secrets
-load_secrets = record { seal_key = 2 ∷ []; ring = record { who = codes "admin"; key = 1 ∷ [] } ∷ [] }
+load_secrets = record { seal_key = 2 ∷ []; ring = record { who = codes "admin"; holds = keyed (1 ∷ []) } ∷ [] }
 
 -- whether this is the first word of the reply
 abbrev pub begins_with_word : List ℕ → List ℕ → Bool

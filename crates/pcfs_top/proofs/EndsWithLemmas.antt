@@ -8,7 +8,6 @@ use Rattle.std.proofs.lemmas.Int.{ints}
 use Rattle.pcfs_ports.specs.Faults.{HasRisen}
 use Rattle.pcfs_ports.specs.Disk.{IsPinned}
 use Rattle.journal_core.specs.Area.{IsShut, Closed, StandsForBody, area_bytes, generation_of}
-use Rattle.access_history.specs.Base.{BaseView}
 use Rattle.access_history.specs.Replay.{fresh}
 use Rattle.access_history.specs.declared.event.Event.{Event}
 use Rattle.access_history.specs.History.{authority_with}
@@ -17,10 +16,10 @@ use Rattle.policy_statement.specs.Ring.{KeyView}
 use Rattle.pcfs_secrets.specs.declared.secrets.Secrets.{Secrets}
 use Rattle.pcfs_store.specs.Formats.{IsNewStore, IsNoneOrFresh, PairsLeft}
 use Rattle.pcfs_store.specs.Image.{fresh_image}
-use Rattle.pcfs_store.specs.StoredHistory.{area_since, payloads_of}
+use Rattle.pcfs_store.specs.StoredHistory.{area_since, payloads_of, state_after}
 use Rattle.pcfs_store.specs.Entries.{StoreEntry}
 use Rattle.pcfs_store.specs.Newest.{newer, newest, one_of}
-use Rattle.pcfs_store.specs.StoreView.{StoreView, first_disk, second_disk, IsStore, body_of, head_of, last_after, records_of, settled_of, state_of_store}
+use Rattle.pcfs_store.specs.StoreView.{StoreView, first_disk, second_disk, IsStore, body_of, head_of, image_since, image_of, last_after, records_of, settled_of, state_of_store}
 use Rattle.pcfs_store.specs.Ready.{IsReady, IsCurrent, IsBehind}
 use Rattle.pcfs_store.specs.declared.format.FormatFault.{FormatFault}
 use Rattle.pcfs_store.specs.declared.format.FormatFault.TheVariants as formats
@@ -29,8 +28,6 @@ use Rattle.pcfs_store.specs.declared.reply.CheckpointReply.{CheckpointReply}
 use Rattle.pcfs_store.specs.declared.reply.CheckpointReply.TheVariants as checkpoints
 use Rattle.pcfs_store.specs.Checkpoints.{Checkpoints, IsFullForCheckpoint, IsNewestCheckpoint, MakesCheckpoint, place_after}
 use Rattle.pcfs_store.specs.Checkpoints as makes
-use Rattle.checkpoint_image.specs.ImageSpelling.{image_spelling}
-use Rattle.pcfs_store.proofs.ImageLemmas.{fresh_spelling}
 use Rattle.pcfs_store.proofs.SurvivalLemmas.{at_some, told_pairs, tellable_store, generation_since, newest_active, ready_current, current_stands}
 use Rattle.recover.specs.declared.fault.OpenFault.{OpenFault}
 use Rattle.recover.specs.declared.fault.OpenFault.TheVariants as opens
@@ -49,7 +46,7 @@ use Rattle.pcfs_tools.specs.LastLine.{IsTold, IsUntold}
 use Rattle.pcfs_tools.specs.Load.{IsLoaded}
 use Rattle.pcfs_tools.specs.ScriptStatus.{AnswersInput}
 use Rattle.pcfs_tools.proofs.MemoryLemmas.{secrets_of}
-use Rattle.pcfs_top.specs.Ports.{Disks, Ports, Rests, AreBytesKept}
+use Rattle.pcfs_top.specs.Ports.{Disks, Ports, Rests, AreBytesKept, IfTold}
 use Rattle.pcfs_top.specs.Run.{AreOfStore, of_script, of_checkpoint, of_audit, HasNoArea, IsNotLost, IsOpened, IsNewestOf, IsNewestImage, NewestStays, Returns, HasCause, EndsWith, TellsCheckpoint, TellsUnopened, TellsUnmade, damaged_text}
 use Rattle.pcfs_top.specs.Run as run
 use Rattle.pcfs_session.specs.ScriptRun.{IsLawfulStanding, script_pass}
@@ -117,9 +114,10 @@ place_kept added old new none is = is ∙ ap (λ (cs : List Checkpoint). place_a
 pub place_moved : (added all : List Checkpoint) (old first new : Bool) → added ≡ all → old ≡ first → new ≡ place_after (length added) old → new ≡ place_after (length all) first
 place_moved added all old first new same begins is = is ∙ ap (λ (cs : List Checkpoint). place_after (length cs) old) same ∙ ap (place_after (length all)) begins
 
--- the area of a store without checkpoints has the image of its base, and the records of all its events
-body_unsettled : {D : Type 0} (s : StoreView D) → s.checkpoints ≡ [] → body_of s ≡ area_bytes s.generation (image_spelling s.base) (payloads_of s.events)
-body_unsettled s unsettled = ap (λ (cs : List Checkpoint). area_since s.generation s.base s.events (last_after 0 cs)) unsettled
+-- the area of a store without checkpoints has the image that was opened, and the records of all its events
+body_unsettled : {D : Type 0} (s : StoreView D) → s.checkpoints ≡ [] → body_of s ≡ area_bytes s.generation s.opened (payloads_of s.events)
+body_unsettled s unsettled =
+    ap (λ (cs : List Checkpoint). area_since s.generation (image_since s.opened (state_after s.base s.events (last_after 0 cs)) cs) s.events (last_after 0 cs)) unsettled
 
 -- ---- disks
 
@@ -172,7 +170,7 @@ module _ {D : Type 0} (clock : D → ℕ) (left_since : D → ℕ → List ℕ �
     behind_at other told = at_some (image s.other) (λ bytes. IsBehind s.second_active s.generation (generation_of bytes)) other told current.other
 
     generation_at : (active : List ℕ) → image s.active ≡ Some active → generation_of active ≡ Some s.generation
-    generation_at active told = generation_since s.generation s.base s.events (settled_of s) active (tellable_store s store) (body_at active told)
+    generation_at active told = generation_since s.generation (image_of s) s.base s.events (settled_of s) active (tellable_store s store) (body_at active told)
 
     -- the newest one stands for the state at the last checkpoint, and the events since
     pub newest_of : (x y : List ℕ) → image (first_disk s) ≡ Some x → image (second_disk s) ≡ Some y → IsNewestOf s.generation (head_of s) (records_of s) x y
@@ -188,8 +186,8 @@ module _ {D : Type 0} (clock : D → ℕ) (left_since : D → ℕ → List ℕ �
   same_some x y is = cc
 
   -- of a ready store it has its closed gate
-  pub closed_of : (s : StoreView D) → IsStore s → IsReady clock left_since image s → (x y : List ℕ) → image (first_disk s) ≡ Some x → image (second_disk s) ≡ Some y → IsNewestClosed s.generation (head_of s) (records_of s) x y
-  closed_of s store ready = told_pairs image s.second_active s.active s.other (IsNewestClosed s.generation (head_of s) (records_of s)) (λ a o is_a is_o.
+  pub closed_of : (s : StoreView D) → IsStore s → IsReady clock left_since image s → (x y : List ℕ) → image (first_disk s) ≡ Some x → image (second_disk s) ≡ Some y → IsNewestClosed s.generation (image_of s) (records_of s) x y
+  closed_of s store ready = told_pairs image s.second_active s.active s.other (IsNewestClosed s.generation (image_of s) (records_of s)) (λ a o is_a is_o.
       let current = ready_current clock left_since image s ready in
       record {
         bytes = a;
@@ -218,10 +216,9 @@ module _ {D : Type 0} (clock : D → ℕ) (left_since : D → ℕ → List ℕ �
     fresh_body : (s : StoreView D) → IsNewStore secrets.seal_key secrets.ring s → body_of s ≡ area_bytes 1 fresh_image []
     fresh_body s new =
         body_unsettled s new.no_checkpoints
-        ∙ ap (λ (n : ℕ). area_bytes n (image_spelling s.base) (payloads_of s.events)) new.generation_is
-        ∙ ap (λ (b : BaseView). area_bytes 1 (image_spelling b) (payloads_of s.events)) new.base_is
-        ∙ ap (λ (es : List Event). area_bytes 1 (image_spelling fresh) (payloads_of es)) new.no_events
-        ∙ ap (λ (bytes : List ℕ). area_bytes 1 bytes []) (sym fresh_spelling)
+        ∙ ap (λ (n : ℕ). area_bytes n s.opened (payloads_of s.events)) new.generation_is
+        ∙ ap (λ (bytes : List ℕ). area_bytes 1 bytes (payloads_of s.events)) new.opened_is
+        ∙ ap (λ (es : List Event). area_bytes 1 fresh_image (payloads_of es)) new.no_events
 
     has_area : (s : StoreView D) (a' : D) → IsNewStore secrets.seal_key secrets.ring s → a' ≡ first_disk s → IsReady clock left_since image s → IfSome (image a') (Closed (area_bytes 1 fresh_image []))
     has_area s a' new a_is ready =
@@ -316,7 +313,7 @@ module _ {D : Type 0} (clock : D → ℕ) (left_since : D → ℕ → List ℕ �
     EndsWith-unread before after left held =
         untold_as words secrets (rests_of a b a b) (record { streams = before; disks = disks_of a b }) (record { streams = after; disks = disks_of a b }) 9 (record { a_stays = refl; b_stays = refl }) left (refl, held)
 
-    is_opened : (s : StoreView D) → IsStore s → opening.IsOpened clock left_since image faults a b secrets.seal_key secrets.ring s → IsOpened secrets s.generation (disks_of a b) (standing_over s None (first_asker script_pass))
+    is_opened : (s : StoreView D) → IsStore s → opening.IsOpened clock left_since image faults a b secrets.seal_key secrets.ring s → IsOpened secrets s.generation s.opened (disks_of a b) (standing_over s None (first_asker script_pass))
     is_opened s store opened = record {
       secrets_are = ap (λ (k : List ℕ). secrets_of k s.ring) opened.key_is ∙ ap (λ (r : List KeyView). secrets_of secrets.seal_key r) opened.ring_is;
       asker_is = refl;
@@ -334,7 +331,7 @@ module _ {D : Type 0} (clock : D → ℕ) (left_since : D → ℕ → List ℕ �
         EndsWith secrets words (rests_of a b a' b') (record { streams = before; disks = disks_of a b }) (record { streams = after; disks = disks_of a' b' }) result
     EndsWith-audited pieces before after result s a' b' asks store opened (reported report is tells) left a_is b_is =
         told_as words secrets (rests_of a b a' b') (record { streams = before; disks = disks_of a b }) (record { streams = after; disks = disks_of a' b' }) (audit_status report.rows) (report_text report) result
-        (run.audited pieces s.generation (standing_over s None (first_asker script_pass)) report asks (is_opened s store opened) is (record { a_stays = ap image a_is ∙ opened.first_read.same; b_stays = ap image b_is ∙ opened.second_read.same })
+        (run.audited pieces s.generation s.opened (standing_over s None (first_asker script_pass)) report asks (is_opened s store opened) is (record { a_stays = ap image a_is ∙ opened.first_read.same; b_stays = ap image b_is ∙ opened.second_read.same })
         (subst (IsPinned clock left_since image) (sym a_is) opened.first_read.pinned, subst (IsPinned clock left_since image) (sym b_is) opened.second_read.pinned)) left tells
     EndsWith-audited pieces before after result s a' b' asks store opened (unreported untold) left a_is b_is =
         untold_as words secrets (rests_of a b a' b') (record { streams = before; disks = disks_of a b }) (record { streams = after; disks = disks_of a' b' }) result
@@ -399,7 +396,7 @@ module _ {D : Type 0} (clock : D → ℕ) (left_since : D → ℕ → List ℕ �
 
   module _ (words : List (String Global)) (secrets : Secrets) (a b : D) (is : AsksFor words tasks.Checkpoint) (s : StoreView D) (store : IsStore s) (opened : opening.IsOpened clock left_since image faults a b secrets.seal_key secrets.ring s)
       (may_stay : (d : D) (bytes : List ℕ) → image d ≡ Some bytes → left_since d (clock d) bytes) (pass : ℕ) (s' : StoreView D) where
-    abbrev is_start : IsOpened secrets s.generation (disks_of a b) (standing_over s None (first_asker script_pass))
+    abbrev is_start : IsOpened secrets s.generation s.opened (disks_of a b) (standing_over s None (first_asker script_pass))
     is_start = is_opened words secrets a b (of_checkpoint is) s store opened
 
     -- the bytes are as they were, and nothing is pending
@@ -433,16 +430,16 @@ module _ {D : Type 0} (clock : D → ℕ) (left_since : D → ℕ → List ℕ �
         EndsWith secrets words (rests_of a b (first_disk s') (second_disk s')) (record { streams = before; disks = disks_of a b }) (record { streams = after; disks = disks_of (first_disk s') (second_disk s') }) result
     ends before after result checkpoints.Checkpointed made left tells =
         told_as words secrets (rests_of a b (first_disk s') (second_disk s')) (record { streams = before; disks = disks_of a b }) (record { streams = after; disks = disks_of (first_disk s') (second_disk s') }) 0 (codes "ok checkpoint") result
-        (run.checkpointed s.generation (standing_over s None (first_asker script_pass)) is is_start (made_fits s s' pass made.answer) (stays_by (made_stays s s' pass made.answer)) (λ x y is_x is_y. (
+        (run.checkpointed s.generation s.opened (standing_over s None (first_asker script_pass)) is is_start (made_fits s s' pass made.answer) (stays_by (made_stays s s' pass made.answer)) (λ x y is_x is_y. (
           pinned_at s' (first_disk s') (second_disk s') refl refl (is_ready made x y is_x is_y),
           λ x' y' is_x' is_y'. newest_image s x' y' (made.newest (opened.current x y is_x is_y) refl x' y' is_x' is_y'),
         ))) left tells
     ends before after result checkpoints.Full made left tells =
         told_as words secrets (rests_of a b (first_disk s') (second_disk s')) (record { streams = before; disks = disks_of a b }) (record { streams = after; disks = disks_of (first_disk s') (second_disk s') }) 14 (codes "full") result
-        (let full = full_same s s' pass made.answer in run.full s.generation (standing_over s None (first_asker script_pass)) is is_start full.1 (kept_by full.0) (rests_by full.0)) left tells
+        (let full = full_same s s' pass made.answer in run.full s.generation s.opened (standing_over s None (first_asker script_pass)) is is_start full.1 (kept_by full.0) (rests_by full.0)) left tells
     ends before after result checkpoints.Stopped made left tells =
         told_as words secrets (rests_of a b (first_disk s') (second_disk s')) (record { streams = before; disks = disks_of a b }) (record { streams = after; disks = disks_of (first_disk s') (second_disk s') }) 5 (codes "stopped") result
-        (run.not_checkpointed s.generation (standing_over s None (first_asker script_pass)) is is_start (stopped_fits s s' pass opened.running made.answer) (risen_since secrets a b s s' opened (stopped_risen s s' pass opened.running made.answer)) (stays_by (stopped_stays s s' pass opened.running made.answer))
+        (run.not_checkpointed s.generation s.opened (standing_over s None (first_asker script_pass)) is is_start (stopped_fits s s' pass opened.running made.answer) (risen_since secrets a b s s' opened (stopped_risen s s' pass opened.running made.answer)) (stays_by (stopped_stays s s' pass opened.running made.answer))
         (λ x y is_x is_y closed x' y' is_x' is_y'. made.halts (opened.ready x y is_x is_y closed) refl x' y' (may_stay (first_disk s') x' is_x') (may_stay (second_disk s') y' is_y'))) left tells
     ends before after result checkpoints.NoMemory made left tells =
         untold_as words secrets (rests_of a b (first_disk s') (second_disk s')) (record { streams = before; disks = disks_of a b }) (record { streams = after; disks = disks_of (first_disk s') (second_disk s') }) result
@@ -460,7 +457,7 @@ module _ {D : Type 0} (clock : D → ℕ) (left_since : D → ℕ → List ℕ �
 
   module _ (words : List (String Global)) (secrets : Secrets) (a b : D) (is : AsksFor words Stored) where
     returns_of : (may_stay : (d : D) (bytes : List ℕ) → image d ≡ Some bytes → left_since d (clock d) bytes) (s s' : StoreView D) (met : Option StoreEntry) (asker : Asker) → IsStore s → IsStore s' → opening.IsOpened clock left_since image faults a b secrets.seal_key secrets.ring s →
-        StoreGoesOn clock left_since image faults s s' met → Returns (rests_of a b (first_disk s') (second_disk s')) s.generation (disks_of a b) (disks_of (first_disk s') (second_disk s')) (standing_over s None (first_asker script_pass)) (standing_over s' met asker)
+        StoreGoesOn clock left_since image faults s s' met → Returns (rests_of a b (first_disk s') (second_disk s')) s.generation s.opened (disks_of a b) (disks_of (first_disk s') (second_disk s')) (standing_over s None (first_asker script_pass)) (standing_over s' met asker)
     returns_of may_stay s s' met asker store store' opened goes =
         let added : List Checkpoint = goes.checkpoints_go_on.0 in
         let all : added ≡ s'.checkpoints = added_all s.checkpoints added s'.checkpoints opened.unsettled goes.checkpoints_go_on.1 in
@@ -468,8 +465,10 @@ module _ {D : Type 0} (clock : D → ℕ) (left_since : D → ℕ → List ℕ �
           grown = goes.generation_grows ∙ ap (λ (cs : List Checkpoint). s.generation + length cs) all;
           whole = λ x y is_x is_y none. newest_of s' store' (goes.current (opened.current x y is_x is_y) none);
           closed = λ x y is_x is_y closed none.
-              let ready = goes.ready (opened.ready x y is_x is_y closed) none in
-              (pinned_at s' (first_disk s') (second_disk s') refl refl ready, closed_of s' store' ready);
+              let ready = goes.ready (opened.ready x y is_x is_y closed) none in (
+                pinned_at s' (first_disk s') (second_disk s') refl refl ready,
+                subst (λ (found : List ℕ). IfTold (disks_of (first_disk s') (second_disk s')) (IsNewestClosed s'.generation (image_since found (head_of s') s'.checkpoints) (records_of s'))) goes.opened_stays (closed_of s' store' ready),
+              );
           place = λ none x y is_x is_y second counts x' y' is_x' is_y'.
               let now = counts_now s store (opened.current x y is_x is_y) x y (opened.first_read.same ∙ is_x) (opened.second_read.same ∙ is_y) in
               counts_now s' store' (goes.current (opened.current x y is_x is_y) none) x' y' is_x' is_y'
@@ -489,7 +488,7 @@ module _ {D : Type 0} (clock : D → ℕ) (left_since : D → ℕ → List ℕ �
     EndsWith-stored may_stay before after result s s' asker a' b' store store' opened answers a_is b_is =
         subst (λ (x : D). EndsWith secrets words (rests_of a b x b') (record { streams = before; disks = disks_of a b }) (record { streams = after; disks = disks_of x b' }) result) (sym a_is)
         (subst (λ (y : D). EndsWith secrets words (rests_of a b (first_disk s') y) (record { streams = before; disks = disks_of a b }) (record { streams = after; disks = disks_of (first_disk s') y }) result) (sym b_is)
-        (run.stored result s.generation (standing_over s None (first_asker script_pass)) (standing_over s' answers.met asker) is (is_opened words secrets a b (of_script is) s store opened) (returns_of may_stay s s' answers.met asker store store' opened answers.goes_on) answers.ends))
+        (run.stored result s.generation s.opened (standing_over s None (first_asker script_pass)) (standing_over s' answers.met asker) is (is_opened words secrets a b (of_script is) s store opened) (returns_of may_stay s s' answers.met asker store store' opened answers.goes_on) answers.ends))
 
 -- ---- no memory for the words
 

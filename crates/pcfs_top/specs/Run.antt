@@ -17,7 +17,7 @@ use Rattle.pcfs_store.specs.Formats.{IsNoneOrFresh}
 use Rattle.pcfs_store.specs.Newest.{SurvivesWholeClosed, newer, newest, one_of}
 use Rattle.pcfs_store.specs.Checkpoints.{place_after, SurvivesMet}
 use Rattle.pcfs_store.specs.Entries.{StoreEntry, checkpointed as checkpoint_mark}
-use Rattle.pcfs_store.specs.StoreView.{last_after}
+use Rattle.pcfs_store.specs.StoreView.{last_after, image_since}
 use Rattle.pcfs_store.specs.declared.format.FormatFault.{FormatFault}
 use Rattle.pcfs_store.specs.declared.format.FormatFault.TheVariants as formats
 use Rattle.pcfs_store.specs.declared.reply.CheckpointReply.{CheckpointReply}
@@ -67,16 +67,17 @@ damaged_text record_number damage = codes "damaged " ++ (decimal record_number +
 abbrev pub HasNoArea : List ℕ → List ℕ → Type 0
 HasNoArea x y = IsShut x × IsShut y
 
--- a store was opened whose area has this generation, and a script, a checkpoint or an audit begins over it: its history is that of the newest area, and lawful, and the area has so many bytes before its closed gate
-pub record IsOpened (secrets : Secrets) (generation : ℕ) (before : Disks) (start : Standing) : Type 0 where
+-- a store was opened whose area has this generation and begins with this image, and a script, a checkpoint or an audit begins over it: its history is that of the newest area, and lawful, and the area has so many bytes before
+-- its closed gate
+pub record IsOpened (secrets : Secrets) (generation : ℕ) (image : List ℕ) (before : Disks) (start : Standing) : Type 0 where
   pub secrets_are : start.secrets ≡ secrets
   pub asker_is : start.asker ≡ first_asker script_pass
   pub running : start.met ≡ None
   pub lawful : IsLawfulStanding start
   pub unsettled : start.checkpoints ≡ []
   pub generation_is : start.generation ≡ generation
-  pub used_is : start.used ≡ length (area_bytes generation (image_spelling start.base) (payloads_of start.events))
-  pub found : IfTold before (IsNewestHistory (authority_under secrets) generation start.base start.events)
+  pub used_is : start.used ≡ length (area_bytes generation image (payloads_of start.events))
+  pub found : IfTold before (IsNewestHistory (authority_under secrets) generation image start.base start.events)
 
 -- the newest area of these two has this generation, and its bytes stand for the history; passes are in no bytes
 pub record IsNewestOf (generation : ℕ) (base : BaseView) (events : List Event) (x y : List ℕ) : Type 0 where
@@ -94,16 +95,21 @@ head_in s = state_after s.base s.events (settled_in s)
 abbrev pub records_in : Standing → List Event
 records_in s = drop (settled_in s) s.events
 
+-- the image with which the area begins: the one that was opened, or that of the last checkpoint
+abbrev pub image_in : List ℕ → Standing → List ℕ
+image_in opened s = image_since opened (head_in s) s.checkpoints
+
 -- What comes back of the disks of a store that was opened, where a script ended. Its generation is that of the opened area, and one more for each checkpoint. Unless a disk failed, the newest area has this generation, and stands for the state at
 -- the last checkpoint, or for the opened base if there was none, and the events since; it is on the other disk after each checkpoint; and if the opened one had its closed gate, it has too, and nothing is pending. If one failed, its count rose; and if the opened area had its closed gate, the
 -- newest one that comes back stands for the history at the end, or, if an event met the fault, for it with this event. The area that did not count is as it was, if no checkpoint was made, and none met the fault.
-pub record Returns (rests : Rests) (generation : ℕ) (before after : Disks) (start end : Standing) : Type 0 where
+pub record Returns (rests : Rests) (generation : ℕ) (image : List ℕ) (before after : Disks) (start end : Standing) : Type 0 where
   pub grown : end.generation ≡ generation + length end.checkpoints
   pub whole : IfTold before (λ x y. end.met ≡ None → IfTold after (IsNewestOf end.generation (head_in end) (records_in end)))
-  pub closed : IfTold before (λ x y. IsNewestClosed generation start.base start.events x y → end.met ≡ None → rests.after × IfTold after (IsNewestClosed end.generation (head_in end) (records_in end)))
+  pub closed : IfTold before (λ x y. IsNewestClosed generation image start.events x y → end.met ≡ None →
+      rests.after × IfTold after (IsNewestClosed end.generation (image_in image end) (records_in end)))
   pub place : end.met ≡ None → IfTold before (λ x y. (second : Bool) → newer (generation_of x) (generation_of y) ≡ Some second → IfTold after (λ u v. newer (generation_of u) (generation_of v) ≡ Some (place_after (length end.checkpoints) second)))
   pub failed : (met : StoreEntry) → end.met ≡ Some met → HasDiskFailed before after
-  pub survives : IfTold before (λ x y. IsNewestClosed generation start.base start.events x y → (met : StoreEntry) → end.met ≡ Some met → IfTold after (SurvivesMet end.base end.events met))
+  pub survives : IfTold before (λ x y. IsNewestClosed generation image start.events x y → (met : StoreEntry) → end.met ≡ Some met → IfTold after (SurvivesMet end.base end.events met))
   pub other_stays : end.checkpoints ≡ [] → ((pass : ℕ) → end.met ≡ Some (checkpoint_mark pass) → ⊥) → IfTold before (λ x y. (second : Bool) → newer (generation_of x) (generation_of y) ≡ Some second → one_of after.b after.a second ≡ one_of before.b before.a second)
 
 -- the state of a store that was opened
@@ -139,13 +145,13 @@ pub data HasCause (secrets : Secrets) (words : List (String Global)) (rests : Re
   no_store : AreOfStore words → IfTold before HasNoArea → AreBytesKept before after → HasCause secrets words rests before after 4 (codes "nostore")
   damaged : (number : ℕ) (damage : Damage) → AreOfStore words → IfTold before (IsNewestDamaged (authority_under secrets) number damage) → AreBytesKept before after → HasCause secrets words rests before after 3 (damaged_text number damage)
   not_opened : AreOfStore words → HasDiskFailed before after → (rests.before → AreBytesKept before after) → HasCause secrets words rests before after 5 (codes "stopped")
-  checkpointed : (generation : ℕ) (start : Standing) → AsksFor words Checkpoint → IsOpened secrets generation before start → (HasNoNextArea generation (state_of_start start) → ⊥) → NewestStays before after →
+  checkpointed : (generation : ℕ) (image : List ℕ) (start : Standing) → AsksFor words Checkpoint → IsOpened secrets generation image before start → (HasNoNextArea generation (state_of_start start) → ⊥) → NewestStays before after →
       IfTold before (λ x y. rests.after × IfTold after (IsNewestImage (generation + 1) (state_of_start start))) → HasCause secrets words rests before after 0 (codes "ok checkpoint")
-  full : (generation : ℕ) (start : Standing) → AsksFor words Checkpoint → IsOpened secrets generation before start → HasNoNextArea generation (state_of_start start) → AreBytesKept before after → rests.after →
+  full : (generation : ℕ) (image : List ℕ) (start : Standing) → AsksFor words Checkpoint → IsOpened secrets generation image before start → HasNoNextArea generation (state_of_start start) → AreBytesKept before after → rests.after →
       HasCause secrets words rests before after 14 (codes "full")
-  not_checkpointed : (generation : ℕ) (start : Standing) → AsksFor words Checkpoint → IsOpened secrets generation before start → (HasNoNextArea generation (state_of_start start) → ⊥) → HasDiskFailed before after → NewestStays before after →
-      IfTold before (λ x y. IsNewestClosed generation start.base start.events x y → IfTold after (SurvivesWholeClosed start.base start.events)) → HasCause secrets words rests before after 5 (codes "stopped")
-  audited : (pieces : Option ℕ) (generation : ℕ) (start : Standing) (report : Report) → AsksFor words (Audit pieces) → IsOpened secrets generation before start → IsReport (authority_under secrets) start.base start.events report →
+  not_checkpointed : (generation : ℕ) (image : List ℕ) (start : Standing) → AsksFor words Checkpoint → IsOpened secrets generation image before start → (HasNoNextArea generation (state_of_start start) → ⊥) → HasDiskFailed before after → NewestStays before after →
+      IfTold before (λ x y. IsNewestClosed generation image start.events x y → IfTold after (SurvivesWholeClosed start.base start.events)) → HasCause secrets words rests before after 5 (codes "stopped")
+  audited : (pieces : Option ℕ) (generation : ℕ) (image : List ℕ) (start : Standing) (report : Report) → AsksFor words (Audit pieces) → IsOpened secrets generation image before start → IsReport (authority_under secrets) start.base start.events report →
       AreBytesKept before after → rests.after → HasCause secrets words rests before after (audit_status report.rows) (report_text report)
   loaded : (rounds seed : ℕ) (told : List ℕ) → AsksFor words (Load rounds seed) → IsLoaded rounds seed told → after ≡ before → HasCause secrets words rests before after 0 told
 
@@ -174,7 +180,8 @@ TellsUnmade formats.NoMemory held faults result held_after faults_after = IsUnto
 -- that, and then nothing changes.
 pub data EndsWith (secrets : Secrets) (words : List (String Global)) (rests : Rests) (before after : Ports) : ℕ → Type 0 where
   in_memory : (status : ℕ) → AsksFor words Script → after.disks ≡ before.disks → MemoryEnds secrets before.streams after.streams status → EndsWith secrets words rests before after status
-  stored : (status generation : ℕ) (start end : Standing) → AsksFor words Stored → IsOpened secrets generation before.disks start → Returns rests generation before.disks after.disks start end → ScriptStatus start end before.streams after.streams status →
+  stored : (status generation : ℕ) (image : List ℕ) (start end : Standing) → AsksFor words Stored → IsOpened secrets generation image before.disks start → Returns rests generation image before.disks after.disks start end →
+      ScriptStatus start end before.streams after.streams status →
       EndsWith secrets words rests before after status
   told : (status : ℕ) (line : List ℕ) → HasCause secrets words rests before.disks after.disks status line → after.streams.left ≡ before.streams.left → after.streams.held ≡ with_back before.streams.held (with_line_end line) →
       EndsWith secrets words rests before after status

@@ -5,3 +5,5 @@ pub mod Registered
 pub mod RegisteredCode
 pub mod Registry
 pub mod Ring
+pub mod RingCode
+pub mod Held

@@ -1,7 +1,8 @@
 //! Signatures of statements and logins, and the registry of statements.
 //!
-//! A ring of keys accepts exactly the whole tag of a message under the key of who signs it. The registry keeps no
-//! statement of which it was told that it is there, and tells its number: `test` says when and why not to keep one.
+//! A ring accepts exactly the whole tag of a message under the key of who signs it, or what the root of who signs it
+//! accepts. The registry keeps no statement of which it was told that it is there, and tells its number: `test` says when
+//! and why not to keep one.
 #![tactic(auto)]
 
 pub mod digest;

@@ -10,13 +10,11 @@ ghost use Rattle.policy_statement.specs.declared.registry.RegisterFault.TheVaria
 use crate::digest::digest;
 use crate::digests::{add_digest, has_digest};
 use crate::messages::statement_message;
+use bl_syntax::limits::MOST_STATEMENTS;
 use bl_syntax::{Bytes, NoMemory, Statement};
 use pcfs_ports::Signatures;
 use std::alloc::Global;
 use std::marker::Model;
-
-/// The most statements of a registry.
-const MOST_STATEMENTS: usize = 4096;
 
 /// Why a statement may not be registered.
 #[derive(Clone, Copy, Debug, PartialEq, Eq)]

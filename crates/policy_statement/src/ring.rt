@@ -1,21 +1,28 @@
-//! The ring: names with their keys.
+//! The ring: names with their keys or roots.
 
-ghost use Rattle.std.specs.Prelude.{◌≡◌, ◌↔◌, [], ◌∷◌, ◌++◌, IfOk, OnOk, OnErr, IsErrOf};
+ghost use Rattle.std.specs.Prelude.{◌≡◌, ◌↔◌, ◌<◌, [], ◌∷◌, ◌++◌, IfOk, OnOk, OnErr, IsErrOf};
 ghost use Rattle.std.specs.Option.{option_copied, option_map};
-ghost use Rattle.policy_statement.specs.Ring.{HasKey, key_of, tag_of};
+ghost use Rattle.pcfs_hmac.specs.Hmac.{hmac};
+ghost use Rattle.policy_statement.specs.Ring.{IsKnown, credential_of, keyed, rooted, tag_of};
 ghost use Rattle.policy_statement.specs.declared.ring.KeyFault.TheVariants as faults;
 
 use bl_syntax::{NoMemory, Principal};
+use merkle_sig::accepts_root;
 use pcfs_hmac::Mac;
 use pcfs_ports::Signatures;
 use std::alloc::{AllocFailed, Global};
 use std::marker::Model;
 
-/// Why a key was not added.
+/// The greatest height of a tree of hashes.
+const MOST_HEIGHT: u8 = 8;
+
+/// Why a key or a root was not added.
 #[derive(Clone, Copy, Debug, PartialEq, Eq)]
 pub enum KeyFault {
-    /// The name has a key already.
+    /// The name has a key or a root already.
     Known,
+    /// The tree is higher than 8.
+    BadHeight,
     /// A growth was refused.
     NoMemory,
 }
@@ -28,44 +35,65 @@ impl<T: Drop> From<AllocFailed<T>> for KeyFault {
     }
 }
 
-// A name and its key, as the empty text under the key, so that no message takes the key in again.
+// What a name signs with. A key is kept as the empty text under it, so that no message takes the key in again.
 #[derive(Drop)]
-struct Key {
-    who: Principal,
-    empty: Mac,
+enum Held {
+    Key(Mac),
+    Root(u8, [u8; 32]),
 }
 
-impl Model for Key {
-    ghost use Rattle.std.specs.Prelude.{◌≡◌, []};
+// A name, and what it signs with.
+#[derive(Drop)]
+struct Entry {
+    who: Principal,
+    held: Held,
+}
+
+impl Model for Entry {
+    ghost use Rattle.policy_statement.specs.Held.{IsHeld, credential};
     ghost use Rattle.policy_statement.specs.Ring.{KeyView};
 
     ghost Value = { KeyView };
 
-    ghost view = { λ k. record { who = k.who; key = k.empty.key } };
+    ghost view = { λ e. record { who = e.who; holds = credential e.held } };
 
-    ghost invariant = { λ k. k.empty.text ≡ [] };
+    ghost invariant = { λ e. IsHeld e.held };
 }
 
-impl Key {
-    ghost use Rattle.std.specs.Prelude.{◌==◌};
+impl Entry {
+    ghost use Rattle.std.specs.Prelude.{◌==◌, ◌≤◌};
     ghost use Rattle.std.specs.Str.{bytes_eq};
-    ghost use Rattle.pcfs_hmac.specs.Hmac.{hmac};
+    ghost use Rattle.policy_statement.specs.Ring.{accepts_by, keyed, rooted, tag_by};
 
-    fn new(who: Principal, key: &[u8]) -> Key
-        ensures { result ≡ record { who = who; key = key.now } }
+    fn with_key(who: Principal, key: &[u8]) -> Entry
+        ensures { result ≡ record { who = who; holds = keyed key.now } }
     {
-        Key {
+        Entry {
             who,
-            empty: Mac::new(key),
+            held: Held::Key(Mac::new(key)),
         }
     }
 
-    fn copy(&self) -> Key
+    fn with_root(who: Principal, height: u8, root: [u8; 32]) -> Entry
+        requires { height ≤ 8 }
+        ensures { result ≡ record { who = who; holds = rooted height root } }
+    {
+        Entry {
+            who,
+            held: Held::Root(height, root),
+        }
+    }
+
+    fn copy(&self) -> Entry
         ensures { result ≡ self.now }
     {
-        Key {
+        let held = match &self.held {
+            Held::Key(empty) => Held::Key(empty.copy()),
+            Held::Root(height, root) => Held::Root(*height, *root),
+        };
+        Entry {
             who: self.who,
-            empty: self.empty.copy(),
+            held,
         }
     }
 
@@ -75,22 +103,42 @@ impl Key {
         self.who.bytes() == who
     }
 
-    fn tag(&self, message: &[u8]) -> [u8; 32]
-        ensures { result ≡ hmac self.now.key message.now }
+    fn tag(&self, message: &[u8]) -> Option<[u8; 32]>
+        ensures { result ≡ tag_by message.now self.now.holds }
     {
-        let mut text = self.empty.copy();
-        text.update(message);
-        text.finish()
+        match &self.held {
+            Held::Key(empty) => Some(tag_after(empty, message)),
+            Held::Root(_, _) => None,
+        }
+    }
+
+    fn accepts(&self, message: &[u8], signature: &[u8]) -> bool
+        ensures { result ≡ accepts_by message.now signature.now self.now.holds }
+    {
+        match &self.held {
+            Held::Key(empty) => tag_after(empty, message).as_slice() == signature,
+            Held::Root(height, root) => accepts_root(root, *height, message, signature),
+        }
     }
 }
 
-/// A ring of keys, in which a name has at most one.
+// The tag of the message under the key of an empty text.
+fn tag_after(empty: &Mac, message: &[u8]) -> [u8; 32]
+    requires { empty.now.text ≡ [] }
+    ensures { result ≡ hmac empty.now.key message.now }
+{
+    let mut text = empty.copy();
+    text.update(message);
+    text.finish()
+}
+
+/// A ring of names, each with one key or one root of a tree of hashes.
 ///
-/// Contracts see the list of names with their keys, in the order in which they were added. Keys may have any length, and
-/// nothing wipes them when the ring is dropped.
+/// Contracts see the list of names with what the ring has of them, in the order in which they were added. Keys may have
+/// any length, and nothing wipes them when the ring is dropped.
 #[derive(Drop)]
 pub struct Keyring {
-    keys: Vec<Key>,
+    entries: Vec<Entry>,
 }
 
 impl Model for Keyring {
@@ -99,33 +147,53 @@ impl Model for Keyring {
 
     ghost Value = { List KeyView };
 
-    ghost view = { λ r. r.keys.items };
+    ghost view = { λ r. r.entries.items };
 }
 
 impl Keyring {
-    /// The ring without keys. It takes no memory.
+    /// The ring without names. It takes no memory.
     pub fn new(alloc: Global) -> Keyring
         ensures { result ≡ [] }
     {
         Keyring {
-            keys: Vec::new(alloc),
+            entries: Vec::new(alloc),
         }
     }
 
-    /// Gives the name this key. `Known` is returned exactly if it has one, which it keeps.
+    /// Gives the name this key. `Known` is returned exactly if it has a key or a root, which it keeps.
     pub fn add(&mut self, who: Principal, key: &[u8]) -> Result<(), KeyFault>
-        ensures ok { OnOk result (self.new ≡ self.old ++ record { who = who; key = key.now } ∷ []) }
+        ensures ok { OnOk result (self.new ≡ self.old ++ record { who = who; holds = keyed key.now } ∷ []) }
         ensures err { OnErr result (self.new ≡ self.old) }
-        ensures known { IsErrOf result faults.Known ↔ HasKey self.old who }
+        ensures known { IsErrOf result faults.Known ↔ IsKnown self.old who }
+        ensures never_high { ¬ (IsErrOf result faults.BadHeight) }
     {
         if self.find(who.bytes()).is_some() {
             return Err(KeyFault::Known);
         }
-        self.keys.push(Key::new(who, key))?;
+        self.entries.push(Entry::with_key(who, key))?;
         Ok(())
     }
 
-    /// The tag of the message under the key of the name; none exactly if the name has no key.
+    /// Gives the name this root of a tree of this height. `Known` is returned exactly if it has a key or a root, which it
+    /// keeps, and `BadHeight` exactly if it has none and the tree is higher than 8.
+    pub fn add_root(&mut self, who: Principal, height: u8, root: [u8; 32]) -> Result<(), KeyFault>
+        ensures ok { OnOk result (self.new ≡ self.old ++ record { who = who; holds = rooted height root } ∷ []) }
+        ensures err { OnErr result (self.new ≡ self.old) }
+        ensures known { IsErrOf result faults.Known ↔ IsKnown self.old who }
+        ensures high { IsErrOf result faults.BadHeight ↔ (¬ (IsKnown self.old who) × (8 < height)) }
+    {
+        if self.find(who.bytes()).is_some() {
+            return Err(KeyFault::Known);
+        }
+        if height > MOST_HEIGHT {
+            return Err(KeyFault::BadHeight);
+        }
+        self.entries.push(Entry::with_root(who, height, root))?;
+        Ok(())
+    }
+
+    /// The tag of the message under the key of the name; none exactly if the name has no key, so also
+    /// if it has a root.
     pub fn sign(&self, who: &Principal, message: &[u8]) -> Option<[u8; 32]>
         ensures { result ≡ tag_of self.now who.now message.now }
     {
@@ -136,30 +204,31 @@ impl Keyring {
     pub fn copy(&self, alloc: Global) -> Result<Keyring, NoMemory>
         ensures { IfOk result (λ copied. copied ≡ self.now) }
     {
-        let mut keys = Vec::with_capacity(alloc, self.keys.len())?;
-        for key in &self.keys {
-            keys.push(key.copy())?;
+        let mut entries = Vec::with_capacity(alloc, self.entries.len())?;
+        for entry in &self.entries {
+            entries.push(entry.copy())?;
         }
-        Ok(Keyring { keys })
+        Ok(Keyring { entries })
     }
 
-    fn find(&self, who: &[u8]) -> Option<&Key>
-        ensures { option_map (λ k. k.now.key) result ≡ key_of self.now who.now }
+    fn find(&self, who: &[u8]) -> Option<&Entry>
+        ensures { option_map (λ e. e.now.holds) result ≡ credential_of self.now who.now }
     {
-        self.keys.iter().find(|key| key.is_of(who))
+        self.entries.iter().find(|entry| entry.is_of(who))
     }
 
     fn tag(&self, who: &[u8], message: &[u8]) -> Option<[u8; 32]>
         ensures { result ≡ tag_of self.now who.now message.now }
     {
         match self.find(who) {
-            Some(key) => Some(key.tag(message)),
+            Some(entry) => entry.tag(message),
             None => None,
         }
     }
 }
 
-/// It accepts exactly the whole tag of the message under the key of the name, and nothing from a name without a key.
+/// It accepts exactly the whole tag of the message under the key of a name with a key, exactly what the root accepts for
+/// a name with a root, and nothing from another.
 impl Signatures for Keyring {
     ghost use Rattle.policy_statement.specs.Ring.{is_accepted};
 
@@ -168,8 +237,8 @@ impl Signatures for Keyring {
     fn accepts(&self, who: &[u8], message: &[u8], signature: &[u8]) -> bool
         ensures { result ≡ is_accepted self.now who.now message.now signature.now }
     {
-        match self.tag(who, message) {
-            Some(tag) => tag.as_slice() == signature,
+        match self.find(who) {
+            Some(entry) => entry.accepts(message, signature),
             None => false,
         }
     }

@@ -16,6 +16,7 @@ use Rattle.procap.specs.GrantSpelling.{goal_spelling, time_condition_spelling, l
 use Rattle.procap.specs.GrantReading.{marker_at, goal_at, head_at, time_condition_at, state_condition_at, may_follow_times, may_follow_states, conditions_at, grant_at}
 use Rattle.procap.proofs.ItemsLemmas.{AllFollow, FoundConditions, test_memoryless, conditions_found, conditions_again, conditions_memoryless}
 use Rattle.procap.proofs.ConditionLemmas.{time_may_follow, may_follow_time, state_may_follow, may_follow_state, follow_means, means_follow}
+use Rattle.procap.proofs.ReadingLemmas.{unnamed, read_before}
 use Rattle.procap.proofs.PartLemmas.{time_codec, state_codec, goal_codec}
 
 -- ---- the head
@@ -76,6 +77,7 @@ grant_spelled bytes middle behind rest goal times states head first second =
       distinct_times = of_times.0;
       distinct_states = of_states.0;
       count = few;
+      names = refl;
     } in
     let t : List ℕ = list_spelling time_condition_spelling times in
     let s : List ℕ = list_spelling state_spelling states in
@@ -114,7 +116,7 @@ grant_again input g rest h =
       conditions_again IsSpellableTime time_condition_spelling time_condition_at may_follow_times time_codec 64 input g.times (s ++ rest) few h.times follow_times,
       conditions_again IsSpellableState state_spelling state_condition_at may_follow_states state_codec (64 - length g.times) input g.states rest room h.states follow_states,
     )
-    refl
+    (ap (read_before rest) (unnamed g h.grant.names))
 
 grant_memoryless : (input : ℕ) (bytes : List ℕ) → grant_at input bytes ≡ Err faults.NoMemory → ⊥
 unfolding grant_at

@@ -1,13 +1,14 @@
 -- Reading conditions one after the other, and what is read of a grant.
-use Rattle.std.proofs.Common.{◌≡◌, ℕ, zero, suc, ◌<◌, ◌-◌, List, [], ◌∷◌, ◌++◌, length, Bool, true, false, Ok, Err, refl, ap, ◌∙◌, arith}
+use Rattle.std.proofs.Common.{◌≡◌, ℕ, zero, suc, ◌<◌, ◌-◌, List, [], ◌∷◌, ◌++◌, length, Bool, true, false, Ok, Err, refl, sym, ap, ◌∙◌, arith}
 use Rattle.std.specs.Prelude.{Contains}
 use Rattle.bl_syntax.specs.declared.codec_fault.CodecFault.{CodecFault}
 use Rattle.bl_syntax.specs.declared.codec_fault.CodecFault.TheVariants as faults
 use Rattle.bl_syntax.specs.declared.terms.Constraint.{Constraint}
 use Rattle.bl_syntax.specs.declared.terms.StatePred.{StatePred}
 use Rattle.bl_syntax.specs.declared.grant.Goal.{Goal}
-use Rattle.bl_syntax.specs.Grant.{GrantView, IsTimeCondition, IsStateCondition}
+use Rattle.bl_syntax.specs.Grant.{GrantView, MayName, IsTimeCondition, IsStateCondition}
 use Rattle.bl_syntax.proofs.GrantLemmas.{granted}
+use Rattle.bl_syntax.proofs.EqualityLemmas.{same_grant}
 use Rattle.bl_syntax.proofs.ReportsFaultLemmas.{stops, hands_on}
 use Rattle.bl_syntax.specs.Reading.{◌>>=◌, Reading, place}
 use Rattle.bl_syntax.specs.Codec.{AreBytes, ReportsFault}
@@ -65,6 +66,13 @@ unfolding conditions_at
 conditions_more one_at may_follow most input bytes count rest e = rw e refl
 
 -- ---- grants
+
+-- a grant is its goal and its conditions
+pub unnamed : (g : GrantView) → MayName g.cited → granted g.goal g.times g.states ≡ g
+unnamed g none = same_grant (granted g.goal g.times g.states) g refl refl refl (sym none)
+
+abbrev pub read_before : List ℕ → GrantView → Reading GrantView
+read_before rest g = Ok (g, rest)
 
 abbrev times_at : ℕ → List ℕ → Reading (List Constraint)
 times_at input bytes = conditions_at time_condition_at may_follow_times 64 input bytes

@@ -3,6 +3,7 @@
 use Rattle.std.specs.Prelude.{ℕ, zero, suc, ◌-◌, List, [], ◌∷◌, ◌++◌, length, Bool, not, ◌&&◌, nat_lt, ◌==◌, if◌then◌else◌, Result, Ok, Err}
 use Rattle.std.specs.List.{list_any}
 use Rattle.std.specs.Int.{w64}
+use Rattle.bl_syntax.specs.declared.limits.TheConstants.{MOST_CONDITIONS}
 use Rattle.bl_syntax.specs.declared.codec_fault.CodecFault.{CodecFault}
 use Rattle.bl_syntax.specs.declared.codec_fault.CodecFault.TheVariants.{Short, BadTag, NotCanonical}
 use Rattle.bl_syntax.specs.declared.terms.Constraint.{Constraint}
@@ -96,6 +97,6 @@ head_at input bytes = do
 unfoldable pub grant_at : ℕ → List ℕ → Reading GrantView
 grant_at input bytes = do
   goal ← head_at input bytes
-  times ← conditions_at time_condition_at may_follow_times 64 input goal.1
-  states ← conditions_at state_condition_at may_follow_states (64 - length times.0) input times.1
-  Ok (record { goal = goal.0; times = times.0; states = states.0 }, states.1)
+  times ← conditions_at time_condition_at may_follow_times MOST_CONDITIONS input goal.1
+  states ← conditions_at state_condition_at may_follow_states (MOST_CONDITIONS - length times.0) input times.1
+  Ok (record { goal = goal.0; times = times.0; states = states.0; cited = [] }, states.1)

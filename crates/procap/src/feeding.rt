@@ -10,6 +10,7 @@ ghost use Rattle.std.specs.List.{AllByRecursion, flat_map};
 ghost use Rattle.procap.specs.GrantSpelling.{goal_spelling, time_condition_spelling, list_spelling, grant_spelling, IsSpellableGoal, IsSpellableTime, IsSpellableState, IsSpellableGrant};
 
 use bl_syntax::fields::{permission_code, second_bytes, u32_bytes, u64_bytes};
+use bl_syntax::limits::MOST_CONDITIONS;
 use bl_syntax::{Constraint, Goal, Grant, StatePred, Term, TimePoint};
 use pcfs_hmac::Mac;
 
@@ -108,7 +109,7 @@ fn feed_goal(text: &mut Mac, goal: &Goal)
 
 /// Adds the number of the conditions on time, and their bytes.
 fn feed_times(text: &mut Mac, times: &[Constraint])
-    requires few { length times.now ≤ 64 }
+    requires few { length times.now ≤ MOST_CONDITIONS }
     requires conditions { AllByRecursion IsTimeCondition times.now }
     ensures fed { text.new ≡ record text.old { text = text.old.text ++ list_spelling time_condition_spelling times.now } }
     ensures spelled { AllByRecursion IsSpellableTime times.now }
@@ -134,7 +135,7 @@ fn feed_each_time(text: &mut Mac, times: &[Constraint])
 
 /// Adds the number of the conditions on the server's state, and their bytes.
 fn feed_states(text: &mut Mac, states: &[StatePred])
-    requires few { length states.now ≤ 64 }
+    requires few { length states.now ≤ MOST_CONDITIONS }
     requires conditions { AllByRecursion IsStateCondition states.now }
     ensures fed { text.new ≡ record text.old { text = text.old.text ++ list_spelling state_spelling states.now } }
     ensures spelled { AllByRecursion IsSpellableState states.now }

@@ -3,13 +3,13 @@
 ghost use Rattle.std.specs.Prelude.{◌≡◌, ◌≤◌, ◌+◌, ◌-◌, [], IfOk, length};
 ghost use Rattle.bl_syntax.specs.Reading.{GivesReading, reading, term_at};
 ghost use Rattle.bl_syntax.specs.Codec.{GivesReadingOrReports, ReadsFront};
-ghost use Rattle.bl_syntax.specs.FormulaReading.{is_formula_tag};
 ghost use Rattle.procap.specs.GrantSpelling.{grant_spelling, IsSpellableGrant};
 ghost use Rattle.procap.specs.GrantReading.{marker_at, goal_at, both_at, time_condition_at, state_terms_at, state_condition_at, is_time_among, is_state_among, may_follow_times, may_follow_states, items_at, count_at, conditions_at, head_at, grant_at};
 ghost use Rattle.procap.specs.Procap.{procap_spelling, IsSpellableProcap, procap_at, whole_procap, ReadsWholeProcap};
 
 use crate::procap::Procap;
-use bl_syntax::fields::{name_at, permission_at, place, term_at, u64_at};
+use bl_syntax::fields::{is_formula_tag, name_at, permission_at, place, term_at, u64_at};
+use bl_syntax::limits::MOST_CONDITIONS;
 use bl_syntax::{
     CodecFault, Constraint, Goal, Grant, NodeId, StatePred, Term, is_state_condition,
     is_time_condition,
@@ -18,9 +18,6 @@ use std::alloc::Global;
 
 /// The version of a grant's bytes.
 const VERSION: u8 = 1;
-
-/// The most conditions of a grant, those on time and those on the server's state together.
-const MOST_CONDITIONS: usize = 64;
 
 /// The number of a tag's bytes.
 const TAG_LENGTH: usize = 32;
@@ -119,12 +116,6 @@ fn time_condition_at(input: usize, bytes: &[u8]) -> Result<(Constraint, &[u8]), 
     }
 }
 
-fn is_formula_tag(tag: u8) -> bool
-    ensures { result ≡ is_formula_tag tag }
-{
-    16 <= tag && tag <= 29
-}
-
 /// The terms of a condition on the server's state with this tag, which begins at `start`.
 #[tactic(auto, unfolding(crate::specs::GrantReading::state_terms_at))]
 fn state_terms_at(
@@ -221,7 +212,7 @@ fn add_times_at<'a>(
     input: usize,
     bytes: &'a [u8],
 ) -> Result<&'a [u8], CodecFault>
-    requires { length grant.old.times + length grant.old.states + count ≤ 64 }
+    requires { length grant.old.times + length grant.old.states + count ≤ MOST_CONDITIONS }
     ensures read { GivesReadingOrReports (λ rest. (grant.new.times, rest.now)) result (items_at time_condition_at may_follow_times count input grant.old.times bytes.now) }
     ensures others { IfOk result (λ _. grant.new ≡ record grant.old { times = grant.new.times }) }
     ensures counted { IfOk result (λ _. length grant.new.times ≡ length grant.old.times + count) }
@@ -248,7 +239,7 @@ fn add_states_at<'a>(
     input: usize,
     bytes: &'a [u8],
 ) -> Result<&'a [u8], CodecFault>
-    requires { length grant.old.times + length grant.old.states + count ≤ 64 }
+    requires { length grant.old.times + length grant.old.states + count ≤ MOST_CONDITIONS }
     ensures read { GivesReadingOrReports (λ rest. (grant.new.states, rest.now)) result (items_at state_condition_at may_follow_states count input grant.old.states bytes.now) }
     ensures others { IfOk result (λ _. grant.new ≡ record grant.old { states = grant.new.states }) }
     ensures counted { IfOk result (λ _. length grant.new.states ≡ length grant.old.states + count) }
@@ -272,27 +263,33 @@ fn add_states_at<'a>(
 fn times_at<'a>(grant: &mut Grant, input: usize, bytes: &'a [u8]) -> Result<&'a [u8], CodecFault>
     requires no_times { grant.old.times ≡ [] }
     requires no_states { grant.old.states ≡ [] }
-    ensures read { GivesReadingOrReports (λ rest. (grant.new.times, rest.now)) result (conditions_at time_condition_at may_follow_times 64 input bytes.now) }
+    ensures read { GivesReadingOrReports (λ rest. (grant.new.times, rest.now)) result (conditions_at time_condition_at may_follow_times MOST_CONDITIONS input bytes.now) }
     ensures others { IfOk result (λ _. grant.new ≡ record grant.old { times = grant.new.times }) }
-    ensures few { IfOk result (λ _. length grant.new.times ≤ 64) }
+    ensures few { IfOk result (λ _. length grant.new.times ≤ MOST_CONDITIONS) }
 {
     match count_at(MOST_CONDITIONS, input, bytes) {
         Err(fault) => Err(fault),
-        Ok((count, rest)) => add_times_at(grant, count, input, rest),
+        Ok((count, rest)) => {
+            grant.reserve_times(count)?;
+            add_times_at(grant, count, input, rest)
+        }
     }
 }
 
 /// The conditions on the server's state of a grant that has none of them yet.
 fn states_at<'a>(grant: &mut Grant, input: usize, bytes: &'a [u8]) -> Result<&'a [u8], CodecFault>
-    requires few { length grant.old.times ≤ 64 }
+    requires few { length grant.old.times ≤ MOST_CONDITIONS }
     requires no_states { grant.old.states ≡ [] }
-    ensures read { GivesReadingOrReports (λ rest. (grant.new.states, rest.now)) result (conditions_at state_condition_at may_follow_states (64 - length grant.old.times) input bytes.now) }
+    ensures read { GivesReadingOrReports (λ rest. (grant.new.states, rest.now)) result (conditions_at state_condition_at may_follow_states (MOST_CONDITIONS - length grant.old.times) input bytes.now) }
     ensures others { IfOk result (λ _. grant.new ≡ record grant.old { states = grant.new.states }) }
 {
     let left = MOST_CONDITIONS - grant.times().len();
     match count_at(left, input, bytes) {
         Err(fault) => Err(fault),
-        Ok((count, rest)) => add_states_at(grant, count, input, rest),
+        Ok((count, rest)) => {
+            grant.reserve_states(count)?;
+            add_states_at(grant, count, input, rest)
+        }
     }
 }
 

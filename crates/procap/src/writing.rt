@@ -12,6 +12,7 @@ ghost use Rattle.procap.specs.Procap.{procap_spelling, IsSpellableProcap};
 
 use crate::procap::Procap;
 use bl_syntax::fields::{permission_code, u64_bytes};
+use bl_syntax::limits::MOST_CONDITIONS;
 use bl_syntax::{Bytes, Constraint, Goal, Grant, NoMemory, StatePred, write_name, write_term};
 
 /// Adds the bytes of a condition on time, or a front of them.
@@ -70,7 +71,7 @@ fn add_goal(goal: &Goal, out: &mut Bytes) -> Result<(), NoMemory>
 /// Adds the number of the conditions on time, and their bytes, or a front of them.
 #[tactic(auto, using(bl_syntax::proofs::BeginsWithLemmas::writing))]
 fn add_times(times: &[Constraint], out: &mut Bytes) -> Result<(), NoMemory>
-    requires few { length times.now ≤ 64 }
+    requires few { length times.now ≤ MOST_CONDITIONS }
     requires conditions { AllByRecursion IsTimeCondition times.now }
     ensures ok { OnOk result (out.new ≡ out.old ++ list_spelling time_condition_spelling times.now) }
     ensures spelled { OnOk result (AllByRecursion IsSpellableTime times.now) }
@@ -100,7 +101,7 @@ fn add_each_time(times: &[Constraint], out: &mut Bytes) -> Result<(), NoMemory>
 /// Adds the number of the conditions on the server's state, and their bytes, or a front of them.
 #[tactic(auto, using(bl_syntax::proofs::BeginsWithLemmas::writing))]
 fn add_states(states: &[StatePred], out: &mut Bytes) -> Result<(), NoMemory>
-    requires few { length states.now ≤ 64 }
+    requires few { length states.now ≤ MOST_CONDITIONS }
     requires conditions { AllByRecursion IsStateCondition states.now }
     ensures ok { OnOk result (out.new ≡ out.old ++ list_spelling state_spelling states.now) }
     ensures spelled { OnOk result (AllByRecursion IsSpellableState states.now) }

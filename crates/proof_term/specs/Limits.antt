@@ -1,5 +1,6 @@
 -- The size of a proof, and which proofs are kept. The limits are this project's own.
 use Rattle.std.specs.Prelude.{◌≡◌, ℕ, ◌+◌, ◌≤◌, max}
+use Rattle.bl_syntax.specs.declared.limits.TheConstants.{MOST_PROOF_NODES, MOST_PROOF_LEVELS}
 use Rattle.bl_syntax.specs.Terms.{HasTimeInRange}
 use Rattle.proof_term.specs.Proof.{ProofView, init, cons_r, inter_r, and_r, or_r1, or_r2, true_r, imp_r, forall_r, exists_r, says_r, at_r, cons_l, inter_l, and_l, or_l, false_l, imp_l, forall_l, exists_l, says_l, claim, at_l}
 
@@ -83,8 +84,8 @@ HasTimesInRange (at_l h p) = HasTimesInRange p
 
 -- at most 4,096 nodes, and a depth of at most 200
 pub record IsProofWithinLimits (d : ProofView) : Type 0 where
-  pub nodes : size d ≤ 4096
-  pub levels : depth d ≤ 200
+  pub nodes : size d ≤ MOST_PROOF_NODES
+  pub levels : depth d ≤ MOST_PROOF_LEVELS
 
 -- a proof that is kept: within the limits, with all times in the range of moments
 pub record IsKeptProof (d : ProofView) : Type 0 where

@@ -2,6 +2,7 @@
 -- At a node the tag is tested first, then the number of nodes, then the depth, and then the fields in order.
 use Rattle.std.specs.Prelude.{◌≡◌, ◌-◌, ℕ, zero, suc, List, [], ◌∷◌, length, Bool, ◌&&◌, ◌||◌, nat_le, ◌==◌, if◌then◌else◌, Result, Ok, Err}
 use Rattle.std.specs.Int.{w16}
+use Rattle.bl_syntax.specs.declared.limits.TheConstants.{MOST_PROOF_NODES, MOST_PROOF_LEVELS}
 use Rattle.bl_syntax.specs.declared.codec_fault.CodecFault.{CodecFault}
 use Rattle.bl_syntax.specs.declared.terms.Term.{Term}
 use Rattle.bl_syntax.specs.Reading.{place, number_at, term_at}
@@ -133,7 +134,7 @@ proof_at (suc levels) nodes input bytes =
 
 -- a proof within the limits and the bytes after it, or the first fault
 unfoldable pub kept_proof_at : ℕ → List ℕ → Result (ProofView × List ℕ) ProofFault
-kept_proof_at input bytes = proof_at 200 4096 input bytes >>= λ x. Ok (x.0, x.1.1)
+kept_proof_at input bytes = proof_at MOST_PROOF_LEVELS MOST_PROOF_NODES input bytes >>= λ x. Ok (x.0, x.1.1)
 
 -- the proof that begins an input and how many bytes it takes, or the first fault
 abbrev pub proof_reading : List ℕ → Result (ProofView × ℕ) ProofFault

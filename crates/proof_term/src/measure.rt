@@ -7,12 +7,7 @@ ghost use Rattle.proof_term.specs.Limits.{size, depth};
 
 use crate::premises::Premises;
 use crate::proof::Proof;
-
-/// The greatest number of nodes of a proof that is kept.
-pub const MOST_NODES: u16 = 4096;
-
-/// The greatest depth of a proof that is kept.
-pub const MOST_LEVELS: u8 = 200;
+use bl_syntax::limits::MOST_PROOF_NODES;
 
 /// What was found of a proof.
 #[derive(Clone, Copy)]
@@ -58,13 +53,13 @@ pub fn measure(p: &Proof, nodes: u16, levels: u8) -> Option<Measured>
 /// Whether a proof has more nodes than are kept. It calls nothing that calls itself, so the depth
 /// of the proof plays no part, and looks at no more nodes than that.
 pub fn is_too_large(p: &Proof) -> bool
-    ensures { IsTrue result ↔ (MOST_NODES < size (proof_view p.now)) }
+    ensures { IsTrue result ↔ (MOST_PROOF_NODES < size (proof_view p.now)) }
 {
     // The second premises on the way to the node: each belongs to a node that was passed.
-    let mut waiting = [p; MOST_NODES as usize];
+    let mut waiting = [p; MOST_PROOF_NODES as usize];
     let mut waiting_len = 0;
     let mut node = p;
-    for _passed in 0..MOST_NODES {
+    for _passed in 0..MOST_PROOF_NODES {
         match Premises::of(node) {
             Premises::Nothing => {
                 if waiting_len == 0 {

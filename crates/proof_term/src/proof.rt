@@ -69,7 +69,7 @@ impl Proof {
     }
 
     /// The same in a box. It calls itself as deep as the proof is, and holds neither proofs nor terms on the stack.
-    fn boxed_copy(&self, alloc: Global) -> Result<Box<Proof>, NoMemory>
+    pub(crate) fn boxed_copy(&self, alloc: Global) -> Result<Box<Proof>, NoMemory>
         ensures { IfOk result (λ copied. proof_view copied.value ≡ proof_view self.now) }
     {
         match self {

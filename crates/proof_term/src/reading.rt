@@ -11,12 +11,12 @@ ghost use Rattle.proof_term.specs.ProofCodec.{ReadsProofBytes};
 use crate::boxes::{by_axiom, by_instance, by_interval, by_one, by_two, by_witness};
 use crate::fault::ProofFault;
 use crate::kinds::{Plain, PlainOne, PlainTwo, Termed};
-use crate::measure::{MOST_LEVELS, MOST_NODES};
 use crate::proof::Proof;
 use crate::rule::Axiom;
 use crate::tree::ProofTree;
 use bl_syntax::Term;
 use bl_syntax::fields::{place, term_at, u16_at};
+use bl_syntax::limits::{MOST_PROOF_LEVELS, MOST_PROOF_NODES};
 use std::alloc::Global;
 
 /// Reads a proof of at most 4,096 nodes and a depth of at most 200: the proof whose canonical bytes begin the input and
@@ -25,7 +25,13 @@ pub fn read_proof(alloc: Global, bytes: &[u8]) -> Result<(ProofTree, usize), Pro
     ensures exact { GivesProofReading (λ x. (x.0, x.1)) result (proof_reading bytes.now) }
     ensures front { ReadsProofBytes bytes.now result }
 {
-    match proof_at(alloc, MOST_LEVELS, MOST_NODES, bytes.len(), bytes) {
+    match proof_at(
+        alloc,
+        MOST_PROOF_LEVELS,
+        MOST_PROOF_NODES,
+        bytes.len(),
+        bytes,
+    ) {
         Ok((root, _nodes_left, rest)) => Ok((
             ProofTree::keep(root),
             bytes.len().saturating_sub(rest.len()),

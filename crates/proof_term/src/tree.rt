@@ -1,17 +1,21 @@
 //! Proofs within their limits.
 
-use crate::measure::{MOST_LEVELS, MOST_NODES, is_too_large, measure};
+use crate::measure::{is_too_large, measure};
 use crate::proof::Proof;
 use bl_syntax::NoMemory;
+use bl_syntax::limits::{MOST_PROOF_LEVELS, MOST_PROOF_NODES};
 use std::alloc::Global;
 use std::marker::Model;
+use thiserror::Error;
 
 /// Why a proof is not kept.
-#[derive(Clone, Copy, Debug, PartialEq, Eq)]
+#[derive(Clone, Copy, Debug, PartialEq, Eq, Error)]
 pub enum LimitFault {
     /// More than 4,096 nodes.
+    #[error("the proof has more than 4096 nodes")]
     TooLarge,
     /// At most 4,096 nodes, and a depth of more than 200.
+    #[error("the proof is more than 200 levels deep")]
     TooDeep,
 }
 
@@ -19,7 +23,7 @@ pub enum LimitFault {
 /// without premises has depth 1. The times that its terms name are moments. Contracts see the plain proof.
 #[derive(Debug, Drop)]
 pub struct ProofTree {
-    root: Proof,
+    root: Box<Proof>,
     nodes: u16,
     levels: u8,
 }
@@ -33,9 +37,9 @@ impl Model for ProofTree {
 
     ghost coded = { proof_code };
 
-    ghost view = { λ t. proof_view t.root };
+    ghost view = { λ t. proof_view t.root.value };
 
-    ghost invariant = { λ t. IsKeptProof (proof_view t.root) × HasMeasure (proof_view t.root) t.nodes t.levels };
+    ghost invariant = { λ t. IsKeptProof (proof_view t.root.value) × HasMeasure (proof_view t.root.value) t.nodes t.levels };
 }
 
 impl ProofTree {
@@ -46,18 +50,18 @@ impl ProofTree {
     /// Keeps a proof whose times are moments. A proof over both limits is too large. It takes no
     /// memory, and calls itself no deeper than 200, however deep the proof is; but a proof that is
     /// refused is dropped, and that is as deep as the proof.
-    pub fn new(p: Proof) -> Result<ProofTree, LimitFault>
-        requires { HasTimesInRange (proof_view p) }
-        ensures kept { IsOk result ↔ IsProofWithinLimits (proof_view p) }
-        ensures same { IfOk result (λ tree. tree ≡ proof_view p) }
-        ensures large { (result ≡ Err LimitFault.TooLarge) ↔ (4096 < size (proof_view p)) }
+    pub fn new(p: Box<Proof>) -> Result<ProofTree, LimitFault>
+        requires { HasTimesInRange (proof_view p.value) }
+        ensures kept { IsOk result ↔ IsProofWithinLimits (proof_view p.value) }
+        ensures same { IfOk result (λ tree. tree ≡ proof_view p.value) }
+        ensures large { (result ≡ Err LimitFault.TooLarge) ↔ (MOST_PROOF_NODES < size (proof_view p.value)) }
         ensures deep { (result ≡ Err LimitFault.TooDeep)
-            ↔ ((size (proof_view p) ≤ 4096) × (200 < depth (proof_view p))) }
+            ↔ ((size (proof_view p.value) ≤ MOST_PROOF_NODES) × (MOST_PROOF_LEVELS < depth (proof_view p.value))) }
     {
-        match measure(&p, MOST_NODES, MOST_LEVELS) {
+        match measure(&p, MOST_PROOF_NODES, MOST_PROOF_LEVELS) {
             Some(m) => Ok(ProofTree {
                 root: p,
-                nodes: MOST_NODES - m.nodes_left,
+                nodes: MOST_PROOF_NODES - m.nodes_left,
                 levels: m.depth,
             }),
             None => {
@@ -75,11 +79,10 @@ impl ProofTree {
         requires { IsKeptProof (proof_view p.value) }
         ensures { result ≡ proof_view p.value }
     {
-        let p = Box::into_inner(p);
-        let m = measure(&p, MOST_NODES, MOST_LEVELS).unwrap();
+        let m = measure(&p, MOST_PROOF_NODES, MOST_PROOF_LEVELS).unwrap();
         ProofTree {
             root: p,
-            nodes: MOST_NODES - m.nodes_left,
+            nodes: MOST_PROOF_NODES - m.nodes_left,
             levels: m.depth,
         }
     }
@@ -111,7 +114,7 @@ impl ProofTree {
         ensures { IfOk result (λ copied. copied ≡ self.now) }
     {
         Ok(ProofTree {
-            root: self.root.copy(alloc)?,
+            root: self.root.boxed_copy(alloc)?,
             nodes: self.nodes,
             levels: self.levels,
         })

@@ -13,15 +13,11 @@ ghost use Rattle.proof_text.specs.Texts.{beginning, at_end, IsProofText, ProofTe
 
 use crate::cursor::{ProofCursor, cursor_after_sign, token_at};
 use crate::heads::head;
+use bl_syntax::limits::{MOST_PROOF_LEVELS, MOST_PROOF_NODES};
 use bl_syntax::{NoMemory, Term};
 use bl_tokens::{Sign, TextFault, Token};
 use proof_term::{Axiom, OnePremise, Proof, ProofTree, Rule, TwoPremises};
 use std::alloc::Global;
-
-/// The greatest number of rules of a proof.
-const MOST_NODES: u16 = 4096;
-/// The greatest depth of a proof.
-const MOST_LEVELS: u8 = 200;
 
 /// The proof that the text writes, of at most 4,096 rules and a depth of at most 200, or the first
 /// fault of the text; or `NoMemory`.
@@ -40,9 +36,9 @@ fn read_proof(alloc: Global, text: &[u8]) -> Result<ProofTree, TextFault>
     ensures read { IfOk result (IsProofText text.now) }
     ensures fault { IfErr result (ProofTextFault text.now) }
 {
-    let (p, there) = proof_at(alloc, text, MOST_LEVELS, beginning())?;
+    let (p, there) = proof_at(alloc, text, MOST_PROOF_LEVELS, beginning())?;
     at_end(text, there)?;
-    match ProofTree::new(Box::into_inner(p)) {
+    match ProofTree::new(p) {
         Ok(tree) => Ok(tree),
         Err(_) => unreachable!(),
     }
@@ -54,7 +50,7 @@ fn beginning() -> ProofCursor
 {
     ProofCursor {
         from: 0,
-        left: MOST_NODES,
+        left: MOST_PROOF_NODES,
     }
 }
 

@@ -71,7 +71,7 @@ gives_with_time left_over c g open_ new room = record {
     same_goal = refl;
     times = λ d among. Contains-append_left g.times (c ∷ []) d among;
     states = λ s among. among;
-    keeps = λ are_kept h. IsGrant-push_time g.goal g.times g.states c h (are_kept.time c open_)
+    keeps = λ are_kept h. IsGrant-push_time g c h (are_kept.time c open_)
         (λ among. false≢true (sym new ∙ (Decides-has_constraint g.times c).1 among)) (has_room g room h.count);
   };
   kept = Contains-push g.times c;
@@ -101,7 +101,7 @@ gives_with_state left_over s g open_ new room = record {
     same_goal = refl;
     times = λ c among. among;
     states = λ t among. Contains-append_left g.states (s ∷ []) t among;
-    keeps = λ are_kept h. IsGrant-push_state g.goal g.times g.states s h (are_kept.state s open_)
+    keeps = λ are_kept h. IsGrant-push_state g s h (are_kept.state s open_)
         (λ among. false≢true (sym new ∙ (Decides-has_state g.states s).1 among)) (has_room g room h.count);
   };
   kept = Contains-push g.states s;

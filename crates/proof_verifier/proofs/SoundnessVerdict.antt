@@ -1,5 +1,5 @@
 -- A grant that the verdict gives is sound.
-use Rattle.std.proofs.Common.{◌≡◌, ◌∙◌, List, Ok, Some, sym, subst, arith}
+use Rattle.std.proofs.Common.{◌≡◌, ◌∙◌, List, Ok, Some, refl, sym, subst, arith}
 use Rattle.std.specs.Prelude.{Contains}
 use Rattle.std.specs.List.{AllByRecursion}
 use Rattle.std.proofs.lemmas.Option.{same_Some}
@@ -48,7 +48,7 @@ answer-sound left_over (claim h p) = by_claim-sound left_over h (answer left_ove
 answer-sound left_over (at_l h p) = by_at_l-sound left_over h (answer left_over p) (answer-sound left_over p)
 
 IsGrant-without_conditions : (goal : Goal) → IsGrant (without_conditions goal)
-IsGrant-without_conditions goal = record { time_conditions = tt; state_conditions = tt; distinct_times = tt; distinct_states = tt; count = omega arith }
+IsGrant-without_conditions goal = record { time_conditions = tt; state_conditions = tt; distinct_times = tt; distinct_states = tt; count = omega arith; names = refl }
 
 -- a grant's own conditions and the statements cover the root
 root_covered : (statements : List StatementView) (goal : Goal) (g : GrantView) → Covers g.times g.states (claims_of statements) (root statements goal) g

@@ -23,9 +23,10 @@ cites_code = coded_list cite_code
 
 abbrev grant_code : Coded GrantView
 grant_code =
-    code_by (Goal × (List Constraint × List StatePred)) (coded× goals.the_row.coded (coded× (coded_list constraint.the_row.coded) (coded_list state_predicate.the_row.coded)))
-    (λ g. (g.goal, (g.times, g.states)))
-    (λ p. record { goal = p.0; times = p.1.0; states = p.1.1 })
+    code_by (Goal × (List Constraint × (List StatePred × List ℕ)))
+    (coded× goals.the_row.coded (coded× (coded_list constraint.the_row.coded) (coded× (coded_list state_predicate.the_row.coded) (coded_list coded_ℕ))))
+    (λ g. (g.goal, (g.times, (g.states, g.cited))))
+    (λ p. record { goal = p.0; times = p.1.0; states = p.1.1.0; cited = p.1.1.1 })
     (λ _. refl)
 
 -- a checked proof is told apart by its parts

@@ -1,5 +1,6 @@
 -- The statements that a proof cites, by their numbers. The limits are this project's own.
 use Rattle.std.specs.Prelude.{◌<◌, ◌≤◌, List, [], ◌∷◌, map, length}
+use Rattle.bl_syntax.specs.declared.limits.TheConstants.{MOST_CITED}
 use Rattle.bl_syntax.specs.Statement.{StatementView}
 use Rattle.proof_verifier.specs.declared.cites.Cite.{Cite}
 
@@ -12,7 +13,7 @@ DoCitesRise (first ∷ second ∷ others) = (first.number < second.number) × Do
 -- 1 to 64 statements, by strictly rising numbers
 pub record AreCited (cites : List Cite) : Type 0 where
   pub some : 0 < length cites
-  pub few : length cites ≤ 64
+  pub few : length cites ≤ MOST_CITED
   pub rising : DoCitesRise cites
 
 -- the statements alone, in order

@@ -1,5 +1,6 @@
 -- What becomes of a rule's condition: it is met, it is left over as a condition of the grant, or it is a fault at the node. `LeftOver` says which are left over.
 use Rattle.std.specs.Prelude.{ℕ, ◌+◌, Bool, false, List, [], ◌∷◌, ◌++◌, length, Result, Ok, Err, ◌==◌, if◌then◌else◌, Option, Some, None}
+use Rattle.bl_syntax.specs.declared.limits.TheConstants.{MOST_CONDITIONS}
 use Rattle.bl_syntax.specs.declared.terms.Sort.{Sort}
 use Rattle.bl_syntax.specs.declared.terms.Term.{Term}
 use Rattle.bl_syntax.specs.declared.terms.StatePred.{StatePred}
@@ -15,7 +16,7 @@ use Rattle.proof_verifier.specs.Entailed.{is_entailed}
 
 -- the grant has as many conditions as it may
 abbrev pub is_full : GrantView → Bool
-is_full g = length g.times + length g.states == 64
+is_full g = length g.times + length g.states == MOST_CONDITIONS
 
 -- with one more condition on time, once
 abbrev pub keep_time : ℕ → Constraint → GrantView → Result GrantView CheckFault

@@ -45,11 +45,11 @@ until n = record { low = Ctime; high = second n }
 
 -- the goal between two seconds
 abbrev pub between : Goal → ℕ → ℕ → GrantView
-between goal from to = record { goal = goal; times = after from ∷ until to ∷ []; states = [] }
+between goal from to = record { goal = goal; times = after from ∷ until to ∷ []; states = []; cited = [] }
 
 -- as between, but within two pairs of seconds
 abbrev pub within_both : Goal → ℕ → ℕ → ℕ → ℕ → GrantView
-within_both goal from to begun over = record { goal = goal; times = after from ∷ until to ∷ after begun ∷ until over ∷ []; states = [] }
+within_both goal from to begun over = record { goal = goal; times = after from ∷ until to ∷ after begun ∷ until over ∷ []; states = []; cited = [] }
 
 -- whoever is an employee by the word of `hr` may read the file
 abbrev pub employees_may_read : FormulaView

@@ -108,9 +108,9 @@ pub fn verdict(
     goal: &Goal,
     proof: &ProofTree,
 ) -> Result<Grant, CheckFault>
+    requires { AreCited cited.now }
     ensures granted { IfOk result (λ grant. IsGranted (statements_of cited.now) goal.now proof.now grant) }
     ensures fault { IfErr result (λ fault. IsFault fault (verdict (statements_of cited.now) goal.now proof.now)) }
-    ensures are_cited { AreCited cited.now }
 {
     grant_of(alloc, cited.as_slice(), goal, proof)
 }
@@ -123,6 +123,7 @@ pub fn check(
     goal: &Goal,
     proof: &ProofTree,
 ) -> Result<Checked, CheckFault>
+    requires { AreCited cited.now }
     ensures ok { IfOk result (λ checked. checked ≡ checked_view cited.now goal.now proof.now checked.grant) }
     ensures granted { IfOk result (λ checked. IsChecked checked) }
     ensures are_cited { IfOk result (λ checked. AreCited checked.cited) }
@@ -146,6 +147,7 @@ pub fn verify(
     goal: Goal,
     proof: ProofTree,
 ) -> Result<Checked, CheckFault>
+    requires { AreCited cited }
     ensures ok { IfOk result (λ checked. checked ≡ checked_view cited goal proof checked.grant) }
     ensures granted { IfOk result (λ checked. IsChecked checked) }
     ensures are_cited { IfOk result (λ checked. AreCited checked.cited) }

@@ -1,14 +1,12 @@
 //! The statements that a proof cites.
 
 ghost use Rattle.std.specs.Prelude.{◌↔◌, IsTrue};
-ghost use Rattle.proof_verifier.specs.Cited.{AreCited, DoCitesRise};
+ghost use Rattle.proof_verifier.specs.Cited.{DoCitesRise};
 
+use bl_syntax::limits::MOST_CITED;
 use bl_syntax::{NoMemory, Statement};
 use std::alloc::Global;
 use std::marker::Model;
-
-/// The most statements that a proof may cite.
-const MOST_CITED: usize = 64;
 
 /// A statement, and the number under which it is cited.
 #[derive(Debug, Drop)]
@@ -17,7 +15,7 @@ pub struct Cite {
     pub statement: Statement,
 }
 
-/// The statements that a proof cites: 1 to 64, by strictly rising numbers.
+/// Statements to be cited, each with its number. A proof is checked from them if they are 1 to 64, by strictly rising numbers.
 #[derive(Debug, Drop)]
 pub struct Cites {
     cites: Vec<Cite>,
@@ -26,7 +24,6 @@ pub struct Cites {
 impl Model for Cites {
     ghost use Rattle.std.specs.Prelude.{List};
     ghost use Rattle.proof_verifier.specs.declared.cites.Cite.{Cite};
-    ghost use Rattle.proof_verifier.specs.Cited.{AreCited};
     ghost use Rattle.proof_verifier.specs.CheckedCode.{cites_code};
 
     ghost Value = { List Cite };
@@ -34,30 +31,30 @@ impl Model for Cites {
     ghost coded = { cites_code };
 
     ghost view = { λ c. c.cites.items };
-
-    ghost invariant = { λ c. AreCited c.cites.items };
 }
 
 impl Cites {
-    ghost use Rattle.std.specs.Prelude.{◌≡◌, ◌↔◌, IsSome, IfSome, IfOk};
+    ghost use Rattle.std.specs.Prelude.{◌≡◌, ◌↔◌, IfOk, IsTrue};
     ghost use Rattle.proof_verifier.specs.Cited.{AreCited};
 
-    /// These statements; none exactly if they are not 1 to 64, by strictly rising numbers. It takes no memory.
-    pub fn new(cites: Vec<Cite>) -> Option<Cites>
-        ensures some { IsSome result ↔ AreCited cites.items }
-        ensures same { IfSome result (λ cited. cited ≡ cites.items) }
+    /// These statements. It takes no memory.
+    pub fn new(cites: Vec<Cite>) -> Cites
+        ensures { result ≡ cites.items }
     {
-        if are_cited(cites.as_slice()) {
-            Some(Cites { cites })
-        } else {
-            None
-        }
+        Cites { cites }
+    }
+
+    /// Whether a proof may be checked from them: they are 1 to 64, by strictly rising numbers.
+    pub fn are_cited(&self) -> bool
+        ensures { IsTrue result ↔ AreCited self.now }
+    {
+        let cites = self.as_slice();
+        !cites.is_empty() && cites.len() <= MOST_CITED && do_rise(cites)
     }
 
     /// The statements in order.
     pub fn as_slice(&self) -> &[Cite]
         ensures same { result.now ≡ self.now }
-        ensures kept { AreCited self.now }
     {
         self.cites.as_slice()
     }
@@ -66,7 +63,7 @@ impl Cites {
     pub fn copy(&self, alloc: Global) -> Result<Cites, NoMemory>
         ensures { IfOk result (λ copied. copied ≡ self.now) }
     {
-        let mut cites = Vec::new(alloc);
+        let mut cites = Vec::with_capacity(alloc, self.cites.len())?;
         for cite in &self.cites {
             cites.push(Cite {
                 number: cite.number,
@@ -75,12 +72,6 @@ impl Cites {
         }
         Ok(Cites { cites })
     }
-}
-
-fn are_cited(cites: &[Cite]) -> bool
-    ensures { IsTrue result ↔ AreCited cites.now }
-{
-    !cites.is_empty() && cites.len() <= MOST_CITED && do_rise(cites)
 }
 
 /// Whether each number is below the next.

@@ -85,7 +85,7 @@ grants input onward bytes more =
     one_then (behind more) (behind more) _ _ _ _ (heads input onward bytes more)
     (λ goal. one_then (behind more) (behind more) _ _ _ _ (conditions time_condition_at may_follow_times time_conditions 64 input onward goal.1 more)
     (λ times. one_then (behind more) (behind more) _ _ _ _ (conditions state_condition_at may_follow_states state_conditions (64 - length times.0) input onward times.1 more)
-    (λ states. done Short (behind more) (record { goal = goal.0; times = times.0; states = states.0 }, states.1))))
+    (λ states. done Short (behind more) (record { goal = goal.0; times = times.0; states = states.0; cited = [] }, states.1))))
 
 tags : ReadsOn tag_at tag_at
 unfolding tag_at

@@ -4,14 +4,16 @@ use Rattle.bl_syntax.specs.declared.codec_fault.CodecFault.TheVariants.{Short, N
 use Rattle.procap.specs.Procap.{procap_spelling, IsSpellableProcap, procap_at, whole_procap}
 use Rattle.procap.proofs.ProcapLemmas.{procap_codec}
 use Rattle.access_history.specs.declared.event.Event.{Event}
-use Rattle.access_history.specs.declared.event.Event.TheVariants.{Registered, Issued, Acted}
-use Rattle.journal_records.specs.EventSpelling.{erase, event_spelling, IsSpellableEvent, IsReadEvent}
+use Rattle.access_history.specs.Passes.{erase}
+use Rattle.access_history.specs.Base.{BaseView}
+use Rattle.access_history.proofs.PassLemmas.{erase_twice}
+use Rattle.journal_records.specs.EventSpelling.{event_spelling, IsSpellableEvent, IsReadEvent}
 use Rattle.journal_records.specs.EventReading.{event_at, whole_event}
-use Rattle.journal_records.proofs.EventLemmas.{event_codec, same_spelling}
+use Rattle.journal_records.proofs.EventLemmas.{erased_spellable, event_codec, same_spelling}
 use Rattle.checkpoint_image.specs.ImageSpelling.{image_spelling, IsSpellableImage}
 use Rattle.checkpoint_image.specs.ImageReading.{image_at, whole_image}
 use Rattle.checkpoint_image.proofs.ImageLemmas.{image_codec}
-use Rattle.checkpoint.specs.Reading.{field}
+use Rattle.checkpoint.specs.Reading.{IsSpelledAs, current, ReadsImage, field}
 use Rattle.reader_laws.specs.Cuts.{AreCutsRefused, IsLeftOverRefused, AreCutImagesShort}
 use Rattle.reader_laws.proofs.CutLemmas.{cut_at, whole_cuts, left_over}
 use Rattle.reader_laws.proofs.GrantLemmas.{procaps}
@@ -28,9 +30,7 @@ procap_left_over = left_over IsSpellableProcap procap_spelling procap_at procap_
 
 -- the event of pass 0 is read
 erased : (e : Event) → IsSpellableEvent e → IsReadEvent (erase e)
-erased (Registered pass statement signature) h = record { spelled = h; erased = refl }
-erased (Issued pass cited proof grant) h = record { spelled = h; erased = refl }
-erased (Acted pass caller op sealed moment) h = record { spelled = h; erased = refl }
+erased e spelled = record { spelled = erased_spellable e spelled; erased = erase_twice e }
 
 cut_read_events : AreCutsRefused Short IsReadEvent event_spelling whole_event
 unfolding whole_event
@@ -53,5 +53,9 @@ pub cut_images : AreCutsRefused Short IsSpellableImage image_spelling whole_imag
 unfolding whole_image
 cut_images = whole_cuts IsSpellableImage image_spelling image_at image_codec images
 
+-- a spelling of a state that is cut
+cut_spelling : (base : BaseView) (image front : List ℕ) (byte : ℕ) (rest : List ℕ) → IsSpelledAs base image → image ≡ front ++ byte ∷ rest → ReadsImage front (Err Short)
+cut_spelling base _ front byte rest (current spelled) is = field Short (cut_at IsSpellableImage image_spelling image_at image_codec images (length front) base front byte rest spelled is)
+
 pub cut_states : AreCutImagesShort
-cut_states base front byte rest image = field Short (cut_at IsSpellableImage image_spelling image_at image_codec images (length front) base front byte rest image.spelled (sym image.image_is))
+cut_states base front byte rest image = cut_spelling base (front ++ byte ∷ rest) front byte rest image.spelled refl

@@ -4,7 +4,7 @@
 //! fault from the left. What is read is copied once, out of the input.
 #![tactic(auto)]
 
-mod fields;
+pub mod fields;
 pub mod laws;
 mod operation_reading;
 mod operation_writing;

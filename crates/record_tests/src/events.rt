@@ -159,15 +159,18 @@ fn end_of(alloc: Global, bytes: &[u8]) -> Result<usize, CodecFault> {
     }
 }
 
-// Whether the bytes are read as the event with this text, which is written as them.
+// Whether the bytes are read as the event with this text, of which a copy is written as them.
 fn is_spelled(alloc: Global, text: &str, bytes: &[u8]) -> bool {
     let mut out = Bytes::new(alloc);
     match read_event(alloc, bytes) {
-        Ok(event) => {
-            has_text(alloc, &event, text)
-                && write_event(&event, &mut out).is_ok()
-                && out.as_slice() == bytes
-        }
+        Ok(event) => match event.copy(alloc) {
+            Ok(copied) => {
+                has_text(alloc, &event, text)
+                    && write_event(&copied, &mut out).is_ok()
+                    && out.as_slice() == bytes
+            }
+            Err(_) => false,
+        },
         Err(_) => false,
     }
 }

@@ -11,7 +11,6 @@ use Rattle.journal_core.proofs.ReadingLemmas.{front_area, area_not_broken}
 use Rattle.journal_core.proofs.RecordLemmas.{area_split, record_length}
 use Rattle.access_history.specs.Authority.{Authority}
 use Rattle.access_history.specs.Base.{BaseView}
-use Rattle.op_gate.specs.declared.damage.Damage.{Damage}
 use Rattle.op_gate.specs.declared.damage.Damage.TheVariants.{Header, Shape}
 use Rattle.checkpoint.specs.Reading.{IsImageOf}
 use Rattle.recover.specs.declared.fault.OpenFault.{OpenFault}

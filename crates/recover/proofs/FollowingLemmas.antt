@@ -3,39 +3,20 @@ use Rattle.std.proofs.Common.{◌≡◌, ◌+◌, ℕ, List, [], ◌∷◌, ◌+
 use Rattle.std.specs.List.{AllByRecursion}
 use Rattle.std.proofs.lemmas.List.{map-append, length-map, append-nil}
 use Rattle.access_history.specs.declared.event.Event.{Event}
-use Rattle.access_history.specs.declared.event.Event.TheVariants.{Registered, Issued, Acted}
 use Rattle.access_history.specs.Authority.{Authority}
 use Rattle.access_history.specs.Base.{BaseView}
 use Rattle.access_history.specs.Lawful.{AreLawful, no_event, one_more, IsLawful, MayFollow}
 use Rattle.access_history.specs.Replay.{replay, next_state}
+use Rattle.access_history.specs.Passes.{erase}
 use Rattle.access_history.proofs.LawfulLemmas.{IsLawfulBase-lawful}
+use Rattle.access_history.proofs.PassLemmas.{erase_twice, erased_follows, erased_next}
 use Rattle.access_history.proofs.ReplayLemmas.{count-replay, replay-more}
-use Rattle.journal_records.specs.EventSpelling.{event_spelling, erase, IsSpellableEvent, IsReadEvent}
-use Rattle.journal_records.proofs.EventLemmas.{same_spelling}
+use Rattle.journal_records.specs.EventSpelling.{event_spelling, IsReadEvent}
+use Rattle.journal_records.proofs.EventLemmas.{erased_spellable, same_spelling}
 use Rattle.op_gate.specs.Damage.{MayComeNext}
 use Rattle.pcfs_store.specs.StoredHistory.{payloads_of, AreSpellable}
 
 -- ---- events without their passes
-
-pub erase_twice : (event : Event) → erase (erase event) ≡ erase event
-erase_twice (Registered pass statement signature) = refl
-erase_twice (Issued pass cited proof g) = refl
-erase_twice (Acted pass caller op procaps moment) = refl
-
-erased_spellable : (event : Event) → IsSpellableEvent event → IsSpellableEvent (erase event)
-erased_spellable (Registered pass statement signature) is = is
-erased_spellable (Issued pass cited proof g) is = is
-erased_spellable (Acted pass caller op procaps moment) is = is
-
-erased_follows : (authority : Authority) (state : BaseView) (event : Event) → MayFollow authority state event → MayFollow authority state (erase event)
-erased_follows authority state (Registered pass statement signature) may = may
-erased_follows authority state (Issued pass cited proof g) may = may
-erased_follows authority state (Acted pass caller op procaps moment) may = may
-
-erased_next : (state : BaseView) (event : Event) → next_state state (erase event) ≡ next_state state event
-erased_next state (Registered pass statement signature) = refl
-erased_next state (Issued pass cited proof g) = refl
-erased_next state (Acted pass caller op procaps moment) = refl
 
 erased_replay : (state : BaseView) (events : List Event) → replay state (map erase events) ≡ replay state events
 erased_replay state [] = refl

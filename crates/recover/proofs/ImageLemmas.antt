@@ -1,15 +1,12 @@
 -- Images and the states that they are of, over plain values.
-use Rattle.std.proofs.Common.{◌≡◌, ℕ, List, [], sym, ap, subst, ◌∙◌, None}
+use Rattle.std.proofs.Common.{◌≡◌, ℕ, List, [], sym, ap, subst, None}
 use Rattle.std.specs.Prelude.{Result, Ok, Err, IfOk}
-use Rattle.std.proofs.lemmas.List.{append-nil}
 use Rattle.bl_syntax.specs.Codec.{AreBytes}
 use Rattle.bl_syntax.specs.declared.codec_fault.CodecFault.{CodecFault}
 use Rattle.bl_syntax.specs.declared.codec_fault.CodecFault.TheVariants as codec
 use Rattle.policy_statement.specs.Ring.{KeyView}
 use Rattle.access_history.specs.Base.{BaseView}
 use Rattle.access_history.specs.History.{authority_with}
-use Rattle.checkpoint_image.specs.ImageSpelling.{image_spelling}
-use Rattle.checkpoint_image.proofs.ImageLemmas.{image_codec}
 use Rattle.checkpoint.specs.Reading.{IsImageOf, GivesImage}
 use Rattle.checkpoint.proofs.ReadingLemmas.{read_is_image, fault_is_no_image}
 use Rattle.op_gate.specs.declared.damage.AdmitFault.{AdmitFault}
@@ -18,11 +15,6 @@ use Rattle.op_gate.specs.BaseDamage.{TellsBase}
 use Rattle.op_gate.specs.Decision.{GateView}
 use Rattle.recover.specs.AreaDamage.{no_state, of_state}
 use Rattle.recover.specs.Reading.{ReadsGate, unread}
-
--- an image is that of one state
-pub one_state : (base other : BaseView) (image : List ℕ) → IsImageOf base image → IsImageOf other image → base ≡ other
-one_state base other image is other_is =
-    (image_codec.apart base other [] [] is.spelled other_is.spelled (append-nil (image_spelling base) ∙ sym is.image_is ∙ other_is.image_is ∙ sym (append-nil (image_spelling other)))).0
 
 -- bytes that were not read are the image of no state
 pub image_not_read : (key : List ℕ) (ring : List KeyView) (image : List ℕ) (fault : CodecFault) → GivesImage image (Err fault) → ReadsGate key ring image (Err (unread fault))

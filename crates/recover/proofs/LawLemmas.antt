@@ -8,7 +8,8 @@ use Rattle.access_history.specs.Authority.{Authority}
 use Rattle.access_history.specs.Base.{BaseView}
 use Rattle.access_history.specs.Lawful.{IsLawful, IsLawfulBase}
 use Rattle.access_history.specs.Replay.{replay}
-use Rattle.journal_records.specs.EventSpelling.{event_spelling, erase, IsReadEvent}
+use Rattle.access_history.specs.Passes.{erase}
+use Rattle.journal_records.specs.EventSpelling.{event_spelling, IsReadEvent}
 use Rattle.journal_records.proofs.EventLemmas.{apart}
 use Rattle.op_gate.specs.declared.damage.Damage.{Damage}
 use Rattle.op_gate.specs.Damage.{IsDamagedBy, MayComeNext}
@@ -19,7 +20,7 @@ use Rattle.checkpoint.specs.Reading.{IsImageOf}
 use Rattle.pcfs_store.specs.StoredHistory.{payloads_of, AreSpellable, StandsFor}
 use Rattle.recover.specs.AreaDamage.{AreRead, IsDamagedImage, no_state, of_state, IsDamagedPayload, no_event as spells_no_event, of_event, IsDamagedAt, AreLawfulPayloads, IsDamagedArea, no_base, no_image, no_payload, no_record}
 use Rattle.recover.proofs.FollowingLemmas.{erased_history, erased_payloads, erased_read, next_at}
-use Rattle.recover.proofs.ImageLemmas.{one_state}
+use Rattle.checkpoint.proofs.ReadingLemmas.{one_state}
 
 -- ---- payloads of events
 

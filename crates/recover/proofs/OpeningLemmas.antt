@@ -12,12 +12,9 @@ use Rattle.journal_core.specs.declared.scan.ScanFault.TheVariants as scans
 use Rattle.journal_core.proofs.RestsLemmas.{if_told, at_told, some_same}
 use Rattle.access_history.specs.declared.event.Event.{Event}
 use Rattle.access_history.specs.Authority.{Authority}
-use Rattle.access_history.specs.Base.{BaseView}
 use Rattle.access_history.specs.History.{authority_with}
 use Rattle.journal_records.specs.EventSpelling.{IsReadEvent}
 use Rattle.op_gate.specs.Decision.{GateView}
-use Rattle.checkpoint_image.specs.ImageSpelling.{image_spelling}
-use Rattle.checkpoint.specs.Reading.{IsImageOf}
 use Rattle.pcfs_store.specs.Newest.{newer, newest, one_of}
 use Rattle.pcfs_store.specs.Ready.{IsBehind}
 use Rattle.pcfs_store.specs.StoredHistory.{payloads_of, AreSpellable, StandsFor}
@@ -37,27 +34,32 @@ all_spellable (event ∷ events) each = (each.0.spelled, all_spellable events ea
 
 -- ---- one area
 
--- a state with an image has that spelling as its image
-spelled_image : (base : BaseView) (image : List ℕ) → IsImageOf base image → IsImageOf base (image_spelling base)
-spelled_image base image is = subst (IsImageOf base) is.image_is is
-
 -- the history of what a scan found is that of the area
 pub holds_area : (key : List ℕ) (ring : List KeyView) (end generation : ℕ) (image : List ℕ) (payloads : List (List ℕ)) (gate : GateView) → IsGeneration generation → end ≡ length (area_bytes generation image payloads) → HoldsHistory key ring image payloads gate →
-    HoldsArea key ring end generation gate
+    HoldsArea key ring end generation image gate
 holds_area key ring end generation image payloads gate generated end_is holds = record {
   generated = generated;
-  end_is = end_is ∙ ap (λ (i : List ℕ). length (area_bytes generation i payloads)) holds.image_is.image_is ∙ ap (λ (ps : List (List ℕ)). length (area_bytes generation (image_spelling gate.base) ps)) holds.read.payloads_are;
+  end_is = end_is ∙ ap (λ (ps : List (List ℕ)). length (area_bytes generation image ps)) holds.read.payloads_are;
   key_is = holds.key_is;
   ring_is = holds.ring_is;
-  image_is = spelled_image gate.base image holds.image_is;
+  image_is = holds.image_is;
   idle = holds.idle;
   each = holds.read.each;
   lawful = holds.lawful;
 }
 
-pub same_area : (key : List ℕ) (ring : List KeyView) (bytes : List ℕ) (generation : ℕ) (image : List ℕ) (payloads : List (List ℕ)) (gate : GateView) → HoldsHistory key ring image payloads gate → IsArea bytes generation image payloads → IsArea bytes generation (image_spelling gate.base) (payloads_of gate.events)
-same_area key ring bytes generation image payloads gate holds area =
-    subst (λ (ps : List (List ℕ)). IsArea bytes generation (image_spelling gate.base) ps) holds.read.payloads_are (subst (λ (i : List ℕ). IsArea bytes generation i payloads) holds.image_is.image_is area)
+pub area_read : (key : List ℕ) (ring : List KeyView) (bytes : List ℕ) (generation : ℕ) (image : List ℕ) (payloads : List (List ℕ)) (gate : GateView) → HoldsHistory key ring image payloads gate → IsArea bytes generation image payloads →
+    IsArea bytes generation image (payloads_of gate.events)
+area_read key ring bytes generation image payloads gate holds area = subst (IsArea bytes generation image) holds.read.payloads_are area
+
+-- the same of the generation and the image as they were told
+pub held_as : {key : List ℕ} {ring : List KeyView} {end generation told : ℕ} {image shown : List ℕ} {gate : GateView} → told ≡ generation → shown ≡ image → HoldsArea key ring end generation image gate → HoldsArea key ring end told shown gate
+held_as {key} {ring} {end} {generation} {told} {image} {shown} {gate} generation_is image_is holds =
+    subst (λ (g : ℕ). HoldsArea key ring end g shown gate) (sym generation_is) (subst (λ (i : List ℕ). HoldsArea key ring end generation i gate) (sym image_is) holds)
+
+pub area_as : (bytes : Option (List ℕ)) (told generation : ℕ) (shown image : List ℕ) (payloads : List (List ℕ)) → told ≡ generation → shown ≡ image → IfSome bytes (λ b. IsArea b generation image payloads) → IfSome bytes (λ b. IsArea b told shown payloads)
+area_as bytes told generation shown image payloads generation_is image_is area =
+    subst (λ (g : ℕ). IfSome bytes (λ b. IsArea b g shown payloads)) (sym generation_is) (subst (λ (i : List ℕ). IfSome bytes (λ b. IsArea b generation i payloads)) (sym image_is) area)
 
 -- what a scan says of the bytes
 pub scanned : (fault : ScanFault) (told : Option (List ℕ)) → (fault ≡ scans.Closed → IfSome told IsShut) → ((number : ℕ) → fault ≡ scans.Broken number → IfSome told (IsBroken number)) → IfSome told (IsScanned fault)
@@ -125,35 +127,36 @@ holds_told told P bytes is holds = if_told told P (λ b b_is. subst P (some_same
 
 -- ---- two disks
 
-stands_there : (bytes : List ℕ) (key : List ℕ) (ring : List KeyView) (end generation : ℕ) (gate : GateView) → HoldsArea key ring end generation gate → IsArea bytes generation (image_spelling gate.base) (payloads_of gate.events) → StandsFor bytes generation gate.base gate.events
-stands_there bytes key ring end generation gate holds area =
-    record { image = image_spelling gate.base; is_image = holds.image_is; spelled = all_spellable gate.events holds.each; is_area = area }
+stands_there : (bytes : List ℕ) (key : List ℕ) (ring : List KeyView) (end generation : ℕ) (found : List ℕ) (gate : GateView) → HoldsArea key ring end generation found gate → IsArea bytes generation found (payloads_of gate.events) → StandsFor bytes generation gate.base gate.events
+stands_there bytes key ring end generation found gate holds area =
+    record { image = found; is_image = holds.image_is; spelled = all_spellable gate.events holds.each; is_area = area }
 
-newest_history : (bytes x y : List ℕ) (key : List ℕ) (ring : List KeyView) (end generation : ℕ) (gate : GateView) → HoldsArea key ring end generation gate → IsArea bytes generation (image_spelling gate.base) (payloads_of gate.events) → newest x y ≡ Some bytes →
-    IsNewestHistory (authority_with key ring) generation gate.base gate.events x y
-newest_history bytes x y key ring end generation gate holds area counts =
-    record { bytes = bytes; counts = counts; stands = stands_there bytes key ring end generation gate holds area; each = holds.each; lawful = holds.lawful }
+newest_history : (bytes x y : List ℕ) (key : List ℕ) (ring : List KeyView) (end generation : ℕ) (found : List ℕ) (gate : GateView) → HoldsArea key ring end generation found gate → IsArea bytes generation found (payloads_of gate.events) → newest x y ≡ Some bytes →
+    IsNewestHistory (authority_with key ring) generation found gate.base gate.events x y
+unfolding stands_there
+newest_history bytes x y key ring end generation found gate holds area counts =
+    record { bytes = bytes; counts = counts; stands = stands_there bytes key ring end generation found gate holds area; image_is = refl; each = holds.each; lawful = holds.lawful }
 
 module _ {D : Type 0} (clock : D → ℕ) (left_since : D → ℕ → List ℕ → Type 0) (image : D → Option (List ℕ)) (faults : D → ℕ)
     (earlier : (disk : D) (t u : ℕ) (b : List ℕ) → t ≤ u → left_since disk u b → left_since disk t b)
     (may_stay : (disk : D) (b : List ℕ) → image disk ≡ Some b → left_since disk (clock disk) b)
     (a b a1 b1 : D) (key : List ℕ) (ring : List KeyView) (read_a : IsRead clock left_since image faults a a1) (read_b : IsRead clock left_since image faults b b1) where
   -- the store of the first disk's area
-  module _ (a2 : D) (read_area : IsRead clock left_since image faults a1 a2) (end generation : ℕ) (gate : GateView) (holds : HoldsArea key ring end generation gate)
+  module _ (a2 : D) (read_area : IsRead clock left_since image faults a1 a2) (end generation : ℕ) (found : List ℕ) (gate : GateView) (holds : HoldsArea key ring end generation found gate)
       (which : IfSome (image a) (λ x. IfSome (image b) (λ y. Some false ≡ newer (generation_of x) (generation_of y))))
-      (area : IfSome (image a1) (λ bytes. IsArea bytes generation (image_spelling gate.base) (payloads_of gate.events))) where
+      (area : IfSome (image a1) (λ bytes. IsArea bytes generation found (payloads_of gate.events))) where
     abbrev store_first : StoreView D
-    store_first = record { active = a2; other = b1; second_active = false; generation = generation; used = end; key = gate.key; ring = gate.ring; base = gate.base; events = gate.events; checkpoints = []; stop = None }
+    store_first = record { active = a2; other = b1; second_active = false; generation = generation; used = end; key = gate.key; ring = gate.ring; base = gate.base; opened = found; events = gate.events; checkpoints = []; stop = None }
 
-    area_first : (x : List ℕ) → image a ≡ Some x → IsArea x generation (image_spelling gate.base) (payloads_of gate.events)
-    area_first x told = at_told (image a1) (λ bytes. IsArea bytes generation (image_spelling gate.base) (payloads_of gate.events)) x (read_a.same ∙ told) area
+    area_first : (x : List ℕ) → image a ≡ Some x → IsArea x generation found (payloads_of gate.events)
+    area_first x told = at_told (image a1) (λ bytes. IsArea bytes generation found (payloads_of gate.events)) x (read_a.same ∙ told) area
 
     which_first : (x y : List ℕ) → image a ≡ Some x → image b ≡ Some y → Some false ≡ newer (generation_of x) (generation_of y)
     which_first x y told_a told_b = both_told (image a) (image b) (λ x y. Some false ≡ newer (generation_of x) (generation_of y)) x y told_a told_b which
 
     behind_there : (x y : List ℕ) → image a ≡ Some x → image b ≡ Some y → IsBehind false generation (generation_of y)
     behind_there x y told_a told_b =
-        behind_second (generation_of x) (generation_of y) generation (sym (which_first x y told_a told_b)) (generation_stands x generation gate.base gate.events (stands_there x key ring end generation gate holds (area_first x told_a)))
+        behind_second (generation_of x) (generation_of y) generation (sym (which_first x y told_a told_b)) (generation_stands x generation gate.base gate.events (stands_there x key ring end generation found gate holds (area_first x told_a)))
 
     pub opened_first : IsOpened clock left_since image faults a b key ring store_first
     opened_first = record {
@@ -165,7 +168,7 @@ module _ {D : Type 0} (clock : D → ℕ) (left_since : D → ℕ → List ℕ �
       lawful = holds.lawful;
       each = holds.each;
       running = refl;
-      newest_history = λ x y told_a told_b. newest_history x x y key ring end generation gate holds (area_first x told_a) (newest_first x y (which_first x y told_a told_b));
+      newest_history = λ x y told_a told_b. newest_history x x y key ring end generation found gate holds (area_first x told_a) (newest_first x y (which_first x y told_a told_b));
       current = λ x y told_a told_b. record {
         running = refl;
         active = holds_told (image a2) (StandsForBody (body_of store_first)) x (read_area.same ∙ read_a.same ∙ told_a) (area_first x told_a).stands;
@@ -189,21 +192,21 @@ module _ {D : Type 0} (clock : D → ℕ) (left_since : D → ℕ → List ℕ �
     }
 
   -- the store of the second disk's area
-  module _ (b2 : D) (read_area : IsRead clock left_since image faults b1 b2) (end generation : ℕ) (gate : GateView) (holds : HoldsArea key ring end generation gate)
+  module _ (b2 : D) (read_area : IsRead clock left_since image faults b1 b2) (end generation : ℕ) (found : List ℕ) (gate : GateView) (holds : HoldsArea key ring end generation found gate)
       (which : IfSome (image a) (λ x. IfSome (image b) (λ y. Some true ≡ newer (generation_of x) (generation_of y))))
-      (area : IfSome (image b1) (λ bytes. IsArea bytes generation (image_spelling gate.base) (payloads_of gate.events))) where
+      (area : IfSome (image b1) (λ bytes. IsArea bytes generation found (payloads_of gate.events))) where
     abbrev store_second : StoreView D
-    store_second = record { active = b2; other = a1; second_active = true; generation = generation; used = end; key = gate.key; ring = gate.ring; base = gate.base; events = gate.events; checkpoints = []; stop = None }
+    store_second = record { active = b2; other = a1; second_active = true; generation = generation; used = end; key = gate.key; ring = gate.ring; base = gate.base; opened = found; events = gate.events; checkpoints = []; stop = None }
 
-    area_second : (y : List ℕ) → image b ≡ Some y → IsArea y generation (image_spelling gate.base) (payloads_of gate.events)
-    area_second y told = at_told (image b1) (λ bytes. IsArea bytes generation (image_spelling gate.base) (payloads_of gate.events)) y (read_b.same ∙ told) area
+    area_second : (y : List ℕ) → image b ≡ Some y → IsArea y generation found (payloads_of gate.events)
+    area_second y told = at_told (image b1) (λ bytes. IsArea bytes generation found (payloads_of gate.events)) y (read_b.same ∙ told) area
 
     which_second : (x y : List ℕ) → image a ≡ Some x → image b ≡ Some y → Some true ≡ newer (generation_of x) (generation_of y)
     which_second x y told_a told_b = both_told (image a) (image b) (λ x y. Some true ≡ newer (generation_of x) (generation_of y)) x y told_a told_b which
 
     behind_here : (x y : List ℕ) → image a ≡ Some x → image b ≡ Some y → IsBehind true generation (generation_of x)
     behind_here x y told_a told_b =
-        behind_first (generation_of x) (generation_of y) generation (sym (which_second x y told_a told_b)) (generation_stands y generation gate.base gate.events (stands_there y key ring end generation gate holds (area_second y told_b)))
+        behind_first (generation_of x) (generation_of y) generation (sym (which_second x y told_a told_b)) (generation_stands y generation gate.base gate.events (stands_there y key ring end generation found gate holds (area_second y told_b)))
 
     pub opened_second : IsOpened clock left_since image faults a b key ring store_second
     opened_second = record {
@@ -215,7 +218,7 @@ module _ {D : Type 0} (clock : D → ℕ) (left_since : D → ℕ → List ℕ �
       lawful = holds.lawful;
       each = holds.each;
       running = refl;
-      newest_history = λ x y told_a told_b. newest_history y x y key ring end generation gate holds (area_second y told_b) (newest_second x y (which_second x y told_a told_b));
+      newest_history = λ x y told_a told_b. newest_history y x y key ring end generation found gate holds (area_second y told_b) (newest_second x y (which_second x y told_a told_b));
       current = λ x y told_a told_b. record {
         running = refl;
         active = holds_told (image b2) (StandsForBody (body_of store_second)) y (read_area.same ∙ read_b.same ∙ told_b) (area_second y told_b).stands;

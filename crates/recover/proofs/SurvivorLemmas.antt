@@ -2,20 +2,22 @@
 use Rattle.std.proofs.Common.{◌≡◌, ◌<◌, ℕ, List, [], ◌∷◌, length, take, drop, map, refl, sym, ap, subst, ◌∙◌, take-append-drop, Some, None}
 use Rattle.std.specs.List.{AllByRecursion}
 use Rattle.std.proofs.lemmas.List.{take-take}
-use Rattle.journal_core.specs.Area.{area_bytes}
+use Rattle.journal_core.specs.Area.{area_bytes, IsArea}
+use Rattle.journal_core.proofs.ReadingLemmas.{one_area}
 use Rattle.access_history.specs.declared.event.Event.{Event}
 use Rattle.access_history.specs.Authority.{Authority}
 use Rattle.access_history.specs.Base.{BaseView}
 use Rattle.access_history.specs.Lawful.{IsLawful}
 use Rattle.access_history.specs.Replay.{replay}
-use Rattle.checkpoint_image.specs.ImageSpelling.{image_spelling}
-use Rattle.journal_records.specs.EventSpelling.{erase, IsReadEvent}
+use Rattle.journal_records.specs.EventSpelling.{IsReadEvent}
 use Rattle.op_gate.specs.declared.damage.Damage.{Damage}
 use Rattle.pcfs_store.specs.Newest.{newest, Survives, SurvivesClosed}
 use Rattle.pcfs_store.specs.StoredHistory.{payloads_of, Resumes, StandsFor}
 use Rattle.recover.specs.AreaDamage.{IsDamagedArea}
 use Rattle.recover.specs.Opening.{IsNewestClosed, IsNewestDamaged, IsNewestHistory}
-use Rattle.recover.proofs.FollowingLemmas.{back_lawful, erase_twice, erased_history, front_lawful}
+use Rattle.access_history.specs.Passes.{erase}
+use Rattle.access_history.proofs.PassLemmas.{erase_twice}
+use Rattle.recover.proofs.FollowingLemmas.{back_lawful, erased_history, front_lawful}
 use Rattle.recover.proofs.LawLemmas.{lawful_area, one_history}
 
 -- what resumes a lawful history is lawful
@@ -57,11 +59,14 @@ module _ (authority : Authority) (base : BaseView) (events : List Event) (kept :
   found_erased : map erase survivor.found ≡ survivor.found
   found_erased = ap (map erase) survivor.resumes.events_are ∙ erased_again (drop survivor.resumes.skipped (take kept events)) ∙ sym survivor.resumes.events_are
 
-  pub survivor_opened : (generation : ℕ) (found_base : BaseView) (found : List Event) → IsNewestHistory authority generation found_base found x y → Resumes found_base found base events kept × IsNewestClosed generation found_base found x y
-  survivor_opened generation found_base found is =
+  pub survivor_opened : (generation : ℕ) (image : List ℕ) (found_base : BaseView) (found : List Event) → IsNewestHistory authority generation image found_base found x y →
+      Resumes found_base found base events kept × IsNewestClosed generation image found x y
+  survivor_opened generation image found_base found is =
       let bytes : is.bytes ≡ survivor.bytes = some_bytes is.bytes survivor.bytes (sym is.counts ∙ survivor.counts) in
       let same = one_history survivor.bytes survivor.generation generation survivor.found_base found_base survivor.found found survivor.stands
       (subst (λ (b : List ℕ). StandsFor b generation found_base found) bytes is.stands) in
+      let areas = one_area survivor.bytes survivor.generation generation survivor.stands.image is.stands.image (payloads_of survivor.found) (payloads_of found) survivor.stands.is_area
+      (subst (λ (b : List ℕ). IsArea b generation is.stands.image (payloads_of found)) bytes is.stands.is_area) in
       let events_are : survivor.found ≡ found = sym found_erased ∙ same.2 ∙ erased_as_read found is.each in (
         record {
           skipped = survivor.resumes.skipped;
@@ -73,9 +78,8 @@ module _ (authority : Authority) (base : BaseView) (events : List Event) (kept :
         record {
           bytes = survivor.bytes;
           counts = survivor.counts;
-          gate = subst (λ (g : ℕ). length (area_bytes g (image_spelling found_base) (payloads_of found)) < length survivor.bytes) same.0
-              (subst (λ (b : BaseView). length (area_bytes survivor.generation (image_spelling b) (payloads_of found)) < length survivor.bytes) same.1
-              (subst (λ (es : List Event). length (area_bytes survivor.generation (image_spelling survivor.found_base) (payloads_of es)) < length survivor.bytes) events_are
-              (subst (λ (i : List ℕ). length (area_bytes survivor.generation i (payloads_of survivor.found)) < length survivor.bytes) survivor.stands.is_image.image_is left.gate)));
+          gate = subst (λ (g : ℕ). length (area_bytes g image (payloads_of found)) < length survivor.bytes) areas.0
+              (subst (λ (i : List ℕ). length (area_bytes survivor.generation i (payloads_of found)) < length survivor.bytes) (areas.1 ∙ is.image_is)
+              (subst (λ (payloads : List (List ℕ)). length (area_bytes survivor.generation survivor.stands.image payloads) < length survivor.bytes) areas.2 left.gate));
         },
       )

@@ -6,7 +6,7 @@ use Rattle.access_history.specs.Base.{BaseView}
 use Rattle.access_history.specs.Lawful.{IsLawful}
 use Rattle.journal_core.specs.Area.{IsShut}
 use Rattle.op_gate.specs.declared.damage.Damage.{Damage}
-use Rattle.journal_records.specs.EventSpelling.{erase}
+use Rattle.access_history.specs.Passes.{erase}
 use Rattle.pcfs_store.specs.Newest.{newest, SurvivesClosed}
 use Rattle.pcfs_store.specs.StoredHistory.{StandsFor, Resumes}
 use Rattle.recover.specs.AreaDamage.{IsDamagedArea}
@@ -34,7 +34,8 @@ DamagedAreOpen = (authority : Authority) (bytes : List ℕ) (number : ℕ) (dama
 pub record IsOpenedAgain (authority : Authority) (base : BaseView) (events : List Event) (kept : ℕ) (first second : List ℕ) : Type 0 where
   pub counts : newest first second ≡ None → ⊥
   pub whole : (number : ℕ) (damage : Damage) → IsNewestDamaged authority number damage first second → ⊥
-  pub same : (generation : ℕ) (found_base : BaseView) (found : List Event) → IsNewestHistory authority generation found_base found first second → Resumes found_base found base events kept × IsNewestClosed generation found_base found first second
+  pub same : (generation : ℕ) (image : List ℕ) (found_base : BaseView) (found : List Event) → IsNewestHistory authority generation image found_base found first second →
+      Resumes found_base found base events kept × IsNewestClosed generation image found first second
 
 -- what survives of a lawful history, with its closed gate, is opened
 abbrev pub SurvivorsAreOpened : Type 0

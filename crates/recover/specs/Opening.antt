@@ -16,7 +16,6 @@ use Rattle.journal_records.specs.EventSpelling.{IsReadEvent}
 use Rattle.op_gate.specs.declared.damage.Damage.{Damage}
 use Rattle.op_gate.specs.declared.damage.Damage.TheVariants.{Header}
 use Rattle.op_gate.specs.Decision.{GateView}
-use Rattle.checkpoint_image.specs.ImageSpelling.{image_spelling}
 use Rattle.checkpoint.specs.Reading.{IsImageOf}
 use Rattle.pcfs_store.specs.Newest.{newest}
 use Rattle.pcfs_store.specs.Ready.{IsReady, IsCurrent}
@@ -28,11 +27,12 @@ use Rattle.recover.specs.AreaDamage.{IsDamagedArea}
 
 -- ---- two disks' bytes
 
--- The history is that of the newest area: its bytes stand for it, its events have pass 0, and it is lawful under that authority.
-pub record IsNewestHistory (authority : Authority) (generation : ℕ) (base : BaseView) (events : List Event) (first second : List ℕ) : Type 0 where
+-- The history is that of the newest area, which begins with this image: its bytes stand for it, its events have pass 0, and it is lawful under that authority.
+pub record IsNewestHistory (authority : Authority) (generation : ℕ) (image : List ℕ) (base : BaseView) (events : List Event) (first second : List ℕ) : Type 0 where
   pub bytes : List ℕ
   pub counts : newest first second ≡ Some bytes
   pub stands : StandsFor bytes generation base events
+  pub image_is : stands.image ≡ image
   pub each : AllByRecursion IsReadEvent events
   pub lawful : IsLawful authority base events
 
@@ -42,21 +42,21 @@ pub record IsNewestDamaged (authority : Authority) (number : ℕ) (damage : Dama
   pub counts : newest first second ≡ Some bytes
   pub damaged : IsDamagedArea authority bytes number damage
 
--- The area with the history and its closed gate: the newest bytes go on after the records.
-pub record IsNewestClosed (generation : ℕ) (base : BaseView) (events : List Event) (first second : List ℕ) : Type 0 where
+-- The area with this image, the records of these events and its closed gate: the newest bytes go on after the records.
+pub record IsNewestClosed (generation : ℕ) (image : List ℕ) (events : List Event) (first second : List ℕ) : Type 0 where
   pub bytes : List ℕ
   pub counts : newest first second ≡ Some bytes
-  pub gate : length (area_bytes generation (image_spelling base) (payloads_of events)) < length bytes
+  pub gate : length (area_bytes generation image (payloads_of events)) < length bytes
 
 -- ---- one area
 
--- the gate's history is that of an area of this generation, which ends there before its closed gate
-pub record HoldsArea (key : List ℕ) (ring : List KeyView) (end generation : ℕ) (gate : GateView) : Type 0 where
+-- the gate's history is that of an area of this generation, which begins with this image and ends there before its closed gate
+pub record HoldsArea (key : List ℕ) (ring : List KeyView) (end generation : ℕ) (image : List ℕ) (gate : GateView) : Type 0 where
   pub generated : IsGeneration generation
-  pub end_is : end ≡ length (area_bytes generation (image_spelling gate.base) (payloads_of gate.events))
+  pub end_is : end ≡ length (area_bytes generation image (payloads_of gate.events))
   pub key_is : gate.key ≡ key
   pub ring_is : gate.ring ≡ ring
-  pub image_is : IsImageOf gate.base (image_spelling gate.base)
+  pub image_is : IsImageOf gate.base image
   pub idle : gate.pending ≡ None
   pub each : AllByRecursion IsReadEvent gate.events
   pub lawful : IsLawful (authority_with key ring) gate.base gate.events
@@ -98,7 +98,8 @@ module _ {D : Type 0} (clock : D → ℕ) (left_since : D → ℕ → List ℕ �
     pub same : image new ≡ image old
     pub pinned : IsPinned clock left_since image new
 
-  -- The store has the history of the newest area on these two disks, under that key and ring, and no checkpoint since; each of its events was read, so it has no pass. It is ready if that area has its closed gate.
+  -- The store has the history of the newest area on these two disks and the image with which that begins, under that key and ring, and no checkpoint since; each of its events was read, so it has no pass.
+  -- It is ready if that area has its closed gate.
   pub record IsOpened (a b : D) (key : List ℕ) (ring : List KeyView) (s : StoreView D) : Type 0 where
     pub first_read : IsRead a (first_disk s)
     pub second_read : IsRead b (second_disk s)
@@ -108,9 +109,9 @@ module _ {D : Type 0} (clock : D → ℕ) (left_since : D → ℕ → List ℕ �
     pub lawful : IsLawful (authority_with key ring) s.base s.events
     pub each : AllByRecursion IsReadEvent s.events
     pub running : s.stop ≡ None
-    pub newest_history : (x y : List ℕ) → image a ≡ Some x → image b ≡ Some y → IsNewestHistory (authority_with key ring) s.generation s.base s.events x y
+    pub newest_history : (x y : List ℕ) → image a ≡ Some x → image b ≡ Some y → IsNewestHistory (authority_with key ring) s.generation s.opened s.base s.events x y
     pub current : (x y : List ℕ) → image a ≡ Some x → image b ≡ Some y → IsCurrent clock left_since image s
-    pub ready : (x y : List ℕ) → image a ≡ Some x → image b ≡ Some y → IsNewestClosed s.generation s.base s.events x y → IsReady clock left_since image s
+    pub ready : (x y : List ℕ) → image a ≡ Some x → image b ≡ Some y → IsNewestClosed s.generation s.opened s.events x y → IsReady clock left_since image s
 
   -- the cause of each fault: no area is open; the newest one is damaged; the count of a disk rose; or there was no memory
   abbrev pub HasCause : D → D → Authority → OpenFault → D → D → Type 0

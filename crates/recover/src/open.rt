@@ -5,14 +5,13 @@ ghost use Rattle.pcfs_ports.specs.Faults.{HasRisen};
 ghost use Rattle.pcfs_ports.specs.Disk.{IsPinned, Idles};
 ghost use Rattle.journal_core.specs.Area.{IsArea, IsBroken};
 ghost use Rattle.access_history.specs.History.{authority_with};
-ghost use Rattle.checkpoint_image.specs.ImageSpelling.{image_spelling};
 ghost use Rattle.pcfs_store.specs.StoredHistory.{payloads_of};
 ghost use Rattle.recover.specs.Opening.{HoldsArea, IsNotOpened, IsOpened, IsScanned, IsWhy, front_fault};
 
 use crate::fault::OpenFault;
 use crate::newest::find_newest;
 use crate::reading::read_history;
-use journal_core::{Area, ScanFault, scan_front};
+use journal_core::{Area, Scan, ScanFault, scan_front};
 use op_gate::{Damage, Gate};
 use pcfs_ports::Disk;
 use pcfs_store::Store;
@@ -73,15 +72,15 @@ fn why<D: Disk>(
     }
 }
 
-// The area of a disk, its generation, and the history that it holds.
+// The area of a disk, what was found in it, and the history that it holds.
 fn open_area<D: Disk>(
     alloc: Global,
     disk: D,
     key: &[u8],
     ring: Keyring,
-) -> Result<(Area<D>, u64, Gate), (OpenFault, D)>
-    ensures holds { IfOk result (λ found. HoldsArea key.now ring found.0.end found.1 found.2) }
-    ensures area { IfOk result (λ found. IfSome (D.image disk) (λ bytes. IsArea bytes found.1 (image_spelling found.2.base) (payloads_of found.2.events))) }
+) -> Result<(Area<D>, Scan, Gate), (OpenFault, D)>
+    ensures holds { IfOk result (λ found. HoldsArea key.now ring found.0.end found.1.generation found.1.image found.2) }
+    ensures area { IfOk result (λ found. IfSome (D.image disk) (λ bytes. IsArea bytes found.1.generation found.1.image (payloads_of found.2.events))) }
     ensures pinned { IfOk result (λ found. IsPinned D.clock D.left_since D.image found.0.disk) }
     ensures why { IfErr result (λ e. IfSome (D.image disk) (λ bytes. IsWhy (authority_with key.now ring) bytes e.0)) }
     ensures risen { IfErr result (λ e. e.0 ≡ OpenFault.Disk → HasRisen (D.faults disk) (D.faults e.1)) }
@@ -100,7 +99,7 @@ fn open_area<D: Disk>(
 {
     match Area::scan(alloc, disk) {
         Ok((area, scan)) => match read_history(alloc, &scan, key, ring) {
-            Ok(gate) => Ok((area, scan.generation(), gate)),
+            Ok(gate) => Ok((area, scan, gate)),
             Err(fault) => Err((fault, area.into_disk())),
         },
         Err((fault, disk)) => {
@@ -133,14 +132,26 @@ pub fn open_store<D: Disk>(
     let mut b = b;
     match find_newest(&mut a, &mut b) {
         Ok(Some(false)) => match open_area(alloc, a, key, ring) {
-            Ok((area, generation, gate)) => Ok(Store::from_scan(
-                alloc, area, b, false, generation, gate,
+            Ok((area, scan, gate)) => Ok(Store::from_scan(
+                alloc,
+                area,
+                b,
+                false,
+                scan.generation(),
+                scan.image(),
+                gate,
             )),
             Err((fault, a)) => Err((fault, a, b)),
         },
         Ok(Some(true)) => match open_area(alloc, b, key, ring) {
-            Ok((area, generation, gate)) => Ok(Store::from_scan(
-                alloc, area, a, true, generation, gate,
+            Ok((area, scan, gate)) => Ok(Store::from_scan(
+                alloc,
+                area,
+                a,
+                true,
+                scan.generation(),
+                scan.image(),
+                gate,
             )),
             Err((fault, b)) => Err((fault, a, b)),
         },

@@ -126,8 +126,7 @@ pub formed_act : (who : List ℕ) (op : Op) (given : List ProcapWord) (procaps :
 formed_act who op given procaps named within is = record {
   named = named;
   operation = within.operation;
-  slots = sym (length-map procaps words.Procap) ∙ sym (ap length is) ∙ within.one_each;
-  few_bytes = within.few_bytes;
+  brought = record { slots = sym (length-map procaps words.Procap) ∙ sym (ap length is) ∙ within.one_each; few_bytes = within.few_bytes };
 }
 
 user_formed : (who : List ℕ) (command : Command) (task : LineTask) → IsTrue (is_principal_name who) → IsWithin command → IsUserTask who command task → IsTaskFormed task

@@ -1,5 +1,5 @@
 -- A line has an end, if the store is not stopped.
-use Rattle.std.proofs.Common.{◌≡◌, ◌+◌, ◌⊎◌, inl, inr, ℕ, List, [], ◌++◌, length, Option, Some, None, Result, Ok, Err, false, refl, sym, ap, subst, arith, append-nil}
+use Rattle.std.proofs.Common.{◌≡◌, ◌+◌, inl, inr, ℕ, List, [], ◌++◌, length, Option, Some, None, Result, Ok, Err, false, refl, sym, ap, subst, arith, append-nil}
 use Rattle.std.specs.Prelude.{ℤ, ◌≢◌}
 use Rattle.std.specs.List.{AllByRecursion}
 use Rattle.bl_syntax.specs.Citable.{AreCitable}
@@ -13,13 +13,14 @@ use Rattle.proof_verifier.specs.declared.fault.CheckFault.{CheckFault}
 use Rattle.proof_verifier.specs.Cited.{statements_of}
 use Rattle.proof_verifier.specs.CheckedView.{checked_view}
 use Rattle.proof_verifier.specs.Verdict.{verdict}
-use Rattle.access_history.specs.declared.event.Event.{Event}
 use Rattle.access_history.specs.declared.request.StepRequest.TheVariants.{Issue}
 use Rattle.access_history.specs.declared.reply.StepReply.TheVariants.{Absent}
 use Rattle.access_history.specs.Authority.{sayings}
+use Rattle.access_history.specs.Books.{book_of, statements_in}
 use Rattle.access_history.specs.Base.{BaseView}
 use Rattle.access_history.specs.Citing.{AreFound, IsAbsent}
 use Rattle.access_history.specs.Lawful.{IsLawful}
+use Rattle.access_history.proofs.CitingLemmas.{IsToldOfNumbers, all_standing, found_or_absent}
 use Rattle.access_history.proofs.LawfulLemmas.{IsLawfulBase-lawful}
 use Rattle.line_wire.specs.declared.reply.LineReply.{LineReply}
 use Rattle.line_wire.specs.declared.reply.LineReply.TheVariants as replies
@@ -38,7 +39,6 @@ use Rattle.session_history.specs.Tasks.{IsTaskOf, IsSingle, IsTaskFormed, IsName
 use Rattle.session_history.specs.Placed.{IsTold, LinePlaced, at_once, in_a_turn, cites_none, proves_none, issues}
 use Rattle.session_history.specs.Laws.{IsUndisturbed}
 use Rattle.session_history.proofs.AskingLemmas.{task_formed}
-use Rattle.session_history.proofs.CitationLemmas.{found_or_absent}
 use Rattle.session_history.proofs.FormedLemmas.{granted_may_be_issued}
 use Rattle.session_history.proofs.StopLemmas.{said_at_once, not_stopped_at_once, had_memory_at_once}
 use Rattle.session_history.proofs.TurnLemmas.{turn_ends}
@@ -103,13 +103,13 @@ module _ (gives : ℤ → Type 0) (p : StorePass) (before : List StoreEntry) (cl
       (told.reply, end.1, in_a_turn request end.0 told.reply (length before + length end.1) end.1 (placed_last request end.0 end.1 end.2) told.told, told.had_memory, told.not_stopped)
 
   module _ (goal : Goal) (numbers : List ℕ) (proof : ProofView) (citable : AreCitable numbers) (times : HasTimesInRange proof) where
-    absent_ends : (number : ℕ) → IsAbsent (sayings (state_of_entries p.root before).statements) numbers number → Ends (tasks.Proof goal numbers proof)
+    absent_ends : (number : ℕ) → IsAbsent (book_of (state_of_entries p.root before)) numbers number → Ends (tasks.Proof goal numbers proof)
     absent_ends number absent =
         let replied : TurnReply = turn_replies.Step (Absent number) in
         let turn : Turn gives p before (Cite numbers) replied [] = turns.answered clock replied running shown (turns.cites_none numbers number absent) in
         (replies.Step (Absent number), [], cites_none goal numbers proof replied (replies.Step (Absent number)) (length before + length {A = StoreEntry} []) [] (placed_last (Cite numbers) replied [] turn) refl, λ is. cc, λ is. cc)
 
-    module _ (cites : List CiteOf) (found : AreFound (sayings (state_of_entries p.root before).statements) numbers cites) where
+    module _ (cites : List CiteOf) (found : AreFound (book_of (state_of_entries p.root before)) numbers cites) where
       cited : Turn gives p before (Cite numbers) (turn_replies.Cited cites) []
       cited = turns.answered clock (turn_replies.Cited cites) running shown (turns.cites numbers cites found)
 
@@ -118,8 +118,9 @@ module _ (gives : ℤ → Type 0) (p : StorePass) (before : List StoreEntry) (cl
           (replies.Unproved fault, [], proves_none goal numbers proof cites fault (length before + length {A = StoreEntry} []) (placed_last (Cite numbers) (turn_replies.Cited cites) [] cited) is, λ same. cc, λ same. cc)
       by_verdict (Ok g) is =
           let request : TurnRequest = Step (Issue (checked_view cites goal proof g)) in
-          let statements : AllByRecursion IsStatement (sayings (state_of_entries p.root before).statements) = (IsLawfulBase-lawful (authority_of_root p.root) p.root.base (events_among before) lawful).statements_formed in
-          let formed = granted_may_be_issued (sayings (state_of_entries p.root before).statements) goal numbers proof cites g statements citable times found is in
+          let registered : AllByRecursion IsStatement (sayings (state_of_entries p.root before).statements) = (IsLawfulBase-lawful (authority_of_root p.root) p.root.base (events_among before) lawful).statements_formed in
+          let statements : AllByRecursion IsStatement (statements_in (book_of (state_of_entries p.root before))) = all_standing IsStatement (state_of_entries p.root before) registered in
+          let formed = granted_may_be_issued (book_of (state_of_entries p.root before)) goal numbers proof cites g statements citable times found is in
           let end = turn_ends gives p before request clock shown formed running in
           let told = told_calmly end.0 (single_not_cited gives p before request end.0 end.1 tt end.2) end.3 in (
             told.reply,
@@ -129,14 +130,14 @@ module _ (gives : ℤ → Type 0) (p : StorePass) (before : List StoreEntry) (cl
             told.not_stopped,
           )
 
-    proof_ends : ((cites : List CiteOf) × AreFound (sayings (state_of_entries p.root before).statements) numbers cites) ⊎ ((number : ℕ) × IsAbsent (sayings (state_of_entries p.root before).statements) numbers number) → Ends (tasks.Proof goal numbers proof)
+    proof_ends : IsToldOfNumbers (book_of (state_of_entries p.root before)) numbers → Ends (tasks.Proof goal numbers proof)
     proof_ends (inl found) = by_verdict found.0 found.1 (verdict (statements_of found.0) goal proof) refl
     proof_ends (inr absent) = absent_ends absent.0 absent.1
 
   by_task : (s : SessionState) (line : List ℕ) (task : LineTask) → IsTaskFormed task → IsTaskOf s line task → Ends task
   by_task s line (tasks.Reply reply) formed is = let said = said_at_once s line (tasks.Reply reply) reply is refl in reply_ends reply (had_memory_at_once reply said) (not_stopped_at_once reply said)
   by_task s line (tasks.Turn request) formed is = turn_line_ends request formed.0 formed.1
-  by_task s line (tasks.Proof goal numbers proof) formed is = proof_ends goal numbers proof formed.0 formed.1 (found_or_absent (sayings (state_of_entries p.root before).statements) numbers)
+  by_task s line (tasks.Proof goal numbers proof) formed is = proof_ends goal numbers proof formed.0 formed.1 (found_or_absent (book_of (state_of_entries p.root before)) numbers)
 
 pub line_ends : (gives : ℤ → Type 0) (p : StorePass) (s : SessionState) (line : List ℕ) (task : LineTask) (before : List StoreEntry) (clock : ℤ) → gives clock → IsNamed s.caller → IsLawful (authority_of_root p.root) p.root.base (events_among before) →
     has_stop before ≡ false → IsTaskOf s line task →

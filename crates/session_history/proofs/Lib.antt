@@ -1,7 +1,6 @@
 pub mod AskingLemmas
 pub mod CallerLemmas
 pub mod CheckpointLemmas
-pub mod CitationLemmas
 pub mod EndLemmas
 pub mod FormedLemmas
 pub mod GivenLemmas

@@ -4,19 +4,18 @@ use Rattle.std.specs.Prelude.{ℤ}
 use Rattle.std.proofs.lemmas.Bool.{cases_lt}
 use Rattle.policy_statement.specs.Messages.{login_message}
 use Rattle.policy_statement.specs.Ring.{is_accepted}
-use Rattle.proof_verifier.specs.declared.cites.Cite.{Cite}
 use Rattle.journal_core.specs.Area.{area_limit}
 use Rattle.journal_records.specs.EventSpelling.{event_spelling}
 use Rattle.access_history.specs.declared.event.Event.{Event}
 use Rattle.access_history.specs.declared.reply.StepReply.TheVariants.{Rejected, Absent}
 use Rattle.access_history.specs.declared.reply.Rejection.TheVariants.{BadSignature}
-use Rattle.access_history.specs.Authority.{sayings}
+use Rattle.access_history.specs.Books.{book_of}
 use Rattle.access_history.specs.Base.{BaseView}
-use Rattle.access_history.specs.Citing.{AreFound, IsAbsent}
 use Rattle.access_history.specs.Lawful.{IsLawful}
 use Rattle.access_history.specs.Replay.{replay}
 use Rattle.access_history.proofs.AnswerableLemmas.{has_answer}
 use Rattle.access_history.proofs.AnswerLemmas.{one_answer}
+use Rattle.access_history.proofs.CitingLemmas.{IsToldOfNumbers, found_or_absent, found_once, absent_once, absent_not_found}
 use Rattle.pcfs_store.specs.Entries.{Root, StoreEntry, happened, checkpointed, stopped, events_among, checkpoints_among, state_of_entries, used_by}
 use Rattle.checkpoint_image.specs.ImageSpelling.{image_spelling}
 use Rattle.std.specs.Option.{option_map}
@@ -27,7 +26,6 @@ use Rattle.session_history.specs.declared.reply.TurnReply.TheVariants as turn_re
 use Rattle.session_history.specs.Passes.{has_stop}
 use Rattle.session_history.specs.Turn.{StorePass, authority_of_root, AnswersTurn, steps, makes, cites, cites_none, logs_in, rejects, IsFullAfter, Turn, was_stopped, answered, full, kept, failed, without_memory, IsTurnFormed}
 use Rattle.session_history.specs.Laws.{IsUndisturbed}
-use Rattle.session_history.proofs.CitationLemmas.{found_or_absent, found_once, absent_once, absent_not_found}
 
 -- ---- some answer
 
@@ -39,7 +37,7 @@ record HasTurnAnswer (root : Root) (state : BaseView) (pass : ℕ) (clock : ℤ)
   calm : IsUndisturbed answer
 
 module _ (root : Root) (state : BaseView) (pass : ℕ) (clock : ℤ) where
-  cite_answer : (numbers : List ℕ) → ((cited : List Cite) × AreFound (sayings state.statements) numbers cited) ⊎ ((number : ℕ) × IsAbsent (sayings state.statements) numbers number) → HasTurnAnswer root state pass clock (requests.Cite numbers)
+  cite_answer : (numbers : List ℕ) → IsToldOfNumbers (book_of state) numbers → HasTurnAnswer root state pass clock (requests.Cite numbers)
   cite_answer numbers (inl found) = record { answer = turn_replies.Cited found.0; entry = None; answers = cites numbers found.0 found.1; calm = record { had_memory = λ is. cc; not_stopped = λ is. cc } }
   cite_answer numbers (inr absent) = record { answer = turn_replies.Step (Absent absent.0); entry = None; answers = cites_none numbers absent.0 absent.1; calm = record { had_memory = λ is. cc; not_stopped = λ is. cc } }
 
@@ -53,7 +51,7 @@ module _ (root : Root) (state : BaseView) (pass : ℕ) (clock : ℤ) where
       let some = has_answer (authority_of_root root) state pass clock request formed in
       record { answer = turn_replies.Step some.0; entry = option_map happened some.1; answers = steps request some.0 some.1 some.2; calm = record { had_memory = λ is. cc; not_stopped = λ is. cc } }
   turn_answer requests.Checkpoint formed = record { answer = turn_replies.Checkpointed; entry = Some (checkpointed pass); answers = makes; calm = record { had_memory = λ is. cc; not_stopped = λ is. cc } }
-  turn_answer (requests.Cite numbers) formed = cite_answer numbers (found_or_absent (sayings state.statements) numbers)
+  turn_answer (requests.Cite numbers) formed = cite_answer numbers (found_or_absent (book_of state) numbers)
   turn_answer (requests.Login who nonce signature) formed = login_answer who nonce signature (is_accepted root.ring who (login_message who nonce) signature) refl
 
 -- ---- room for another entry, or none
@@ -118,11 +116,11 @@ one_turn_answer root base events pass clock _ _ _ _ _ lawful (steps request repl
     let same = one_answer (authority_of_root root) base events pass clock request reply reply' event event' lawful answers answers' in (ap turn_replies.Step same.0, ap (option_map happened) same.1)
 one_turn_answer root base events pass clock _ _ _ _ _ lawful makes makes = (refl, refl)
 one_turn_answer root base events pass clock _ _ _ _ _ lawful (cites numbers cited found) (cites _ others found') =
-    (ap turn_replies.Cited (found_once (sayings (replay base events).statements) numbers cited others found found'), refl)
-one_turn_answer root base events pass clock _ _ _ _ _ lawful (cites numbers cited found) (cites_none _ number absent) = absurd (absent_not_found (sayings (replay base events).statements) numbers number cited absent found)
-one_turn_answer root base events pass clock _ _ _ _ _ lawful (cites_none numbers number absent) (cites _ cited found) = absurd (absent_not_found (sayings (replay base events).statements) numbers number cited absent found)
+    (ap turn_replies.Cited (found_once (book_of (replay base events)) numbers cited others found found'), refl)
+one_turn_answer root base events pass clock _ _ _ _ _ lawful (cites numbers cited found) (cites_none _ number absent) = absurd (absent_not_found (book_of (replay base events)) numbers number cited absent found)
+one_turn_answer root base events pass clock _ _ _ _ _ lawful (cites_none numbers number absent) (cites _ cited found) = absurd (absent_not_found (book_of (replay base events)) numbers number cited absent found)
 one_turn_answer root base events pass clock _ _ _ _ _ lawful (cites_none numbers number absent) (cites_none _ other absent') =
-    (ap (λ (n : ℕ). turn_replies.Step (Absent n)) (absent_once (sayings (replay base events).statements) numbers number other absent absent'), refl)
+    (ap (λ (n : ℕ). turn_replies.Step (Absent n)) (absent_once (book_of (replay base events)) numbers number other absent absent'), refl)
 one_turn_answer root base events pass clock _ _ _ _ _ lawful (logs_in who nonce signature is) (logs_in _ _ _ is') = (refl, refl)
 one_turn_answer root base events pass clock _ _ _ _ _ lawful (logs_in who nonce signature is) (rejects _ _ _ is') = absurd (true≢false (sym is ∙ is'))
 one_turn_answer root base events pass clock _ _ _ _ _ lawful (rejects who nonce signature is) (logs_in _ _ _ is') = absurd (true≢false (sym is' ∙ is))

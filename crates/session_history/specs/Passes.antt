@@ -1,15 +1,8 @@
 -- Under which number an entry of a store stands, and whether a store is stopped (this project's own).
 use Rattle.std.specs.Prelude.{◌≡◌, ℕ, List, [], ◌∷◌, Bool, true, false}
 use Rattle.std.specs.List.{AllByRecursion}
-use Rattle.access_history.specs.declared.event.Event.{Event}
-use Rattle.access_history.specs.declared.event.Event.TheVariants.{Registered, Issued, Acted}
+use Rattle.access_history.specs.Passes.{event_pass}
 use Rattle.pcfs_store.specs.Entries.{StoreEntry, happened, checkpointed, stopped}
-
--- the number of the pass in whose turn the event was kept; it is 0 if the event was read from an area
-abbrev pub event_pass : Event → ℕ
-event_pass (Registered pass statement signature) = pass
-event_pass (Issued pass cited proof grant) = pass
-event_pass (Acted pass caller op procaps moment) = pass
 
 -- the number of the pass in whose turn the entry was added
 abbrev pub entry_pass : StoreEntry → ℕ

@@ -10,7 +10,8 @@ use Rattle.access_history.specs.declared.reply.StepReply.{StepReply}
 use Rattle.access_history.specs.declared.reply.StepReply.TheVariants.{Rejected, Absent}
 use Rattle.access_history.specs.declared.reply.Rejection.TheVariants.{BadSignature}
 use Rattle.access_history.specs.Base.{BaseView}
-use Rattle.access_history.specs.Authority.{Authority, sayings}
+use Rattle.access_history.specs.Authority.{Authority}
+use Rattle.access_history.specs.Books.{book_of}
 use Rattle.access_history.specs.History.{authority_with}
 use Rattle.access_history.specs.Citing.{AreFound, IsAbsent}
 use Rattle.access_history.specs.Answer.{Answers}
@@ -41,9 +42,9 @@ pub data AnswersTurn (root : Root) (state : BaseView) (pass : ℕ) (clock : ℤ)
   steps : (request : StepRequest) (reply : StepReply) (event : Option Event) → Answers (authority_of_root root) state pass clock request reply event →
       AnswersTurn root state pass clock (requests.Step request) (turn_replies.Step reply) (option_map happened event)
   makes : AnswersTurn root state pass clock requests.Checkpoint turn_replies.Checkpointed (Some (checkpointed pass))
-  cites : (numbers : List ℕ) (cited : List Cite) → AreFound (sayings state.statements) numbers cited →
+  cites : (numbers : List ℕ) (cited : List Cite) → AreFound (book_of state) numbers cited →
       AnswersTurn root state pass clock (requests.Cite numbers) (turn_replies.Cited cited) None
-  cites_none : (numbers : List ℕ) (number : ℕ) → IsAbsent (sayings state.statements) numbers number →
+  cites_none : (numbers : List ℕ) (number : ℕ) → IsAbsent (book_of state) numbers number →
       AnswersTurn root state pass clock (requests.Cite numbers) (turn_replies.Step (Absent number)) None
   logs_in : (who nonce signature : List ℕ) → is_accepted root.ring who (login_message who nonce) signature ≡ true →
       AnswersTurn root state pass clock (requests.Login who nonce signature) turn_replies.LoggedIn None

@@ -13,7 +13,7 @@ use std::alloc::Global;
 
 /// Checks proofs. It gives the verdict, or runs out of memory.
 pub trait Checker {
-    /// Checks a proof of the goal from the cited statements.
+    /// Checks a proof of the goal from the cited statements, which are 1 to 64 by strictly rising numbers.
     fn check(
         &mut self,
         alloc: Global,
@@ -21,6 +21,7 @@ pub trait Checker {
         goal: &Goal,
         proof: &ProofTree,
     ) -> Result<Checked, CheckFault>
+        requires { AreCited cited.now }
         ensures ok { IfOk result (λ checked. checked ≡ checked_view cited.now goal.now proof.now checked.grant) }
         ensures granted { IfOk result (λ checked. IsChecked checked) }
         ensures are_cited { IfOk result (λ checked. AreCited checked.cited) }

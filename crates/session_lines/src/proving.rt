@@ -3,6 +3,7 @@
 
 ghost use Rattle.std.specs.Prelude.{◌≡◌};
 ghost use Rattle.bl_syntax.specs.Citable.{AreCitable};
+ghost use Rattle.proof_verifier.specs.Cited.{AreCited};
 ghost use Rattle.shared_store.specs.Asking.{HasSeenFault};
 ghost use Rattle.session_lines.specs.Replied.{HasDone, HasIssued};
 
@@ -32,7 +33,8 @@ fn issue<R: Wait, D: Disk, C: Clock, K: Checker>(
     proof: &ProofTree,
     checker: &mut K,
 ) -> LineReply
-    requires { pass.old.lock ≡ lock.now }
+    requires lock { pass.old.lock ≡ lock.now }
+    requires cited { AreCited cites.now }
     ensures issued { HasIssued (C.gives clock.now) cites.now goal.now proof.now pass.old pass.new result }
     ensures stopped { result ≡ LineReply.Stopped → HasSeenFault D.faults pass.new }
 {

@@ -14,7 +14,7 @@ use Rattle.pcfs_secrets.specs.declared.secrets.Secrets.{Secrets}
 use Rattle.access_history.specs.declared.event.Issue.{Issue as IssueOf}
 use Rattle.access_history.specs.declared.request.StepRequest.{StepRequest}
 use Rattle.access_history.specs.declared.request.StepRequest.TheVariants as requests
-use Rattle.access_history.specs.Authority.{sayings}
+use Rattle.access_history.specs.Books.{book_of}
 use Rattle.access_history.specs.Base.{BaseView}
 use Rattle.access_history.specs.Citing.{AreFound, IsAbsent}
 use Rattle.access_history.specs.declared.reply.StepReply.TheVariants.{Absent}
@@ -93,16 +93,16 @@ module _ (secrets : Secrets) (state : BaseView) (asker : Asker) where
     proof_of (Check goal' numbers' proof') is = absurd is
     proof_of (Do op given) is = let other = is.2 in absurd cc
 
-    pub grant_comes : (command : Command) (cites : List Cite) (g : GrantView) → IsUserTask asker.caller command (tasks.Proof goal numbers proof) → AreFound (sayings state.statements) numbers cites → verdict (statements_of cites) goal proof ≡ Ok g →
+    pub grant_comes : (command : Command) (cites : List Cite) (g : GrantView) → IsUserTask asker.caller command (tasks.Proof goal numbers proof) → AreFound (book_of state) numbers cites → verdict (statements_of cites) goal proof ≡ Ok g →
         Comes command (requests.Issue (checked_view cites goal proof g))
     grant_comes command cites g is found granted =
         subst (λ (c : Command). Comes c (requests.Issue (checked_view cites goal proof g))) (proof_of command is) (verifies goal numbers proof cites g (record { found = found; verdict_is = granted }))
 
-    pub fault_comes : (command : Command) (cites : List Cite) (fault : CheckFault) → IsUserTask asker.caller command (tasks.Proof goal numbers proof) → AreFound (sayings state.statements) numbers cites → verdict (statements_of cites) goal proof ≡ Err fault →
+    pub fault_comes : (command : Command) (cites : List Cite) (fault : CheckFault) → IsUserTask asker.caller command (tasks.Proof goal numbers proof) → AreFound (book_of state) numbers cites → verdict (statements_of cites) goal proof ≡ Err fault →
         ComesTo secrets state asker command (replied (replies.Unproved fault))
     fault_comes command cites fault is found refuted =
         subst (λ (c : Command). ComesTo secrets state asker c (replied (replies.Unproved fault))) (proof_of command is) (verifies_nothing goal numbers proof (replies.Unproved fault) (proves_none cites fault found refuted))
 
-    pub absent_comes : (command : Command) (number : ℕ) → IsUserTask asker.caller command (tasks.Proof goal numbers proof) → IsAbsent (sayings state.statements) numbers number → ComesTo secrets state asker command (replied (replies.Step (Absent number)))
+    pub absent_comes : (command : Command) (number : ℕ) → IsUserTask asker.caller command (tasks.Proof goal numbers proof) → IsAbsent (book_of state) numbers number → ComesTo secrets state asker command (replied (replies.Step (Absent number)))
     absent_comes command number is absent =
         subst (λ (c : Command). ComesTo secrets state asker c (replied (replies.Step (Absent number)))) (proof_of command is) (verifies_nothing goal numbers proof (replies.Step (Absent number)) (cites_none number absent))

@@ -1,5 +1,6 @@
 -- How a session ends, by what was taken and answered.
 use Rattle.std.proofs.Common.{◌≡◌, ◌∙◌, inr, ◌+◌, ◌≤◌, ℕ, List, [], ◌∷◌, ◌++◌, length, take, Option, None, refl, sym, ap, subst, arith, append_assoc, length-append}
+use Rattle.std.proofs.Math.Seq.{take-append-add}
 use Rattle.std.specs.Prelude.{ℤ}
 use Rattle.std.specs.List.{AllByRecursion}
 use Rattle.pcfs_ports.specs.Faults.{HasRisen}
@@ -19,7 +20,7 @@ use Rattle.pcfs_session.specs.Streams.{Streams}
 use Rattle.pcfs_session.specs.Taken.{AreTaken, AreAllTaken, IsCutAtLong}
 use Rattle.pcfs_session.specs.declared.outbox.SendFault.{SendFault}
 use Rattle.pcfs_session.specs.declared.outbox.SendFault.TheVariants.{Write, NoMemory}
-use Rattle.pcfs_session.proofs.OutboxLemmas.{GoesOut-all, GoesOut-some, HoldsSome-more}
+use Rattle.pcfs_session.proofs.OutboxLemmas.{HoldsSome-more}
 use Rattle.pcfs_session.proofs.StoredLemmas.{HasRisen-earlier}
 use Rattle.pcfs_session.proofs.TakenLemmas.{with_front-with_front, with_front-nil, ReadsToEnd-taken, AreFirst-none, AreFirst-then, AreShort-then, AreShort-open, few_rest, HasLong-then, IsBefore-long}
 use Rattle.session_service.specs.declared.session_end.SessionEnd.{SessionEnd}
@@ -29,8 +30,9 @@ use Rattle.session_service.specs.Said.{session_of, HasSaid}
 use Rattle.session_service.specs.Spoken.{IsSpoken, IsCutWithin, SpeaksPiece, EndsAtLong, long_told, long_untold, cut_before, EndsAtPiece, at_long_line, cut_short, EndsAtLast, all_answered, last_unsent}
 use Rattle.session_service.specs.SessionEnds.{Speaks, IsUnderWay, SessionReplies, SessionEnds, GoesOnToEnd, GreetsFirst}
 use Rattle.session_service.specs.SessionEnds as ends
+use Rattle.session_service.specs.Written.{but_last, HoldsButLast, HoldsUpToLast}
 use Rattle.session_service.proofs.SaidLemmas.{HasSaid-none, HasSaid-then, Speaks-said}
-use Rattle.session_service.proofs.SpokenLemmas.{out_after, some_after, none_out, IsSpoken-none, IsSpoken-then, IsCutOff-then}
+use Rattle.session_service.proofs.SpokenLemmas.{out_after, last_after, none_out, IsSpoken-none, IsSpoken-then, IsCutOff-then}
 
 -- the count of the faults of the output rose, if a reply was not written
 risen_write : (fault : SendFault) (before after : ℕ) → (unsent_end fault ≡ session_ends.WriteFault → HasRisen before after) → fault ≡ Write → HasRisen before after
@@ -58,7 +60,7 @@ module _ {D : Type 0} (faults : D → ℕ) (gives : ℤ → Type 0) (nonce : Lis
       ends.rest_cut_short NoMemory after [] (λ is. absurd cc)
       (ends.while_reading [] (record { bytes = []; rest = []; taken = with_front-nil before.left ∙ ap (with_front []) (sym left); first = AreFirst-none []; few = omega arith })
       (Speaks-said faults gives nonce None old old [] [] (HasSaid-none faults gives (session_of nonce None) old)))
-      (none_out before.held after.held [] held)
+      (none_out before.held after.held held)
 
   -- the bytes of a piece are taken too
   also_taken : (open_line piece : List ℕ) (lines : List (List ℕ)) (left left_after : Option (List ℕ)) → before.left ≡ with_front (ended lines ++ open_line) left → left ≡ with_front piece left_after →
@@ -157,7 +159,7 @@ module _ {D : Type 0} (faults : D → ℕ) (gives : ℤ → Type 0) (nonce : Lis
           (out_after before.held held after.held r.spoken.answers (answers ++ TooLong ∷ []) r.spoken.out out)
       before_long _ lines more small risen has (long_untold answers fault said some) =
           ends.rest_cut_at_long_line fault after (r.spoken.answers ++ (answers ++ TooLong ∷ [])) (risen_write fault before.write_faults after.write_faults risen) (with_long lines answers more small has said)
-          (some_after before.held held after.held r.spoken.answers (answers ++ TooLong ∷ []) r.spoken.out some)
+          (last_after before.held held after.held r.spoken.answers (answers ++ TooLong ∷ []) r.spoken.out some)
       before_long _ lines more small risen has (cut_before fault w) = at_line fault more small risen (within_long lines has w)
 
       pub GoesOnToEnd-piece : (how : SessionEnd) → left ≡ with_front piece after.left → length piece ≤ 65536 → (how ≡ session_ends.WriteFault → HasRisen before.write_faults after.write_faults) → EndsAtPiece faults gives nonce open_line piece caller now new caller_after held after.held how →
@@ -203,7 +205,7 @@ module _ {D : Type 0} (faults : D → ℕ) (gives : ℤ → Type 0) (nonce : Lis
       (ends.cut_short fault after [] risen
       (ends.while_reading [] (record { bytes = []; rest = []; taken = with_front-nil before.left ∙ ap (with_front []) (sym left); first = AreFirst-none []; few = omega arith })
       (Speaks-said faults gives nonce None pass pass [] [] (HasSaid-none faults gives (session_of nonce None) pass)))
-      (HoldsSome-more before.held after.held (greeted nonce) (output_of []) some))
+      (record { some = HoldsSome-more before.held after.held (greeted nonce) (output_of []) some; earlier = λ not_none. absurd (not_none refl) }))
 
   module _ (old new : PassView (LockEntry D)) (before mid after : Streams) (same : mid.left ≡ before.left) (reads : mid.read_faults ≡ before.read_faults) (later : before.write_faults ≤ mid.write_faults) (out : mid.held ≡ with_back before.held (greeted nonce)) where
     -- what was taken since is what was taken
@@ -222,8 +224,17 @@ module _ {D : Type 0} (faults : D → ℕ) (gives : ℤ → Type 0) (nonce : Lis
     out_behind : (bytes : List ℕ) → after.held ≡ with_back mid.held bytes → after.held ≡ with_back before.held ((greeted nonce) ++ bytes)
     out_behind bytes more = more ∙ ap (λ (t : Option (List ℕ)). with_back t bytes) out ∙ with_back-with_back before.held (greeted nonce) bytes
 
-    some_behind : (bytes : List ℕ) → HoldsSome mid.held after.held bytes → HoldsSome before.held after.held ((greeted nonce) ++ bytes)
-    some_behind bytes some = GoesOut-some before.held mid.held after.held (greeted nonce) [] bytes (GoesOut-all before.held mid.held (greeted nonce) [] out refl) some
+    last_behind : (answers : List LineReply) → HoldsButLast mid.held after.held answers → HoldsUpToLast nonce before.held after.held answers
+    last_behind answers last = record {
+      some = record {
+        count = length (greeted nonce) + last.some.count;
+        within = omega (arith, last.some.within, length-append (greeted nonce) (output_of answers));
+        held =
+            last.some.held ∙ ap (λ (t : Option (List ℕ)). with_back t (take last.some.count (output_of answers))) out ∙ with_back-with_back before.held (greeted nonce) (take last.some.count (output_of answers))
+            ∙ ap (with_back before.held) (sym (take-append-add (greeted nonce) (output_of answers) last.some.count));
+      };
+      earlier = λ not_none. omega (arith, last.earlier, length-append (greeted nonce) (output_of (but_last answers)));
+    }
 
     risen_before : (fault : SendFault) → (fault ≡ Write → HasRisen mid.write_faults after.write_faults) → fault ≡ Write → HasRisen before.write_faults after.write_faults
     risen_before fault risen is = HasRisen-earlier before.write_faults mid.write_faults after.write_faults later (risen is)
@@ -232,18 +243,18 @@ module _ {D : Type 0} (faults : D → ℕ) (gives : ℤ → Type 0) (nonce : Lis
       GoesOnToEnd faults gives nonce old new mid how after → SessionEnds faults gives nonce old new before how after
   SessionEnds-greeted old new before mid _ _ same reads later out (ends.rest_written how after answers replies all) =
       ends.written how after answers (replies_before old new before mid after same reads later out how answers replies) (out_behind old new before mid after same reads later out (output_of answers) all)
-  SessionEnds-greeted old new before mid _ _ same reads later out (ends.rest_cut_short fault after answers risen way some) =
+  SessionEnds-greeted old new before mid _ _ same reads later out (ends.rest_cut_short fault after answers risen way last) =
       ends.cut_short fault after answers (risen_before old new before mid after same reads later out fault risen) (way_before old new before mid after same reads later out answers way)
-      (some_behind old new before mid after same reads later out (output_of answers) some)
-  SessionEnds-greeted old new before mid _ _ same reads later out (ends.rest_cut_at_long_line fault after answers risen replies some) =
+      (last_behind old new before mid after same reads later out answers last)
+  SessionEnds-greeted old new before mid _ _ same reads later out (ends.rest_cut_at_long_line fault after answers risen replies last) =
       ends.cut_at_long_line fault after answers (risen_before old new before mid after same reads later out fault risen) (replies_before old new before mid after same reads later out session_ends.LineTooLong answers replies)
-      (some_behind old new before mid after same reads later out (output_of answers) some)
+      (last_behind old new before mid after same reads later out answers last)
 
   -- the greeting was out before the input was asked
   what_follows : (old new : PassView (LockEntry D)) (before : Streams) (how : SessionEnd) (after : Streams) → GoesOnToEnd faults gives nonce old new before how after → (more : List ℕ) × (after.held ≡ with_back before.held more)
   what_follows old new before _ _ (ends.rest_written how after answers replies all) = (output_of answers, all)
-  what_follows old new before _ _ (ends.rest_cut_short fault after answers risen way some) = (take some.count (output_of answers), some.held)
-  what_follows old new before _ _ (ends.rest_cut_at_long_line fault after answers risen replies some) = (take some.count (output_of answers), some.held)
+  what_follows old new before _ _ (ends.rest_cut_short fault after answers risen way last) = (take last.some.count (output_of answers), last.some.held)
+  what_follows old new before _ _ (ends.rest_cut_at_long_line fault after answers risen replies last) = (take last.some.count (output_of answers), last.some.held)
 
   pub GreetsFirst-greeted : (old new : PassView (LockEntry D)) (before mid after : Streams) (how : SessionEnd) → mid.held ≡ with_back before.held (greeted nonce) → GoesOnToEnd faults gives nonce old new mid how after → GreetsFirst nonce before after
   GreetsFirst-greeted old new before mid after how out goes =

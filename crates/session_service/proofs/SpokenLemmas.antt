@@ -1,5 +1,6 @@
 -- What is answered and written, line by line, and at the pieces of an input.
-use Rattle.std.proofs.Common.{◌≡◌, ◌∙◌, ◌≤◌, ℕ, List, [], ◌∷◌, ◌++◌, length, Option, false, refl, sym, ap, subst, arith}
+use Rattle.std.proofs.Common.{◌≡◌, ◌∙◌, ◌≤◌, ℕ, List, [], ◌∷◌, ◌++◌, ◌+◌, length, take, Option, false, refl, sym, ap, subst, arith, length-append}
+use Rattle.std.proofs.Math.Seq.{take-append-add}
 use Rattle.std.specs.Prelude.{ℤ}
 use Rattle.std.specs.List.{AllByRecursion}
 use Rattle.pcfs_ports.specs.Told.{with_back, HoldsSome}
@@ -20,7 +21,7 @@ use Rattle.session_lines.specs.Replied.{HasReplied}
 use Rattle.pcfs_session.specs.Taken.{AreFirst}
 use Rattle.pcfs_session.specs.declared.outbox.SendFault.{SendFault}
 use Rattle.pcfs_session.specs.declared.outbox.SendFault.TheVariants.{Write, NoMemory}
-use Rattle.pcfs_session.proofs.OutboxLemmas.{with_back-nil, GoesOut-all, GoesOut-some}
+use Rattle.pcfs_session.proofs.OutboxLemmas.{with_back-nil}
 use Rattle.pcfs_session.proofs.ScriptLemmas.{output-append, output-one}
 use Rattle.pcfs_session.proofs.TakenLemmas.{AreFirst-none, AreFirst-more, AreShort-last, few_left, same_lines}
 use Rattle.session_service.specs.declared.session_end.SessionEnd.{SessionEnd}
@@ -28,6 +29,7 @@ use Rattle.session_service.specs.declared.session_end.SessionEnd.TheVariants as 
 use Rattle.session_service.specs.Ends.{unsent_end}
 use Rattle.session_service.specs.Said.{session_of}
 use Rattle.session_service.specs.Spoken.{IsSpoken, IsCutOff, SpeaksHeld, IsCutWithin, SpeaksPiece, EndsAtLong, long_told, long_untold, cut_before, EndsAtPiece, at_long_line, cut_short, EndsAtLast, all_answered, last_unsent}
+use Rattle.session_service.specs.Written.{but_last, HoldsButLast}
 use Rattle.session_service.proofs.SaidLemmas.{HasSaid-none, HasSaid-line, HasSaid-then}
 
 -- if the output failed, it failed for a reply
@@ -42,11 +44,30 @@ pub out_after : (held between held_after : Option (List ℕ)) (answers more : Li
 out_after held between held_after answers more first next =
     next ∙ ap (λ (t : Option (List ℕ)). with_back t (output_of more)) first ∙ with_back-with_back held (output_of answers) (output_of more) ∙ ap (with_back held) (sym (output-append answers more))
 
--- some first part of them
-pub some_after : (held between held_after : Option (List ℕ)) (answers more : List LineReply) → between ≡ with_back held (output_of answers) → HoldsSome between held_after (output_of more) → HoldsSome held held_after (output_of (answers ++ more))
-some_after held between held_after answers more first some =
-    subst (HoldsSome held held_after) (sym (output-append answers more))
-    (GoesOut-some held between held_after (output_of answers) [] (output_of more) (GoesOut-all held between (output_of answers) [] first refl) some)
+-- all of these replies but the last, after others, have no more bytes than the others and all of these but the last
+but_last_length : (answers more : List LineReply) → length (output_of (but_last (answers ++ more))) ≤ length (output_of answers) + length (output_of (but_last more))
+but_last_length [] more = omega arith
+but_last_length (reply ∷ []) [] = omega arith
+but_last_length (reply ∷ []) (next ∷ more) = omega (arith, length-append (reply_text reply ++ 10 ∷ []) (output_of (but_last (next ∷ more))), length-append (reply_text reply ++ 10 ∷ []) [])
+but_last_length (reply ∷ (next ∷ answers)) more =
+    omega (arith, but_last_length (next ∷ answers) more, length-append (reply_text reply ++ 10 ∷ []) (output_of (but_last ((next ∷ answers) ++ more))), length-append (reply_text reply ++ 10 ∷ []) (output_of (next ∷ answers)))
+
+-- all of them but the last, and some first part of that
+pub last_after : (held between held_after : Option (List ℕ)) (answers more : List LineReply) → between ≡ with_back held (output_of answers) → HoldsButLast between held_after more → HoldsButLast held held_after (answers ++ more)
+last_after held between held_after answers more first last = record {
+  some = record {
+    count = length (output_of answers) + last.some.count;
+    within = omega (arith, last.some.within, ap length (output-append answers more), length-append (output_of answers) (output_of more));
+    held =
+        last.some.held ∙ ap (λ (t : Option (List ℕ)). with_back t (take last.some.count (output_of more))) first ∙ with_back-with_back held (output_of answers) (take last.some.count (output_of more))
+        ∙ ap (with_back held) (sym (take-append-add (output_of answers) (output_of more) last.some.count) ∙ ap (take (length (output_of answers) + last.some.count)) (sym (output-append answers more)));
+  };
+  earlier = omega (arith, but_last_length answers more, last.earlier);
+}
+
+-- of one reply there is none before it
+pub one_last : (held held_after : Option (List ℕ)) (reply : LineReply) → HoldsSome held held_after (output_of (reply ∷ [])) → HoldsButLast held held_after (reply ∷ [])
+one_last held held_after reply some = record { some = some; earlier = omega arith }
 
 -- the line of one reply
 pub one_told : (held held_after : Option (List ℕ)) (collected : List ℕ) (reply : LineReply) → collected ≡ [] → held_after ≡ with_back held (collected ++ (reply_text reply ++ 10 ∷ [])) → held_after ≡ with_back held (output_of (reply ∷ []))
@@ -57,8 +78,12 @@ some_told held held_after collected reply empty some =
     subst (HoldsSome held held_after) (sym (output-one reply)) (subst (λ (b : List ℕ). HoldsSome held held_after (b ++ (reply_text reply ++ 10 ∷ []))) empty some)
 
 -- nothing was written
-pub none_out : (held held_after : Option (List ℕ)) (bytes : List ℕ) → held_after ≡ held → HoldsSome held held_after bytes
-none_out held held_after bytes same = record { count = 0; within = omega arith; held = same ∙ with_back-nil held }
+pub nothing_out : (held held_after : Option (List ℕ)) (bytes : List ℕ) → held_after ≡ held → HoldsSome held held_after bytes
+nothing_out held held_after bytes same = record { count = 0; within = omega arith; held = same ∙ with_back-nil held }
+
+-- no reply was written, and there is none
+pub none_out : (held held_after : Option (List ℕ)) → held_after ≡ held → HoldsButLast held held_after []
+none_out held held_after same = record { some = record { count = 0; within = omega arith; held = same ∙ with_back-nil held }; earlier = omega arith }
 
 module _ {D : Type 0} (faults : D → ℕ) (gives : ℤ → Type 0) (nonce : List ℕ) where
   -- ---- lines
@@ -74,7 +99,7 @@ module _ {D : Type 0} (faults : D → ℕ) (gives : ℤ → Type 0) (nonce : Lis
   pub IsCutOff-line : (line : List ℕ) (caller : Option (List ℕ)) (old new : PassView (LockEntry D)) (caller_after held held_after : Option (List ℕ)) (reply : LineReply) → HasReplied gives (session_of nonce caller) line old new (session_of nonce caller_after) reply → (reply ≡ replies.Stopped → HasSeenFault faults new) →
       HoldsSome held held_after (output_of (reply ∷ [])) → IsCutOff faults gives nonce (line ∷ []) caller old new caller_after held held_after
   IsCutOff-line line caller old new caller_after held held_after reply r fault some =
-      record { answers = reply ∷ []; said = HasSaid-line faults gives (session_of nonce caller) line old new (session_of nonce caller_after) reply r fault; some = some }
+      record { answers = reply ∷ []; said = HasSaid-line faults gives (session_of nonce caller) line old new (session_of nonce caller_after) reply r fault; some = one_last held held_after reply some }
 
   module _ (lines others : List (List ℕ)) (caller : Option (List ℕ)) (old between new : PassView (LockEntry D)) (caller_between caller_after held held_between held_after : Option (List ℕ)) (one : IsSpoken faults gives nonce lines caller old between caller_between held held_between) where
     pub IsSpoken-then : IsSpoken faults gives nonce others caller_between between new caller_after held_between held_after → IsSpoken faults gives nonce (lines ++ others) caller old new caller_after held held_after
@@ -88,7 +113,7 @@ module _ {D : Type 0} (faults : D → ℕ) (gives : ℤ → Type 0) (nonce : Lis
     IsCutOff-then other = record {
       answers = one.answers ++ other.answers;
       said = HasSaid-then faults gives (session_of nonce caller) (session_of nonce caller_between) (session_of nonce caller_after) old between new lines others one.answers other.answers one.said other.said;
-      some = some_after held held_between held_after one.answers other.answers one.out other.some;
+      some = last_after held held_between held_after one.answers other.answers one.out other.some;
     }
 
   -- ---- the lines that a framer holds
@@ -155,7 +180,7 @@ module _ {D : Type 0} (faults : D → ℕ) (gives : ℤ → Type 0) (nonce : Lis
     EndsAtLong-untold lines bytes left fault how is whole same all some =
         let s = all_lines caller old new caller_after held between lines bytes left whole same all in
         subst (EndsAtLong faults gives nonce lines caller old new caller_after held held_after) (sym is)
-        (long_untold s.answers fault s.said (some_after held between held_after s.answers (replies.TooLong ∷ []) s.out some))
+        (long_untold s.answers fault s.said (last_after held between held_after s.answers (replies.TooLong ∷ []) s.out (one_last between held_after replies.TooLong some)))
 
   -- ---- a piece
 
@@ -189,7 +214,7 @@ module _ {D : Type 0} (faults : D → ℕ) (gives : ℤ → Type 0) (nonce : Lis
         lines = [];
         rest = before ++ piece;
         first = AreFirst-none (before ++ piece);
-        cut = record { answers = []; said = HasSaid-none faults gives (session_of nonce caller) pass; some = none_out held held [] refl };
+        cut = record { answers = []; said = HasSaid-none faults gives (session_of nonce caller) pass; some = none_out held held refl };
       })
 
   -- ---- the last line

@@ -11,7 +11,7 @@ use Rattle.proof_verifier.specs.Verdict.{verdict}
 use Rattle.pcfs_secrets.specs.declared.secrets.Secrets.{Secrets}
 use Rattle.access_history.specs.declared.request.StepRequest.{StepRequest}
 use Rattle.access_history.specs.declared.request.StepRequest.TheVariants.{Issue}
-use Rattle.access_history.specs.Authority.{sayings}
+use Rattle.access_history.specs.Books.{book_of}
 use Rattle.access_history.specs.Base.{BaseView}
 use Rattle.access_history.specs.declared.reply.StepReply.TheVariants.{Absent}
 use Rattle.access_history.specs.Citing.{AreFound, IsAbsent}
@@ -46,19 +46,19 @@ TurnsAskWhatCommandsComeTo = (secrets : Secrets) (state : BaseView) (asker : Ask
 -- a proof that grants its goal, from the statements found in a state, asks for the issue that a look at that state makes of the command
 abbrev pub ProofsAskWhatCommandsComeTo : Type 0
 ProofsAskWhatCommandsComeTo = (secrets : Secrets) (state : BaseView) (asker : Asker) (command : Command) (goal : Goal) (numbers : List ℕ) (proof : ProofView) (cites : List Cite) (g : GrantView) →
-    IsUserTask asker.caller command (tasks.Proof goal numbers proof) → AreFound (sayings state.statements) numbers cites → verdict (statements_of cites) goal proof ≡ Ok g →
+    IsUserTask asker.caller command (tasks.Proof goal numbers proof) → AreFound (book_of state) numbers cites → verdict (statements_of cites) goal proof ≡ Ok g →
     ComesTo secrets state asker command (requested (Issue (checked_view cites goal proof g)))
 
 -- and one with a fault comes to the same reply
 abbrev pub FaultsAreWhatCommandsComeTo : Type 0
 FaultsAreWhatCommandsComeTo = (secrets : Secrets) (state : BaseView) (asker : Asker) (command : Command) (goal : Goal) (numbers : List ℕ) (proof : ProofView) (cites : List Cite) (fault : CheckFault) →
-    IsUserTask asker.caller command (tasks.Proof goal numbers proof) → AreFound (sayings state.statements) numbers cites → verdict (statements_of cites) goal proof ≡ Err fault →
+    IsUserTask asker.caller command (tasks.Proof goal numbers proof) → AreFound (book_of state) numbers cites → verdict (statements_of cites) goal proof ≡ Err fault →
     ComesTo secrets state asker command (replied (replies.Unproved fault))
 
 -- and statements that are not there come to the same reply
 abbrev pub AbsencesAreWhatCommandsComeTo : Type 0
 AbsencesAreWhatCommandsComeTo = (secrets : Secrets) (state : BaseView) (asker : Asker) (command : Command) (goal : Goal) (numbers : List ℕ) (proof : ProofView) (number : ℕ) →
-    IsUserTask asker.caller command (tasks.Proof goal numbers proof) → IsAbsent (sayings state.statements) numbers number → ComesTo secrets state asker command (replied (replies.Step (Absent number)))
+    IsUserTask asker.caller command (tasks.Proof goal numbers proof) → IsAbsent (book_of state) numbers number → ComesTo secrets state asker command (replied (replies.Step (Absent number)))
 
 -- and a turn that makes a checkpoint is one of a command that comes to it, and is by `admin`
 abbrev pub CheckpointsAreWhatCommandsComeTo : Type 0

@@ -4,4 +4,5 @@ pub mod Ends
 pub mod Laws
 pub mod Said
 pub mod Spoken
+pub mod Written
 pub mod SessionEnds

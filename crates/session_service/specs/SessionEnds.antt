@@ -1,7 +1,7 @@
 -- How a session ends: what was taken, what was written, and where its replies are placed in the history that others grow too. If the input does not tell what it has, or the output what it holds, nothing is said of that (this project's own).
 use Rattle.std.specs.Prelude.{◌≡◌, ◌⊎◌, ℕ, ◌≤◌, ℤ, List, [], ◌∷◌, ◌++◌}
 use Rattle.pcfs_ports.specs.Faults.{HasRisen}
-use Rattle.pcfs_ports.specs.Told.{with_back, ReadsToEnd, TakesFirst, HoldsSome}
+use Rattle.pcfs_ports.specs.Told.{with_back, ReadsToEnd, TakesFirst}
 use Rattle.line_text.specs.Lines.{lines_of}
 use Rattle.line_framer.specs.Feeding.{AreShort}
 use Rattle.line_wire.specs.declared.reply.LineReply.{LineReply}
@@ -23,6 +23,7 @@ use Rattle.session_service.specs.declared.session_end.SessionEnd.{SessionEnd}
 use Rattle.session_service.specs.declared.session_end.SessionEnd.TheVariants.{Done, LineTooLong, ReadFault, InputTooLong}
 use Rattle.session_service.specs.Ends.{unsent_end}
 use Rattle.session_service.specs.Said.{SaysStopped}
+use Rattle.session_service.specs.Written.{HoldsButLast, HoldsUpToLast}
 
 module _ {D : Type 0} (faults : D → ℕ) (gives : ℤ → Type 0) (nonce : List ℕ) where
   -- A session with this nonce answered these lines, from one moment of its pass to a later one. In each history that begins with what the pass has seen then, the replies are placed after all that it had seen at first; and
@@ -48,22 +49,22 @@ module _ {D : Type 0} (faults : D → ℕ) (gives : ℤ → Type 0) (nonce : Lis
     read_fault : (lines : List (List ℕ)) (answers : List LineReply) → HasRisen before.read_faults after.read_faults → AreAllTaken before.left after.left lines → Speaks old new lines answers → SessionReplies old new before after ReadFault answers
     input_too_long : (lines : List (List ℕ)) (answers : List LineReply) → TakesFirst 1073741824 before.left after.left → AreAllTaken before.left after.left lines → Speaks old new lines answers → SessionReplies old new before after InputTooLong answers
 
-  -- How a session ends: the greeting and all those replies were written; or the output failed or memory ran out, and some first part was written of the greeting and of the replies to the first lines, or to these and a line that is
-  -- too long.
+  -- How a session ends: the greeting and all those replies were written. Or the output failed or memory ran out: some first part was written of the greeting, and no line was answered; or the greeting was written, and of the lines
+  -- that were answered all replies but the last, of which some first part was, or that the next line is too long.
   pub data SessionEnds (old new : PassView (LockEntry D)) (before : Streams) : SessionEnd → Streams → Type 0 where
     written : (how : SessionEnd) (after : Streams) (answers : List LineReply) → SessionReplies old new before after how answers → after.held ≡ with_back before.held (session_output nonce answers) → SessionEnds old new before how after
     cut_short : (fault : SendFault) (after : Streams) (answers : List LineReply) → (fault ≡ Write → HasRisen before.write_faults after.write_faults) → IsUnderWay old new before after answers →
-        HoldsSome before.held after.held (session_output nonce answers) → SessionEnds old new before (unsent_end fault) after
+        HoldsUpToLast nonce before.held after.held answers → SessionEnds old new before (unsent_end fault) after
     cut_at_long_line : (fault : SendFault) (after : Streams) (answers : List LineReply) → (fault ≡ Write → HasRisen before.write_faults after.write_faults) → SessionReplies old new before after LineTooLong answers →
-        HoldsSome before.held after.held (session_output nonce answers) → SessionEnds old new before (unsent_end fault) after
+        HoldsUpToLast nonce before.held after.held answers → SessionEnds old new before (unsent_end fault) after
 
   -- The same after the greeting is out.
   pub data GoesOnToEnd (old new : PassView (LockEntry D)) (before : Streams) : SessionEnd → Streams → Type 0 where
     rest_written : (how : SessionEnd) (after : Streams) (answers : List LineReply) → SessionReplies old new before after how answers → after.held ≡ with_back before.held (output_of answers) → GoesOnToEnd old new before how after
     rest_cut_short : (fault : SendFault) (after : Streams) (answers : List LineReply) → (fault ≡ Write → HasRisen before.write_faults after.write_faults) → IsUnderWay old new before after answers →
-        HoldsSome before.held after.held (output_of answers) → GoesOnToEnd old new before (unsent_end fault) after
+        HoldsButLast before.held after.held answers → GoesOnToEnd old new before (unsent_end fault) after
     rest_cut_at_long_line : (fault : SendFault) (after : Streams) (answers : List LineReply) → (fault ≡ Write → HasRisen before.write_faults after.write_faults) → SessionReplies old new before after LineTooLong answers →
-        HoldsSome before.held after.held (output_of answers) → GoesOnToEnd old new before (unsent_end fault) after
+        HoldsButLast before.held after.held answers → GoesOnToEnd old new before (unsent_end fault) after
 
 -- Nothing is asked of the input before the greeting is out: nothing was taken of it and it had no fault, or the output holds the greeting with its end.
 abbrev pub GreetsFirst : List ℕ → Streams → Streams → Type 0

@@ -1,6 +1,6 @@
 -- What calls do that answer lines of a session, from one moment to a later one (this project's own).
 use Rattle.std.specs.Prelude.{◌≡◌, ℕ, ℤ, List, [], ◌∷◌, ◌++◌, Option}
-use Rattle.pcfs_ports.specs.Told.{with_back, HoldsSome}
+use Rattle.pcfs_ports.specs.Told.{with_back}
 use Rattle.line_text.specs.Lines.{lines_of}
 use Rattle.line_text.specs.Words.{HasNo}
 use Rattle.line_framer.specs.Framing.{ended}
@@ -17,6 +17,7 @@ use Rattle.session_service.specs.declared.session_end.SessionEnd.{SessionEnd}
 use Rattle.session_service.specs.declared.session_end.SessionEnd.TheVariants.{Done, LineTooLong}
 use Rattle.session_service.specs.Ends.{unsent_end}
 use Rattle.session_service.specs.Said.{session_of, HasSaid}
+use Rattle.session_service.specs.Written.{HoldsButLast}
 
 module _ {D : Type 0} (faults : D → ℕ) (gives : ℤ → Type 0) (nonce : List ℕ) where
   -- lines are answered, and their replies were written
@@ -25,11 +26,11 @@ module _ {D : Type 0} (faults : D → ℕ) (gives : ℤ → Type 0) (nonce : Lis
     pub said : HasSaid faults gives (session_of nonce caller) old new lines answers (session_of nonce caller_after)
     pub out : held_after ≡ with_back held (output_of answers)
 
-  -- lines are answered, and of their replies some first part was written
+  -- lines are answered, and all their replies were written but the last, of which some first part was
   pub record IsCutOff (lines : List (List ℕ)) (caller : Option (List ℕ)) (old new : PassView (LockEntry D)) (caller_after : Option (List ℕ)) (held held_after : Option (List ℕ)) : Type 0 where
     pub answers : List LineReply
     pub said : HasSaid faults gives (session_of nonce caller) old new lines answers (session_of nonce caller_after)
-    pub some : HoldsSome held held_after (output_of answers)
+    pub some : HoldsButLast held held_after answers
 
   -- the lines of these bytes that have their end are answered, and these bytes are left
   pub record SpeaksHeld (bytes left : List ℕ) (caller : Option (List ℕ)) (old new : PassView (LockEntry D)) (caller_after : Option (List ℕ)) (held held_after : Option (List ℕ)) : Type 0 where
@@ -49,11 +50,11 @@ module _ {D : Type 0} (faults : D → ℕ) (gives : ℤ → Type 0) (nonce : Lis
   abbrev pub SpeaksPiece : List ℕ → List ℕ → List ℕ → Option (List ℕ) → PassView (LockEntry D) → PassView (LockEntry D) → Option (List ℕ) → Option (List ℕ) → Option (List ℕ) → Type 0
   SpeaksPiece before piece left caller old new caller_after held held_after = SpeaksHeld (before ++ piece) left caller old new caller_after held held_after
 
-  -- how a session ends after these lines, since the next one is too long: that was written after their replies; or of all that some first part
+  -- how a session ends after these lines, since the next one is too long: that was written after their replies; or some first part of that
   pub data EndsAtLong (lines : List (List ℕ)) (caller : Option (List ℕ)) (old new : PassView (LockEntry D)) (caller_after : Option (List ℕ)) (held held_after : Option (List ℕ)) : SessionEnd → Type 0 where
     long_told : (answers : List LineReply) → HasSaid faults gives (session_of nonce caller) old new lines answers (session_of nonce caller_after) → held_after ≡ with_back held (output_of (answers ++ TooLong ∷ [])) →
         EndsAtLong lines caller old new caller_after held held_after LineTooLong
-    long_untold : (answers : List LineReply) (fault : SendFault) → HasSaid faults gives (session_of nonce caller) old new lines answers (session_of nonce caller_after) → HoldsSome held held_after (output_of (answers ++ TooLong ∷ [])) →
+    long_untold : (answers : List LineReply) (fault : SendFault) → HasSaid faults gives (session_of nonce caller) old new lines answers (session_of nonce caller_after) → HoldsButLast held held_after (answers ++ TooLong ∷ []) →
         EndsAtLong lines caller old new caller_after held held_after (unsent_end fault)
     cut_before : (fault : SendFault) → IsCutWithin (ended lines) caller old new caller_after held held_after → EndsAtLong lines caller old new caller_after held held_after (unsent_end fault)
 

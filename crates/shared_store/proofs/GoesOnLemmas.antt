@@ -72,6 +72,7 @@ module _ {D : Type 0} (clock : D → ℕ) (left_since : D → ℕ → List ℕ �
     key_stays = refl;
     ring_stays = refl;
     base_stays = refl;
+    opened_stays = refl;
     events_go_on = ([], append-nil s.events);
     lawful = λ lawful. lawful;
     checkpoints_go_on = ([], append-nil s.checkpoints);
@@ -128,14 +129,15 @@ module _ {D : Type 0} (clock : D → ℕ) (left_since : D → ℕ → List ℕ �
   module _ (opening : StoreView D) where
     -- the store did not change but in its active disk and its events, and is not stopped
     running_on : (old new : StoreView D) (pass : ℕ) (moment : ℤ) (request : StepRequest) (result : StoreReply) → HasGoneOn clock left_since image faults opening old → Stepped old pass moment request result new → old.stop ≡ None → new.stop ≡ None →
-        result ≢ stores.Stopped → new.key ≡ old.key → new.ring ≡ old.ring → new.base ≡ old.base → IsPrefix opening.events new.events →
+        result ≢ stores.Stopped → new.key ≡ old.key → new.ring ≡ old.ring → new.base ≡ old.base → new.opened ≡ old.opened → IsPrefix opening.events new.events →
         (IsLawful (authority_of_store opening) opening.base opening.events → IsLawful (authority_of_store new) new.base new.events) → new.checkpoints ≡ old.checkpoints → new.generation ≡ old.generation → new.second_active ≡ old.second_active → new.other ≡ old.other →
         HasGoneOn clock left_since image faults opening new
-    running_on old new pass moment request result g s was is going key ring base events lawful checkpoints generation place other = record {
+    running_on old new pass moment request result g s was is going key ring base opened events lawful checkpoints generation place other = record {
       began = g.began;
       key_stays = key ∙ g.key_stays;
       ring_stays = ring ∙ g.ring_stays;
       base_stays = base ∙ g.base_stays;
+      opened_stays = opened ∙ g.opened_stays;
       events_go_on = events;
       lawful = lawful;
       checkpoints_go_on = (g.checkpoints_go_on.0, g.checkpoints_go_on.1 ∙ sym checkpoints);
@@ -155,17 +157,18 @@ module _ {D : Type 0} (clock : D → ℕ) (left_since : D → ℕ → List ℕ �
     by_step : (old new : StoreView D) (pass : ℕ) (moment : ℤ) (request : StepRequest) (result : StoreReply) → IsMoment moment → IsWellFormed request → HasGoneOn clock left_since image faults opening old → Steps faults old pass moment request result new → Stepped old pass moment request result new →
         HasGoneOn clock left_since image faults opening new
     by_step old _ pass moment request _ at formed g (steps.answered reply running goes) s =
-        running_on old old pass moment request (stores.Step reply) g s running running (λ is. cc) refl refl refl g.events_go_on g.lawful refl refl refl refl
+        running_on old old pass moment request (stores.Step reply) g s running running (λ is. cc) refl refl refl refl g.events_go_on g.lawful refl refl refl refl
     by_step old _ pass moment request _ at formed g (steps.kept reply event active running goes room) s =
-        running_on old (steps.with_event old event active) pass moment request (stores.Step reply) g s running running (λ is. cc) refl refl refl (events_stay opening.events old.events g.events_go_on event)
+        running_on old (steps.with_event old event active) pass moment request (stores.Step reply) g s running running (λ is. cc) refl refl refl refl (events_stay opening.events old.events g.events_go_on event)
         (λ first. lawful_more (authority_of_store old) old.base old.events pass moment request reply event at formed (λ many. room (inr many)) goes (g.lawful first)) refl refl refl refl
     by_step old _ pass moment request _ at formed g (steps.full reply event running goes is_full) s =
-        running_on old old pass moment request stores.Full g s running running (λ is. cc) refl refl refl g.events_go_on g.lawful refl refl refl refl
+        running_on old old pass moment request stores.Full g s running running (λ is. cc) refl refl refl refl g.events_go_on g.lawful refl refl refl refl
     by_step old _ pass moment request _ at formed g (steps.failed reply event active running goes room risen) s = record {
       began = g.began;
       key_stays = g.key_stays;
       ring_stays = g.ring_stays;
       base_stays = g.base_stays;
+      opened_stays = g.opened_stays;
       events_go_on = g.events_go_on;
       lawful = g.lawful;
       checkpoints_go_on = g.checkpoints_go_on;
@@ -220,6 +223,7 @@ module _ {D : Type 0} (clock : D → ℕ) (left_since : D → ℕ → List ℕ �
     key_stays = g.key_stays;
     ring_stays = g.ring_stays;
     base_stays = g.base_stays;
+    opened_stays = g.opened_stays;
     events_go_on = g.events_go_on;
     lawful = g.lawful;
     checkpoints_go_on =
@@ -242,6 +246,7 @@ module _ {D : Type 0} (clock : D → ℕ) (left_since : D → ℕ → List ℕ �
     key_stays = g.key_stays;
     ring_stays = g.ring_stays;
     base_stays = g.base_stays;
+    opened_stays = g.opened_stays;
     events_go_on = g.events_go_on;
     lawful = g.lawful;
     checkpoints_go_on = g.checkpoints_go_on;

@@ -5,23 +5,17 @@ use Rattle.std.proofs.lemmas.List.{map-append}
 use mathlib.Core.List.{IsPrefix}
 use Rattle.tree_lock.specs.Entries.{AllOfNumber}
 use Rattle.access_history.specs.declared.event.Event.{Event}
-use Rattle.access_history.specs.declared.event.Event.TheVariants.{Registered, Issued, Acted}
-use Rattle.journal_records.specs.EventSpelling.{erase, IsReadEvent}
+use Rattle.access_history.proofs.PassLemmas.{pass_none}
+use Rattle.journal_records.specs.EventSpelling.{IsReadEvent}
 use Rattle.pcfs_store.specs.Entries.{StoreEntry, happened, checkpointed, stopped, stop_entries, merged}
 use Rattle.pcfs_store.specs.declared.checkpoints.Checkpoint.{Checkpoint}
 use Rattle.pcfs_store.specs.StoreView.{StoreView}
-use Rattle.session_history.specs.Passes.{event_pass, AllOfPass}
+use Rattle.session_history.specs.Passes.{AllOfPass}
 use Rattle.shared_store.specs.declared.entry.LockEntry.{LockEntry}
 use Rattle.shared_store.specs.declared.entry.LockEntry.TheVariants.{Opened, Happened, Checkpointed, Stopped}
 use Rattle.shared_store.specs.LockHistory.{numbered_entry, numbered, lock_history, lock_entries, bare}
 
--- an event that was read has pass 0
-pass_none : (event : Event) → erase event ≡ event → event_pass event ≡ 0
-pass_none (Registered pass statement signature) same = cc
-pass_none (Issued pass cited proof grant) same = cc
-pass_none (Acted pass caller op procaps moment) same = cc
-
--- so has each entry of a store that was read
+-- each entry of a store that was read has pass 0
 read_numbers : (D : Type 0) (events : List Event) (stop : Option ℕ) → AllByRecursion IsReadEvent events → stop ≡ None → AllOfNumber 0 (numbered {D = D} (map happened events ++ stop_entries stop))
 read_numbers D [] None each running = tt
 read_numbers D [] (Some pass) each running = absurd cc

@@ -1,5 +1,5 @@
 -- What a store does in a turn, as a turn over its entries.
-use Rattle.std.proofs.Common.{◌≡◌, ◌∙◌, ◌⊎◌, inl, inr, ℕ, ◌+◌, ◌-◌, ◌^◌, ◌<◌, ◌≤◌, length, length-append, arith, List, [], ◌∷◌, ◌++◌, take, drop, map, append_assoc, Bool, true, false, Option, Some, None, refl, sym, ap, subst, append-nil}
+use Rattle.std.proofs.Common.{◌≡◌, ◌∙◌, inl, inr, ℕ, ◌+◌, ◌-◌, ◌^◌, ◌<◌, ◌≤◌, length, length-append, arith, List, [], ◌∷◌, ◌++◌, take, drop, map, append_assoc, Bool, true, false, Option, Some, None, refl, sym, ap, subst, append-nil}
 use Rattle.std.specs.Prelude.{ℤ, ◌↔◌, IsTrue, IsSome, is_some}
 use Rattle.std.proofs.lemmas.Bool.{false≢true}
 use Rattle.policy_statement.specs.Messages.{login_message}
@@ -10,7 +10,7 @@ use Rattle.access_history.specs.declared.request.StepRequest.{StepRequest}
 use Rattle.access_history.specs.declared.reply.StepReply.{StepReply}
 use Rattle.access_history.specs.declared.reply.StepReply.TheVariants.{Absent, Rejected}
 use Rattle.access_history.specs.declared.reply.Rejection.TheVariants.{BadSignature}
-use Rattle.access_history.specs.Authority.{sayings}
+use Rattle.access_history.specs.Books.{book_of}
 use Rattle.access_history.specs.Base.{BaseView}
 use Rattle.access_history.specs.Answer.{Answers}
 use Rattle.access_history.specs.Citing.{AreFound, IsAbsent}
@@ -106,7 +106,7 @@ module _ {D : Type 0} (clock : D → ℕ) (left_since : D → ℕ → List ℕ �
 
   -- and the bytes that they ask for are those of its area
   used_is : IsStore now → now.used ≡ used_by (root_of opening) (entries_of now)
-  used_is store = used-since opening now g.base_stays store
+  used_is store = used-since opening now g.base_stays g.opened_stays store
 
   full_there : (event : Event) → IsStore now → IsFullFor now event → IsFullAfter (root_of opening) (entries_of now) (happened event)
   full_there event store is_full =
@@ -220,28 +220,28 @@ module _ {D : Type 0} (clock : D → ℕ) (left_since : D → ℕ → List ℕ �
   pub look_no_memory : (request : TurnRequest) → Looks request turn_replies.NoMemory
   look_no_memory request pass moment = turns.without_memory
 
-  pub look_cited : (numbers : List ℕ) (cited : List Cite) → is_some now.stop ≡ false → AreFound (sayings (replay now.base now.events).statements) numbers cited → Looks (requests.Cite numbers) (turn_replies.Cited cited)
+  pub look_cited : (numbers : List ℕ) (cited : List Cite) → is_some now.stop ≡ false → AreFound (book_of (replay now.base now.events)) numbers cited → Looks (requests.Cite numbers) (turn_replies.Cited cited)
   look_cited numbers cited running found pass moment =
-      turns.answered moment (turn_replies.Cited cited) (runs now running) refl (turns.cites numbers cited (subst (λ (s : BaseView). AreFound (sayings s.statements) numbers cited) (sym state_is) found))
+      turns.answered moment (turn_replies.Cited cited) (runs now running) refl (turns.cites numbers cited (subst (λ (s : BaseView). AreFound (book_of s) numbers cited) (sym state_is) found))
 
-  pub look_absent : (numbers : List ℕ) (number : ℕ) → is_some now.stop ≡ false → IsAbsent (sayings (replay now.base now.events).statements) numbers number → Looks (requests.Cite numbers) (turn_replies.Step (Absent number))
+  pub look_absent : (numbers : List ℕ) (number : ℕ) → is_some now.stop ≡ false → IsAbsent (book_of (replay now.base now.events)) numbers number → Looks (requests.Cite numbers) (turn_replies.Step (Absent number))
   look_absent numbers number running absent pass moment =
-      turns.answered moment (turn_replies.Step (Absent number)) (runs now running) refl (turns.cites_none numbers number (subst (λ (s : BaseView). IsAbsent (sayings s.statements) numbers number) (sym state_is) absent))
+      turns.answered moment (turn_replies.Step (Absent number)) (runs now running) refl (turns.cites_none numbers number (subst (λ (s : BaseView). IsAbsent (book_of s) numbers number) (sym state_is) absent))
 
   -- what the gate says of numbers
   citation_here : (gate : GateView) (shown numbers : List ℕ) (citation given : Citation) → gate ≡ record { key = now.key; ring = now.ring; base = now.base; events = now.events; pending = None } → shown ≡ numbers → citation ≡ given →
-      GivesCitation (sayings (replay gate.base gate.events).statements) shown citation → GivesCitation (sayings (replay now.base now.events).statements) numbers given
+      GivesCitation (book_of (replay gate.base gate.events)) shown citation → GivesCitation (book_of (replay now.base now.events)) numbers given
   citation_here gate shown numbers citation given gate_is shown_is is gives =
-      subst (λ (c : Citation). GivesCitation (sayings (replay now.base now.events).statements) numbers c) is
-      (subst (λ (ns : List ℕ). GivesCitation (sayings (replay now.base now.events).statements) ns citation) shown_is
-      (subst (λ (h : GateView). GivesCitation (sayings (replay h.base h.events).statements) shown citation) gate_is gives))
+      subst (λ (c : Citation). GivesCitation (book_of (replay now.base now.events)) numbers c) is
+      (subst (λ (ns : List ℕ). GivesCitation (book_of (replay now.base now.events)) ns citation) shown_is
+      (subst (λ (h : GateView). GivesCitation (book_of (replay h.base h.events)) shown citation) gate_is gives))
 
   pub look_told_cited : (gate : GateView) (shown numbers : List ℕ) (citation : Citation) (cited : List Cite) → is_some now.stop ≡ false → gate ≡ record { key = now.key; ring = now.ring; base = now.base; events = now.events; pending = None } → shown ≡ numbers →
-      citation ≡ citations.Cited cited → GivesCitation (sayings (replay gate.base gate.events).statements) shown citation → Looks (requests.Cite numbers) (turn_replies.Cited cited)
+      citation ≡ citations.Cited cited → GivesCitation (book_of (replay gate.base gate.events)) shown citation → Looks (requests.Cite numbers) (turn_replies.Cited cited)
   look_told_cited gate shown numbers citation cited running gate_is shown_is is gives = look_cited numbers cited running (citation_here gate shown numbers citation (citations.Cited cited) gate_is shown_is is gives)
 
   pub look_told_absent : (gate : GateView) (shown numbers : List ℕ) (citation : Citation) (number : ℕ) → is_some now.stop ≡ false → gate ≡ record { key = now.key; ring = now.ring; base = now.base; events = now.events; pending = None } → shown ≡ numbers →
-      citation ≡ citations.Absent number → GivesCitation (sayings (replay gate.base gate.events).statements) shown citation → Looks (requests.Cite numbers) (turn_replies.Step (Absent number))
+      citation ≡ citations.Absent number → GivesCitation (book_of (replay gate.base gate.events)) shown citation → Looks (requests.Cite numbers) (turn_replies.Step (Absent number))
   look_told_absent gate shown numbers citation number running gate_is shown_is is gives = look_absent numbers number running (citation_here gate shown numbers citation (citations.Absent number) gate_is shown_is is gives)
 
   -- what the ring says of a login

@@ -41,7 +41,7 @@ pub data HasMet {D : Type 0} (clock : D → ℕ) (left_since : D → ℕ → Lis
   in_a_checkpoint : StopsNow clock left_since image s (SurvivesWholeClosed s.base s.events) → HasMet clock left_since image s pass
 
 module _ {D : Type 0} (clock : D → ℕ) (left_since : D → ℕ → List ℕ → Type 0) (image : D → Option (List ℕ)) (faults : D → ℕ) where
-  -- The store was opened as `opening`, and is `now`. Key, ring and base are the same, and the events are those of the opening with others after them; if the former are lawful, so are all. Checkpoints were added at the end: with each the
+  -- The store was opened as `opening`, and is `now`. Key, ring, base and the image that was opened are the same, and the events are those of the opening with others after them; if the former are lawful, so are all. Checkpoints were added at the end: with each the
   -- generation grew by one, and the disks changed their places; as long as none was made, the other disk is not touched, or one was tried in which it failed. While no disk has failed, a store that was ready is ready, and what a read gives
   -- stands for its history. If one has, a count rose above the one at the opening; and of a store that was ready a crash leaves the history, or, in a step, with it the event that met the fault, which a request of the pass that stopped it asked for.
   pub record HasGoneOn (opening now : StoreView D) : Type 0 where
@@ -49,6 +49,7 @@ module _ {D : Type 0} (clock : D → ℕ) (left_since : D → ℕ → List ℕ �
     pub key_stays : now.key ≡ opening.key
     pub ring_stays : now.ring ≡ opening.ring
     pub base_stays : now.base ≡ opening.base
+    pub opened_stays : now.opened ≡ opening.opened
     pub events_go_on : IsPrefix opening.events now.events
     pub lawful : IsLawful (authority_of_store opening) opening.base opening.events → IsLawful (authority_of_store now) now.base now.events
     pub checkpoints_go_on : IsPrefix opening.checkpoints now.checkpoints

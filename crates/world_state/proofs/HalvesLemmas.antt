@@ -1,6 +1,6 @@
 -- The halves of a world, and what an operation does to both.
-use Rattle.std.proofs.Common.{◌≡◌, ℕ, List, [], ◌∷◌, map, None, Result, Ok, Err, refl, sym, ◌∙◌, ap, subst}
-use Rattle.std.specs.Prelude.{IsTrue}
+use Rattle.std.proofs.Common.{◌≡◌, ℕ, List, [], ◌∷◌, map, Option, None, Result, Ok, Err, refl, sym, ◌∙◌, ap, ap₂, subst}
+use Rattle.std.specs.Prelude.{IsTrue, OnErr}
 use Rattle.bl_syntax.specs.Names.{is_principal_name}
 use Rattle.file_world.specs.declared.operation.Op.{Op}
 use Rattle.file_world.specs.declared.operation.Op.TheVariants.{Read, Write, Truncate, List as ListOf, Lookup, Create, Mkdir, Unlink, Rename, Getattr, Setattr, Delattr, Chown}
@@ -14,10 +14,12 @@ use Rattle.file_world.specs.Laws.{HalvesKeepStep}
 use Rattle.file_world.specs.Tree.{FileTree}
 use Rattle.file_world.specs.World.{Item, World, IsWorld, node_of, mark_of, tree_of, marks_of}
 use Rattle.file_world.proofs.HalvesLemmas.{halves_after, IsWorld-after}
+use Rattle.file_tree.specs.declared.ready.Ready.{Ready as TreeReady}
 use Rattle.file_tree.specs.State.{TreeView}
+use Rattle.attr_state.specs.declared.ready.MetaReady.{MetaReady}
 use Rattle.attr_state.specs.State.{MetaView}
 use Rattle.world_state.specs.Halves.{joined_rows, joined, AreHalves, halves_refusal, halves_reply, IsAskedOf, HalvesReserve, op_in}
-use Rattle.world_state.specs.State.{WorldState, tree_state, meta_state, AreReady, IsWorldReady, ReservesWorld}
+use Rattle.world_state.specs.State.{Readiness, nothing_ready, WorldState, tree_state, meta_state, AreReady, IsWorldReady, ReservesWorld}
 
 joined_rows-halves : (rows : List (ℕ × Item)) → joined_rows (map (λ row. (row.0, node_of row.1)) rows) (map (λ row. (row.0, mark_of row.1)) rows) ≡ rows
 joined_rows-halves [] = refl
@@ -108,6 +110,16 @@ IsReady-free caller state op ready = sym (refusal-halves state.world (part_of op
 
 abbrev pub shown : TreeView → MetaView → WorldState
 shown tree meta = record { world = joined tree.tree meta.marks; ready = record { tree = tree.ready; meta = meta.ready } }
+
+-- neither half is ready for anything
+pub nothing_shown : (tree : TreeView) (meta : MetaView) → tree.ready ≡ None → meta.ready ≡ None → (shown tree meta).ready ≡ nothing_ready
+nothing_shown tree meta tree_none meta_none =
+    ap₂ (λ (t : Option TreeReady) (m : Option MetaReady). let ready : Readiness = record { tree = t; meta = m } in ready) tree_none meta_none
+
+pub given_up_shown : (answer : Result OpReply OpFault) (tree : TreeView) (meta : MetaView) → OnErr answer (tree.ready ≡ None) → OnErr answer (meta.ready ≡ None) →
+    OnErr answer ((shown tree meta).ready ≡ nothing_ready)
+given_up_shown (Ok told) tree meta tree_none meta_none = tt
+given_up_shown (Err fault) tree meta tree_none meta_none = nothing_shown tree meta tree_none meta_none
 
 pub tree_shown : (tree : TreeView) (meta : MetaView) (state : WorldState) → AreHalves tree.tree meta.marks → shown tree meta ≡ state → tree ≡ tree_state state
 tree_shown tree meta state halves is =

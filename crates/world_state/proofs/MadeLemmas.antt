@@ -12,8 +12,8 @@ use Rattle.node_rows.specs.declared.rows.RowsFault.TheVariants.{NotTree, NoMemor
 use Rattle.file_tree.specs.State.{TreeView, directories_of_nodes, MakesTree}
 use Rattle.attr_state.specs.State.{MetaView, directories_of_marks, MakesMarks}
 use Rattle.world_state.specs.Halves.{item_of, joined_rows, joined, AreHalves}
-use Rattle.world_state.specs.Made.{HaveSameNodes, settled, JoinsHalves, world_of_rows, MakesWorld}
-use Rattle.world_state.specs.State.{WorldState}
+use Rattle.world_state.specs.Made.{HaveSameNodes, JoinsHalves, world_of_rows, MakesWorld}
+use Rattle.world_state.specs.State.{WorldState, settled}
 use Rattle.world_state.proofs.HalvesLemmas.{shown}
 
 -- ---- rows of the same nodes

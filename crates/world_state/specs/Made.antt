@@ -1,5 +1,5 @@
 -- What a world is made of: two halves, or rows (this project's own).
-use Rattle.std.specs.Prelude.{◌≡◌, ℕ, List, [], ◌∷◌, Bool, true, false, None, Result, Ok, Err}
+use Rattle.std.specs.Prelude.{◌≡◌, ℕ, List, [], ◌∷◌, Bool, true, false, Result, Ok, Err}
 use Rattle.file_world.specs.Attributes.{Marks}
 use Rattle.file_world.specs.Tree.{FileTree}
 use Rattle.file_world.specs.World.{World, IsWorld}
@@ -11,15 +11,11 @@ use Rattle.node_rows.specs.Rows.{item_rows, AreOfSameNodes}
 use Rattle.file_tree.specs.State.{directories_of_nodes}
 use Rattle.attr_state.specs.State.{directories_of_marks}
 use Rattle.world_state.specs.Halves.{joined}
-use Rattle.world_state.specs.State.{WorldState}
+use Rattle.world_state.specs.State.{WorldState, settled}
 
 -- the tree and the marks have the same nodes, each in the same directory
 abbrev pub HaveSameNodes : FileTree → Marks → Type 0
 HaveSameNodes tree marks = directories_of_nodes tree.rows ≡ directories_of_marks marks
-
--- a world that is ready for nothing
-abbrev pub settled : World → WorldState
-settled world = record { world = world; ready = record { tree = None; meta = None } }
 
 -- the world of the two halves, which have the same nodes; or they differ
 abbrev pub JoinsHalves : FileTree → Marks → Result WorldState RowsFault → Type 0

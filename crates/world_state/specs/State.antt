@@ -22,6 +22,13 @@ pub record WorldState : Type 0 where
   pub world : World
   pub ready : Readiness
 
+abbrev pub nothing_ready : Readiness
+nothing_ready = record { tree = None; meta = None }
+
+-- a world that is ready for nothing
+abbrev pub settled : World → WorldState
+settled world = record { world = world; ready = nothing_ready }
+
 -- the tree, and what it is ready to change
 abbrev pub tree_state : WorldState → TreeView
 tree_state state = record { tree = tree_of state.world; ready = state.ready.tree }

@@ -1,6 +1,6 @@
 //! What an operation does to both halves of the world.
 
-ghost use Rattle.std.specs.Prelude.{◌≡◌, List, ℕ};
+ghost use Rattle.std.specs.Prelude.{◌≡◌, List, None, OnErr, ℕ};
 ghost use Rattle.file_tree.specs.State.{TreeView, child_or_none};
 ghost use Rattle.file_world.specs.AttributeEffect.{IsAskable};
 ghost use Rattle.file_world.specs.Effect.{tree_part, meta_part};
@@ -76,8 +76,8 @@ fn reserve_meta(meta: &mut Meta, alloc: Global, op: &MetaOp) -> Result<OpReply, 
     Ok(OpReply::Meta(reply))
 }
 
-/// The reply of an operation, with all memory taken in both halves, or its first refusal. Tree and marks stay.
-pub fn reserve(
+// The reply of an operation, with all memory taken in both halves, or its first refusal.
+fn reserve_half(
     tree: &mut Tree,
     meta: &mut Meta,
     alloc: Global,
@@ -95,20 +95,53 @@ pub fn reserve(
     }
 }
 
-/// Makes the change of an operation for which both halves are ready. It takes no memory.
+/// The reply of an operation, with all memory taken in both halves, or its first refusal. Tree and marks stay. After a
+/// fault neither half is ready for anything.
+pub fn reserve(
+    tree: &mut Tree,
+    meta: &mut Meta,
+    alloc: Global,
+    caller: &Principal,
+    half: &Half,
+) -> Result<OpReply, OpFault>
+    requires { IsAskedOf caller.now tree.old.tree meta.old.marks (part_in half.now) }
+    ensures tree { tree.new.tree ≡ tree.old.tree }
+    ensures meta { meta.new.marks ≡ meta.old.marks }
+    ensures answer { HalvesReserve caller.now tree.old.tree meta.old.marks (part_in half.now) result tree.new meta.new }
+    ensures tree_given_up { OnErr result (tree.new.ready ≡ None) }
+    ensures meta_given_up { OnErr result (meta.new.ready ≡ None) }
+{
+    match reserve_half(tree, meta, alloc, caller, half) {
+        Ok(reply) => Ok(reply),
+        Err(fault) => {
+            tree.forget();
+            meta.forget();
+            Err(fault)
+        }
+    }
+}
+
+/// Makes the change of an operation for which both halves are ready; then neither is ready for anything. It takes no
+/// memory.
 pub fn apply(tree: &mut Tree, meta: &mut Meta, caller: &Principal, half: &Half)
     requires { AreReady caller.now tree.old meta.old (part_in half.now) }
     ensures tree { tree.new.tree ≡ tree_half_after tree.old.tree (part_in half.now) }
     ensures meta { meta.new.marks ≡ marks_followed meta.old.marks (meta_op_of caller.now tree.old.tree (part_in half.now)) }
+    ensures tree_ready { tree.new.ready ≡ None }
+    ensures meta_ready { meta.new.ready ≡ None }
 {
     match half {
         Half::Tree(op) => {
             let follower = follower(tree, caller, op);
             tree.apply(op);
-            if let Some(follower) = follower {
-                meta.apply(&follower);
+            match follower {
+                None => meta.forget(),
+                Some(follower) => meta.apply(&follower),
             }
         }
-        Half::Meta(op) => meta.apply(op),
+        Half::Meta(op) => {
+            tree.forget();
+            meta.apply(op);
+        }
     }
 }

@@ -1,12 +1,12 @@
 //! The world and its calls.
 
-ghost use Rattle.std.specs.Prelude.{◌≡◌, IfOk};
+ghost use Rattle.std.specs.Prelude.{◌≡◌, IfOk, OnErr};
 ghost use Rattle.file_world.specs.Effect.{world_after};
 ghost use Rattle.file_world.specs.Facts.{facts};
 ghost use Rattle.file_world.specs.World.{IsWorld, fresh_world};
 ghost use Rattle.node_rows.specs.Rows.{item_rows, AreOfSameNodes};
 ghost use Rattle.world_state.specs.Made.{JoinsHalves, MakesWorld};
-ghost use Rattle.world_state.specs.State.{IsWorldReady, ReservesWorld, meta_state, tree_state};
+ghost use Rattle.world_state.specs.State.{IsWorldReady, ReservesWorld, meta_state, nothing_ready, settled, tree_state};
 
 use crate::half::{half_of, is_operation, op_of};
 use crate::halves::{apply, reserve};
@@ -44,7 +44,7 @@ impl Model for World {
 impl World {
     /// The world with the root alone, which `admin` owns.
     pub fn new(alloc: Global) -> Result<World, NoMemory>
-        ensures { IfOk result (λ world. world.world ≡ fresh_world) }
+        ensures { IfOk result (λ world. world ≡ settled fresh_world) }
     {
         let tree = Tree::new(alloc)?;
         let meta = Meta::new(alloc)?;
@@ -111,8 +111,8 @@ impl World {
     }
 
     /// The reply of the caller's operation, with all memory taken for its change, or its first refusal; and the
-    /// operation, which is given back. The world stays. A half that has no part in the
-    /// operation stays ready for what it was.
+    /// operation, which is given back. The world stays. A half that has no part in the operation stays ready for what it
+    /// was; after a fault nothing is ready.
     pub fn reserve(
         &mut self,
         alloc: Global,
@@ -122,17 +122,19 @@ impl World {
         ensures same { self.new.world ≡ self.old.world }
         ensures op { result.0 ≡ op }
         ensures answer { ReservesWorld caller.now self.old.world op result.1 self.new }
+        ensures given_up { OnErr result.1 (self.new.ready ≡ nothing_ready) }
     {
         let half = half_of(op);
         let answer = reserve(&mut self.tree, &mut self.meta, alloc, caller, &half);
         (op_of(half), answer)
     }
 
-    /// Makes the change of the caller's operation, for which the world is ready, and gives the operation back. It takes
-    /// no memory.
+    /// Makes the change of the caller's operation, for which the world is ready, and gives the operation back. Then nothing
+    /// is ready. It takes no memory.
     pub fn apply(&mut self, caller: &Principal, op: Op) -> Op
         requires { IsWorldReady caller.now self.old op }
         ensures world { self.new.world ≡ world_after caller.now self.old.world op }
+        ensures ready { self.new.ready ≡ nothing_ready }
         ensures op { result ≡ op }
     {
         let _ = caller.bytes();
@@ -142,9 +144,9 @@ impl World {
         op_of(half)
     }
 
-    /// An equal world in memory of its own. What it is ready to change is not copied.
+    /// An equal world in memory of its own, with nothing ready.
     pub fn copy(&self) -> Result<World, NoMemory>
-        ensures { IfOk result (λ copied. copied.world ≡ self.now.world) }
+        ensures { IfOk result (λ copied. copied ≡ settled self.now.world) }
     {
         let tree = self.tree.copy()?;
         let meta = self.meta.copy()?;

@@ -8,7 +8,6 @@ use Rattle.access_history.specs.History.{authority_of, state_of}
 use Rattle.op_gate.proofs.AdmitLemmas.{damaged_shape, damaged_falls, damaged_not_admitted}
 use Rattle.op_gate.proofs.CheckLemmas.{is_so, is_not_so}
 use Rattle.op_gate.proofs.admit.early_damage.Goals as goal
-use Rattle.op_gate.proofs.admit.early_damage.Goals.{then-procaps-slots-via-then-procaps-slots, then-procaps-slots-via-else-procaps-slots+then-bytes_to_write-gt-MOST_BYTES}
 
 pub returns-then-not-is_moment : goal.returns-then-not-is_moment
 returns-then-not-is_moment c = λ pass caller.
@@ -21,12 +20,9 @@ returns-then-moment c = λ pass caller.
     (subst IsMoment (to_z-of_z w64 c.args.moment c.ranges.moment) (is_so _ _ c.is_moment.ensures c.if-not-is_moment.false))
     (λ not_before. omega (arith, ints, not_before, c.if-moment.true, c.moment.ensures))
 
-pub returns-then-procaps-slots : goal.returns-then-procaps-slots
-returns-then-procaps-slots c = λ pass caller.
+pub returns-then-not-brings_enough : goal.returns-then-not-brings_enough
+returns-then-not-brings_enough c = λ pass caller.
     damaged_not_admitted (authority_of c.args.history.now) (state_of c.args.history.now) c.requires pass caller c.args.op.now c.args.procaps.now c.args.moment
     (subst IsMoment (to_z-of_z w64 c.args.moment c.ranges.moment) (is_so _ _ c.is_moment.ensures c.if-not-is_moment.false))
     (omega (arith, ints, c.if-moment.false, c.moment.ensures))
-    (elim c.then-procaps-slots.branch [
-      | then-procaps-slots-via-then-procaps-slots w ↦ λ takes. omega (arith, takes.slots, c.slots.ensures, w.if-procaps-slots.true)
-      | then-procaps-slots-via-else-procaps-slots+then-bytes_to_write-gt-MOST_BYTES w ↦ λ takes. omega (arith, takes.few_bytes, w.bytes_to_write.ensures, w.if-bytes_to_write-gt-MOST_BYTES.true)
-    ])
+    (λ takes. is_not_so _ _ c.brings_enough.ensures c.if-not-brings_enough.true takes.brought)

@@ -4,10 +4,10 @@ use Rattle.op_gate.proofs.AdmitLemmas.{same_checked, other_grant}
 use Rattle.op_gate.proofs.CheckLemmas.{is_so, is_not_so}
 use Rattle.op_gate.proofs.admit.granting.Goals as goal
 
-pub returns-then-is_same_grant : goal.returns-then-is_same_grant
-returns-then-is_same_grant c =
-    same_checked c.args.checked c.args.grant.now c.grant.ensures.kept c.requires (sym c.grant.ensures.same ∙ is_so _ _ c.is_same_grant.ensures c.if-is_same_grant.true)
+pub returns-then-is_same : goal.returns-then-is_same
+returns-then-is_same c =
+    same_checked c.args.checked c.args.grant.now c.grant.ensures.kept c.requires (sym c.grant.ensures.same ∙ is_so _ _ c.is_same.ensures.decides c.if-is_same.true)
 
-pub returns-else-is_same_grant : goal.returns-else-is_same_grant
-returns-else-is_same_grant c =
-    other_grant c.args.checked c.args.grant.now c.grant.ensures.kept c.requires (λ same. is_not_so _ _ c.is_same_grant.ensures c.if-is_same_grant.false (c.grant.ensures.same ∙ same))
+pub returns-else-is_same : goal.returns-else-is_same
+returns-else-is_same c =
+    other_grant c.args.checked c.args.grant.now c.grant.ensures.kept c.requires (λ same. is_not_so _ _ c.is_same.ensures.decides c.if-is_same.false (c.grant.ensures.same ∙ same))

@@ -2,13 +2,18 @@
 use Rattle.std.proofs.Common.{sym, subst}
 use Rattle.std.specs.Prelude.{Result}
 use Rattle.access_history.specs.Authority.{sayings}
+use Rattle.access_history.specs.Books.{whole_book}
 use Rattle.access_history.specs.Citing.{IsGoodIssue}
+use Rattle.access_history.proofs.CitingLemmas.{AreCited-found}
 use Rattle.op_gate.specs.declared.damage.AdmitFault.{AdmitFault}
 use Rattle.op_gate.specs.declared.damage.Damage.TheVariants.{Unproved}
 use Rattle.op_gate.specs.BaseTests.{TellsTest}
 use Rattle.op_gate.proofs.BaseDamageLemmas.{issue_good, issue_unchecked, issue_uncited}
 use Rattle.op_gate.proofs.base.test_issue.Goals as goal
 use Rattle.op_gate.proofs.base.test_issue.Goals.{in-Ok-check_again, in-Err-check_again}
+
+pub check_again-requires : goal.check_again-requires
+check_again-requires c = AreCited-found (whole_book (sayings c.args.entries.now)) c.as_slice.result.now c.in-Ok.cites c.in-Ok.ensures.1 c.in-Ok.ensures.0
 
 pub returns-after-check_again : goal.returns-after-check_again
 returns-after-check_again c =

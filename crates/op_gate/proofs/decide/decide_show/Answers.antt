@@ -2,7 +2,8 @@
 use Rattle.std.proofs.Common.{sym, ◌∙◌}
 use Rattle.std.proofs.lemmas.Bool.{false≢true}
 use Rattle.access_history.specs.History.{authority_of, state_of}
-use Rattle.op_gate.specs.Issued.{IsProcapOf, HasNone}
+use Rattle.access_history.specs.Numbered.{HasNone}
+use Rattle.op_gate.specs.Issued.{IsProcapOf}
 use Rattle.op_gate.proofs.IssuedLemmas.{found_some, found_none, shown_decided, hidden_decided, absent_decided}
 use Rattle.op_gate.proofs.decide.decide_show.Goals as goal
 

@@ -10,14 +10,14 @@ use Rattle.pcfs_audit.proofs.grants.is_among.Goals as goal
 pub loop-other-init : goal.loop-other-init
 loop-other-init c = among_none c.args.grants.now c.args.grant.now
 
-pub returns-then-is_same_grant : goal.returns-then-is_same_grant
-returns-then-is_same_grant c = (
-  λ yes. subst (Contains (shown c.args.grants.now)) (is_so _ _ c.is_same_grant.ensures c.if-is_same_grant.true) (Contains-shown c.args.grants.now c.loop-other.other-index c.other-item.result c.loop-other-test.true c.other-item.is),
+pub returns-then-is_same : goal.returns-then-is_same
+returns-then-is_same c = (
+  λ yes. subst (Contains (shown c.args.grants.now)) (is_so _ _ c.is_same.ensures.decides c.if-is_same.true) (Contains-shown c.args.grants.now c.loop-other.other-index c.other-item.result c.loop-other-test.true c.other-item.is),
   λ here. refl,
 )
 
 pub loop-other-preserved : goal.loop-other-preserved
-loop-other-preserved c = among_more c.args.grants.now c.loop-other.other-index c.other-item.result c.args.grant.now c.loop-other-test.true c.other-item.is (is_not_so _ _ c.is_same_grant.ensures c.if-is_same_grant.false) c.loop-other.invariant
+loop-other-preserved c = among_more c.args.grants.now c.loop-other.other-index c.other-item.result c.args.grant.now c.loop-other-test.true c.other-item.is (is_not_so _ _ c.is_same.ensures.decides c.if-is_same.false) c.loop-other.invariant
 
 pub returns : goal.returns
 returns c = is_false (among_all c.args.grants.now c.loop-other.other-index c.args.grant.now (omega (arith, c.loop-other-test.false)) c.loop-other.invariant)

@@ -1,11 +1,16 @@
 -- Each number is looked up among the statements.
-use Rattle.std.proofs.Common.{refl, arith, ◌∙◌, subst, List}
+use Rattle.std.proofs.Common.{refl, arith, subst, List}
 use Rattle.std.proofs.lemmas.List.{take_all}
+use Rattle.access_history.specs.Books.{whole_book}
 use Rattle.access_history.specs.Citing.{AreFound}
+use Rattle.op_gate.proofs.CheckLemmas.{is_so, is_not_so}
 use Rattle.pcfs_audit.specs.Papers.{shown}
-use Rattle.pcfs_audit.proofs.CitesLemmas.{beyond_absent, found_more, no_statement, theirs_or_none, zero_absent}
+use Rattle.pcfs_audit.proofs.CitesLemmas.{beyond_absent, found_more, no_statement, not_citable, theirs, zero_absent}
 use Rattle.pcfs_audit.proofs.issues.cite.Goals as goal
 use Rattle.pcfs_audit.proofs.issues.cite.Goals.{then-number-eq0-via-then-number-eq0, then-number-eq0-via-else-number-eq0+then-statements-number}
+
+pub returns-then-not-are_citable : goal.returns-then-not-are_citable
+returns-then-not-are_citable c = not_citable (shown c.args.statements.now) c.args.numbers.now (is_not_so _ _ c.are_citable.ensures c.if-not-are_citable.true)
 
 pub returns-then-number-eq0 : goal.returns-then-number-eq0
 returns-then-number-eq0 c =
@@ -22,6 +27,6 @@ loop-number-preserved c =
 
 pub returns : goal.returns
 returns c =
-    theirs_or_none (shown c.args.statements.now) c.args.numbers.now c.loop-number.cites.items c.new.result
-    (subst (λ (ns : List _). AreFound (shown c.args.statements.now) ns c.loop-number.cites.items) (take_all c.loop-number.number-index c.args.numbers.now (omega (arith, c.loop-number-test.false))) c.loop-number.invariant)
-    c.new.ensures.some c.new.ensures.same
+    theirs (shown c.args.statements.now) c.args.numbers.now c.loop-number.cites.items c.new.result c.new.ensures
+    (subst (λ (ns : List _). AreFound (whole_book (shown c.args.statements.now)) ns c.loop-number.cites.items) (take_all c.loop-number.number-index c.args.numbers.now (omega (arith, c.loop-number-test.false))) c.loop-number.invariant)
+    (is_so _ _ c.are_citable.ensures c.if-not-are_citable.false)

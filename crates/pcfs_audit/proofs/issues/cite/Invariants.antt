@@ -1,8 +1,9 @@
 -- The statements of the numbers so far.
 use Rattle.std.proofs.Common.{take}
+use Rattle.access_history.specs.Books.{whole_book}
 use Rattle.access_history.specs.Citing.{AreFound}
 use Rattle.pcfs_audit.specs.Papers.{shown}
 use Rattle.pcfs_audit.proofs.issues.cite.Given as goal
 
 abbrev pub invariant-loop-number : goal.invariant-loop-number
-invariant-loop-number l = AreFound (shown l.statements) (take l.number-index l.numbers) l.cites.items
+invariant-loop-number l = AreFound (whole_book (shown l.statements)) (take l.number-index l.numbers) l.cites.items

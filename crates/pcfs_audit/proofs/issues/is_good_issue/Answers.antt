@@ -4,6 +4,9 @@ use Rattle.pcfs_audit.specs.Papers.{shown}
 use Rattle.pcfs_audit.proofs.CitesLemmas.{good_by_cites, is_false}
 use Rattle.pcfs_audit.proofs.issues.is_good_issue.Goals as goal
 
+pub is_granted-requires : goal.is_granted-requires
+is_granted-requires c = let theirs = rw c.in-Ok-Some.field-0-is at c.in-Ok-Some.ensures in theirs.cited
+
 pub returns-in-Ok-Some : goal.returns-in-Ok-Some
 returns-in-Ok-Some c =
     IfOk-then c.is_granted.result _ _ c.is_granted.ensures

@@ -4,11 +4,11 @@ use Rattle.std.proofs.lemmas.Bool.{false≢true}
 use Rattle.std.specs.Prelude.{codes}
 use Rattle.line_text.specs.Lines.{lines_of}
 use Rattle.bl_syntax.specs.Statement.{StatementView}
-use Rattle.proof_verifier.specs.Cited.{statements_of}
+use Rattle.proof_verifier.specs.Cited.{AreCited, statements_of}
 use Rattle.proof_verifier.specs.Verdict.{verdict}
 use Rattle.pcfs_inquiry.specs.Answers.{HasLongLine, InquiryEnds, answered, bad_line, bad_line_text, long_line, read_fault, too_long, verdict_text}
 use Rattle.pcfs_inquiry.specs.Inquiry.{HasFirstFault, IsInquiry}
-use Rattle.pcfs_inquiry.proofs.InquiryLemmas.{ends_with, statements_of-numbered}
+use Rattle.pcfs_inquiry.proofs.InquiryLemmas.{AreCited-numbered, ends_with, statements_of-numbered}
 use Rattle.pcfs_inquiry.proofs.answering.answer_input.Goals as goal
 
 pub returns-in-Err-Failed : goal.returns-in-Err-Failed
@@ -26,6 +26,11 @@ returns-then-has_long_line g c =
     ends_with c.end_with-then-has_long_line.result c.line_with-then-has_long_line.result 2 (codes "bad 3") (InquiryEnds (g.I.Source.left c.args.input.now) (g.I.Source.left c.read_to_end.new.input) (g.I.Source.faults c.args.input.now) (g.I.Source.faults c.read_to_end.new.input))
     c.end_with-then-has_long_line.ensures.status c.end_with-then-has_long_line.ensures.line c.line_with-then-has_long_line.ensures
     (long_line _ c.in-Ok.ensures.ok (subst (λ (bytes : List ℕ). HasLongLine (lines_of bytes)) c.as_slice.ensures (c.has_long_line.ensures.0 c.if-has_long_line.true)))
+
+pub answer-requires : goal.answer-requires
+answer-requires g c =
+    let read = c.in-Ok-read_inquiry.ensures in
+    subst AreCited (sym read.cites_are) (AreCited-numbered read.statements read.is_inquiry.some read.is_inquiry.few)
 
 pub returns-in-Ok-read_inquiry : goal.returns-in-Ok-read_inquiry
 returns-in-Ok-read_inquiry g c =

@@ -6,16 +6,11 @@ use Rattle.line_forms.specs.declared.asked.Line.TheVariants as asked
 use Rattle.proof_verifier.specs.declared.cites.Cite.{Cite}
 use Rattle.pcfs_inquiry.specs.Inquiry.{HasFirstFault}
 use Rattle.pcfs_inquiry.specs.Reading.{IsAskedAfter, IsUnread, IsUnreadAfter, fault_at}
-use Rattle.pcfs_inquiry.proofs.InquiryLemmas.{AreCited-next, IsEnding-next, IsReading, IsReading-more, IsReading-none, IsUnread-next, no_goal_left}
+use Rattle.pcfs_inquiry.proofs.InquiryLemmas.{IsEnding-next, IsReading, IsReading-more, IsReading-none, IsUnread-next, no_goal_left}
 use Rattle.pcfs_inquiry.proofs.reading.read_inquiry.Goals as goal
 
 pub loop-line-init : goal.loop-line-init
 loop-line-init c = subst (λ (cs : List Cite). IsReading (lines_of c.args.input.now) cs c.args.input.now) (sym c.new-cites.ensures.items) (IsReading-none c.args.input.now)
-
-pub with_goal-requires : goal.with_goal-requires
-with_goal-requires c =
-    AreCited-next (lines_of c.args.input.now) c.loop-line.cites.items c.loop-line.rest.now c.in-Some.line.now c.in-Ok-Goal.goal c.in-Ok-Goal.proof c.loop-line.invariant
-    (subst (λ (n : ℕ). IsAskedAfter n c.in-Some.line.now (asked.Goal c.in-Ok-Goal.goal c.in-Ok-Goal.proof)) (ap length c.as_slice-count.ensures.value) (rw c.in-Ok-Goal.field-0-is at c.in-Ok-Goal.ensures))
 
 pub returns-in-Ok-Goal : goal.returns-in-Ok-Goal
 returns-in-Ok-Goal c =

@@ -1,6 +1,6 @@
-use Rattle.std.proofs.Common.{◌≡◌, ap, ◌∙◌, refl}
-use Rattle.bl_syntax.specs.Grant.{GrantView}
-use Rattle.procap.proofs.ReadingLemmas.{head_stops, times_stop, states_stop, grant_is_read}
+use Rattle.std.proofs.Common.{◌≡◌, ap, ◌∙◌}
+use Rattle.bl_syntax.specs.Grant.{GrantView, MayName}
+use Rattle.procap.proofs.ReadingLemmas.{head_stops, times_stop, states_stop, grant_is_read, unnamed, read_before}
 use Rattle.procap.proofs.reading.grant_at.Goals as goal
 
 pub returns-in-Err : goal.returns-in-Err
@@ -17,5 +17,8 @@ pub returns : goal.returns
 returns c =
     let goal_is : c.states_at.new.grant.goal ≡ c.in-Ok.goal =
     ap (λ (g : GrantView). g.goal) c.in-Ok-states_at.ensures.others ∙ ap (λ (g : GrantView). g.goal) c.in-Ok-times_at.ensures.others ∙ ap (λ (g : GrantView). g.goal) c.new-grant.ensures in
+    let none : MayName c.states_at.new.grant.cited =
+    ap (λ (g : GrantView). g.cited) c.in-Ok-states_at.ensures.others ∙ ap (λ (g : GrantView). g.cited) c.in-Ok-times_at.ensures.others ∙ ap (λ (g : GrantView). g.cited) c.new-grant.ensures in
     let times_are : c.states_at.new.grant.times ≡ c.times_at.new.grant.times = ap (λ (g : GrantView). g.times) c.in-Ok-states_at.ensures.others in
-    rw (grant_is_read c.args.input c.args.bytes.now c.in-Ok.rest.now c.in-Ok-times_at.rest.now c.in-Ok-states_at.rest.now c.in-Ok.goal c.times_at.new.grant.times c.states_at.new.grant.states c.in-Ok.ensures c.in-Ok-times_at.ensures.read c.in-Ok-states_at.ensures.read, ← goal_is, ← times_are) refl
+    rw (grant_is_read c.args.input c.args.bytes.now c.in-Ok.rest.now c.in-Ok-times_at.rest.now c.in-Ok-states_at.rest.now c.in-Ok.goal c.times_at.new.grant.times c.states_at.new.grant.states c.in-Ok.ensures c.in-Ok-times_at.ensures.read c.in-Ok-states_at.ensures.read, ← goal_is, ← times_are)
+    (ap (read_before c.in-Ok-states_at.rest.now) (unnamed c.states_at.new.grant none))

@@ -1,8 +1,7 @@
 -- The descent reads the proof, and nothing may stand after it. What it reads is within the limits.
-use Rattle.std.proofs.Common.{ap, sym, ◌∙◌, subst, rules}
+use Rattle.std.proofs.Common.{sym, subst, rules}
 use Rattle.bl_text.proofs.ReadLemmas.{passed}
 use Rattle.proof_term.specs.Proof.{proof_view}
-use Rattle.proof_term.specs.Limits.{HasTimesInRange}
 use Rattle.proof_text.specs.declared.cursor.ProofCursor.{ProofCursor}
 use Rattle.proof_text.specs.Proofs.{IsProof}
 use Rattle.proof_text.specs.FirstFaults.{ProofHasFirstFault}
@@ -21,10 +20,10 @@ returns-in_err-at_end-clause-fault c =
     (subst (λ (here : ProofCursor). IsProof c.args.text.now 200 here c.in_ok-p.there (proof_view c.in_ok-p.p.value)) c.beginning.ensures c.in_ok-p.ensures.read.is_text) (sym c.in_err-at_end.ensures))
 
 pub new-requires : goal.new-requires
-new-requires c = subst HasTimesInRange (sym (ap proof_view c.into_inner.ensures)) c.in_ok-p.ensures.read.times
+new-requires c = c.in_ok-p.ensures.read.times
 
 pub returns-clause-read : goal.returns-clause-read
 returns-clause-read c =
-    subst (IsProofText c.args.text.now) (sym (c.in-Ok.ensures.same ∙ ap proof_view c.into_inner.ensures))
+    subst (IsProofText c.args.text.now) (sym c.in-Ok.ensures.same)
     (whole_proof c.in_ok-p.there
     (subst (λ (here : ProofCursor). IsProof c.args.text.now 200 here c.in_ok-p.there (proof_view c.in_ok-p.p.value)) c.beginning.ensures c.in_ok-p.ensures.read.is_text) (sym c.in_ok-at_end.ensures))

@@ -2,10 +2,17 @@
 use Rattle.std.proofs.Common.{subst}
 use Rattle.session_history.specs.declared.request.TurnRequest.{TurnRequest}
 use Rattle.session_history.specs.declared.reply.TurnReply.TheVariants.{Cited}
+use Rattle.session_history.proofs.FormedLemmas.{turn_cited}
 use Rattle.session_history.proofs.StopLemmas.{stopped_turn}
 use Rattle.shared_store.specs.Asking.{HasAsked}
+use Rattle.shared_store.specs.Turning.{pass_at}
 use Rattle.session_lines.proofs.DoneLemmas.{done_proof, done_uncited}
 use Rattle.session_lines.proofs.proving.prove.Goals as goal
+
+pub issue-requires-clause-cited : goal.issue-requires-clause-cited
+issue-requires-clause-cited g c =
+    let asked = subst (λ (r : TurnRequest). HasAsked (g.C.Clock.gives c.args.clock.now) r c.args.pass.now c.ask.new.pass (Cited c.in-Cited.cites)) c.new-request.ensures c.in-Cited.ensures.asked in
+    turn_cited (g.C.Clock.gives c.args.clock.now) (pass_at asked.root c.args.pass.now.number) asked.found c.args.numbers c.in-Cited.cites asked.given c.requires.citable asked.turn
 
 pub returns-in-Cited-clause-done : goal.returns-in-Cited-clause-done
 returns-in-Cited-clause-done g c =

@@ -3,7 +3,8 @@ use Rattle.std.specs.Prelude.{IfOk, MatchOption}
 use Rattle.std.proofs.Common.{subst}
 use Rattle.access_history.specs.Replay.{replay}
 use Rattle.op_gate.specs.Decision.{GateView}
-use Rattle.op_gate.specs.Issued.{HasNone, IsProcapOf}
+use Rattle.access_history.specs.Numbered.{HasNone}
+use Rattle.op_gate.specs.Issued.{IsProcapOf}
 use Rattle.op_gate.proofs.gate.Gate.procap.Goals as goal
 
 pub returns : goal.returns

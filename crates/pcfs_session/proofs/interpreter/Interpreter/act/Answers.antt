@@ -21,8 +21,7 @@ ask-requires-clause-well_formed g c =
     record {
       named = c.ask.invariant.1;
       operation = c.requires.operation;
-      slots = sym (same_length _ _ c.args.words.now c.add_procaps.new.procaps brought) ∙ c.requires.one_each;
-      few_bytes = c.requires.few_bytes;
+      brought = record { slots = sym (same_length _ _ c.args.words.now c.add_procaps.new.procaps brought) ∙ c.requires.one_each; few_bytes = c.requires.few_bytes };
     }
 
 pub returns-clause-ok : goal.returns-clause-ok

@@ -1,7 +1,10 @@
 -- The statements are found, and the proof is checked; or the first of these that fails is reported.
 use Rattle.std.proofs.lemmas.Result.{IfOk-weaker}
-use Rattle.pcfs_session.proofs.InterpreterLemmas.{Cites-seated, IsFollowed-check_absent, IsFollowed-check_refused, IsFollowed-check}
+use Rattle.pcfs_session.proofs.InterpreterLemmas.{AreCited-given, Cites-seated, IsFollowed-check_absent, IsFollowed-check_refused, IsFollowed-check}
 use Rattle.pcfs_session.proofs.interpreter.Interpreter.check.Goals as goal
+
+pub verdict-requires : goal.verdict-requires
+verdict-requires g c = AreCited-given _ c.args.numbers.now c.as_slice.result.now c.in_ok-number.field-0 c.in-Cited.cites c.in-Cited.is c.as_slice.ensures c.in_ok-number.ensures c.requires
 
 pub returns-in-Absent : goal.returns-in-Absent
 returns-in-Absent g c =

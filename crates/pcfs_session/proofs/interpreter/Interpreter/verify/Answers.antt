@@ -3,9 +3,12 @@ use Rattle.std.proofs.lemmas.Result.{IfOk-weaker}
 use Rattle.line_forms.specs.declared.command.Command.TheVariants.{Verify}
 use Rattle.access_history.specs.declared.request.StepRequest.TheVariants.{Issue}
 use Rattle.pcfs_session.specs.Interpreter.{IsDecidedAs, IsFollowed}
-use Rattle.pcfs_session.proofs.InterpreterLemmas.{Cites-seated, IsFollowed-verify_absent, IsFollowed-verify_refused, IsFollowed-verify}
+use Rattle.pcfs_session.proofs.InterpreterLemmas.{AreCited-given, Cites-seated, IsFollowed-verify_absent, IsFollowed-verify_refused, IsFollowed-verify}
 use Rattle.pcfs_session.proofs.StoredLemmas.{LeadsTo-same, LeadsTo-also}
 use Rattle.pcfs_session.proofs.interpreter.Interpreter.verify.Goals as goal
+
+pub verify-requires : goal.verify-requires
+verify-requires g c = AreCited-given _ c.args.numbers.now c.as_slice.result.now c.in_ok-number.field-0 c.in-Cited.cites c.in-Cited.is c.as_slice.ensures c.in_ok-number.ensures c.requires.citable
 
 pub returns-in-Absent-clause-ok : goal.returns-in-Absent-clause-ok
 returns-in-Absent-clause-ok g c =

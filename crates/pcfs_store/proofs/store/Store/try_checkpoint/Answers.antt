@@ -4,15 +4,15 @@ use Rattle.pcfs_store.proofs.store.Store.try_checkpoint.Goals as goal
 
 pub returns-then-is_some : goal.returns-then-is_some
 returns-then-is_some g c =
-    stopped_end g.D.Disk.clock g.D.Disk.left_since g.D.Disk.image g.D.Disk.faults c.self.inside.active c.self.inside.other c.self.inside.second_active c.self.inside.generation c.self.inside.gate c.self.inside.checkpoints.items c.self.inside.stop c.self.invariant c.args.self.now c.self.view_is c.args.pass
+    stopped_end g.D.Disk.clock g.D.Disk.left_since g.D.Disk.image g.D.Disk.faults c.self.inside.active c.self.inside.other c.self.inside.second_active c.self.inside.generation c.self.inside.opened.value c.self.inside.gate c.self.inside.checkpoints.items c.self.inside.stop c.self.invariant c.args.self.now c.self.view_is c.args.pass
     (sym c.is_some.ensures ∙ c.if-is_some.true)
 
 pub returns-then-self-ge-LAST_GENERATION : goal.returns-then-self-ge-LAST_GENERATION
 returns-then-self-ge-LAST_GENERATION g c =
-    last_end g.D.Disk.clock g.D.Disk.left_since g.D.Disk.image g.D.Disk.faults c.self.inside.active c.self.inside.other c.self.inside.second_active c.self.inside.generation c.self.inside.gate c.self.inside.checkpoints.items c.self.inside.stop c.self.invariant c.args.self.now c.self.view_is c.args.pass
+    last_end g.D.Disk.clock g.D.Disk.left_since g.D.Disk.image g.D.Disk.faults c.self.inside.active c.self.inside.other c.self.inside.second_active c.self.inside.generation c.self.inside.opened.value c.self.inside.gate c.self.inside.checkpoints.items c.self.inside.stop c.self.invariant c.args.self.now c.self.view_is c.args.pass
     (sym c.is_some.ensures ∙ c.if-is_some.false) c.if-self-ge-LAST_GENERATION.true
 
 pub returns-in-Err : goal.returns-in-Err
 returns-in-Err g c =
-    unwritten_end g.D.Disk.clock g.D.Disk.left_since g.D.Disk.image g.D.Disk.faults c.self.inside.active c.self.inside.other c.self.inside.second_active c.self.inside.generation c.self.inside.gate c.self.inside.checkpoints.items c.self.inside.stop c.self.invariant c.args.self.now c.self.view_is c.args.pass
+    unwritten_end g.D.Disk.clock g.D.Disk.left_since g.D.Disk.image g.D.Disk.faults c.self.inside.active c.self.inside.other c.self.inside.second_active c.self.inside.generation c.self.inside.opened.value c.self.inside.gate c.self.inside.checkpoints.items c.self.inside.stop c.self.invariant c.args.self.now c.self.view_is c.args.pass
     (sym c.is_some.ensures ∙ c.if-is_some.false)

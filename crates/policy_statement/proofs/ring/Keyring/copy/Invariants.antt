@@ -1,6 +1,6 @@
 use Rattle.std.specs.Prelude.{◌≡◌, take}
 use Rattle.policy_statement.proofs.ring.Keyring.copy.Given as goal
 
--- the first keys were copied
-abbrev pub invariant-loop-key : goal.invariant-loop-key
-invariant-loop-key l = l.keys.items ≡ take l.key-index l.key-items
+-- the first entries were copied
+abbrev pub invariant-loop-entry : goal.invariant-loop-entry
+invariant-loop-entry l = l.entries.items ≡ take l.entry-index l.entry-items

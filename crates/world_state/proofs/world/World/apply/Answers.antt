@@ -1,7 +1,7 @@
 -- Both halves after the operation are those of the world after it.
 use Rattle.std.proofs.Common.{ap, ◌∙◌}
 use Rattle.world_state.specs.Halves.{op_in}
-use Rattle.world_state.proofs.HalvesLemmas.{ready_shown, applied, op_in-part_of}
+use Rattle.world_state.proofs.HalvesLemmas.{ready_shown, nothing_shown, applied, op_in-part_of}
 use Rattle.world_state.proofs.world.World.apply.Goals as goal
 
 pub apply-requires : goal.apply-requires
@@ -19,3 +19,6 @@ returns-clause-world c =
 
 pub returns-clause-op : goal.returns-clause-op
 returns-clause-op c = c.op_of.ensures ∙ ap op_in c.half_of-half.ensures ∙ op_in-part_of c.args.op
+
+pub returns-clause-ready : goal.returns-clause-ready
+returns-clause-ready c = nothing_shown c.apply.new.tree c.apply.new.meta c.apply.ensures.tree_ready c.apply.ensures.meta_ready

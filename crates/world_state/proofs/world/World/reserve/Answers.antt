@@ -2,7 +2,7 @@
 use Rattle.std.proofs.Common.{ap, ◌∙◌}
 use Rattle.world_state.specs.Halves.{op_in}
 use Rattle.world_state.specs.State.{WorldState}
-use Rattle.world_state.proofs.HalvesLemmas.{asked_shown, halves_same, joined_same, reserved_shown, op_in-part_of}
+use Rattle.world_state.proofs.HalvesLemmas.{asked_shown, given_up_shown, halves_same, joined_same, reserved_shown, op_in-part_of}
 use Rattle.world_state.proofs.world.World.reserve.Goals as goal
 
 pub reserve-answer-requires : goal.reserve-answer-requires
@@ -21,3 +21,6 @@ pub returns-clause-answer : goal.returns-clause-answer
 returns-clause-answer c =
     reserved_shown c.args.caller.now c.self.inside.tree c.reserve-answer.new.tree c.self.inside.meta c.reserve-answer.new.meta _ c.args.op _ _ c.self.invariant c.self.view_is c.half_of-half.ensures
     c.reserve-answer.ensures.tree c.reserve-answer.ensures.meta c.reserve-answer.ensures.answer
+
+pub returns-clause-given_up : goal.returns-clause-given_up
+returns-clause-given_up c = given_up_shown _ c.reserve-answer.new.tree c.reserve-answer.new.meta c.reserve-answer.ensures.tree_given_up c.reserve-answer.ensures.meta_given_up

@@ -1,0 +1,159 @@
+-- A run over ports that do not fail ends with one of these statuses, by its cause.
+use Rattle.std.proofs.Common.{◌≡◌, ◌⊎◌, inl, inr, ◌≤◌, ℕ, List, [], ◌∷◌, String, Option, Some, None, refl, sym, subst}
+use Rattle.std.specs.declared.alloc.Global.{Global}
+use Rattle.pcfs_ports.specs.Faults.{HasRisen}
+use Rattle.pcfs_secrets.specs.declared.secrets.Secrets.{Secrets}
+use Rattle.pcfs_server.specs.declared.end.ServeEnd.{ServeEnd}
+use Rattle.command_words.specs.Tasks.{AsksFor}
+use Rattle.command_words.specs.declared.words.Task.TheVariants.{Script, Stored, Audit, Check}
+use Rattle.pcfs_audit.specs.Report.{IsReport}
+use Rattle.pcfs_audit.specs.declared.report.Report.{Report}
+use Rattle.pcfs_audit.specs.declared.report.ReportRow.{ReportRow}
+use Rattle.pcfs_inquiry.specs.Answers.{InquiryEnds}
+use Rattle.pcfs_inquiry.specs.Answers as inquiries
+use Rattle.pcfs_session.specs.LineAnswer.{authority_under}
+use Rattle.pcfs_session.specs.ScriptEnds.{ScriptEnds, ScriptWrites}
+use Rattle.pcfs_session.specs.ScriptEnds as scripts
+use Rattle.pcfs_session.specs.ScriptRun.{Standing}
+use Rattle.pcfs_session.specs.Streams.{Streams}
+use Rattle.pcfs_session.specs.declared.script_end.ScriptEnd.{ScriptEnd}
+use Rattle.pcfs_session.specs.declared.script_end.ScriptEnd.TheVariants as script_ends
+use Rattle.pcfs_session.proofs.StoredLemmas.{HasRisen-earlier}
+use Rattle.pcfs_store.specs.Entries.{StoreEntry}
+use Rattle.pcfs_tools.specs.Audited.{audit_status}
+use Rattle.pcfs_tools.specs.Inquired.{TellsInquiry}
+use Rattle.pcfs_tools.specs.Inquired as inquired
+use Rattle.pcfs_tools.specs.LastLine.{IsTold}
+use Rattle.pcfs_tools.specs.Memory.{MemoryEnds}
+use Rattle.pcfs_tools.specs.Memory as in_memory
+use Rattle.pcfs_tools.specs.ScriptStatus.{ScriptStatus, TellsEnd}
+use Rattle.pcfs_top.specs.Ports.{Rests, HasDiskFailed}
+use Rattle.pcfs_top.specs.Run.{HasCause, EndsWith, IsOpened}
+use Rattle.pcfs_top.specs.Run as runs
+use Rattle.session_service.specs.Sessions.{SessionSources}
+use Rattle.pcfs_run.specs.ServeWords.{IsServe}
+use Rattle.pcfs_run.specs.Served.{ServePorts, AreAttended, IsServeLine, ServeWrites, EndsServing, RunEnds}
+use Rattle.pcfs_run.specs.Served as serving
+use Rattle.pcfs_run.specs.Healthy.{AreHealthy, EndsHealthy, IsUnfit, long_line, too_many_bytes, damaged, absent}
+use Rattle.pcfs_run.specs.Healthy as healthy
+
+module _ (secrets : Secrets) (words : List (String Global)) (before after : ServePorts) (sound : AreHealthy before after) where
+  abbrev Ends : ℕ → Type 0
+  Ends status = EndsHealthy secrets words before after status
+
+  no_disk_failed : HasDiskFailed before.ports.disks after.ports.disks → ⊥
+  no_disk_failed (inl first) = sound.first_disk first
+  no_disk_failed (inr second) = sound.second_disk second
+
+  no_net_fault : HasRisen before.net.faults after.net.faults ⊎ HasRisen before.net.nonce_faults after.net.nonce_faults → ⊥
+  no_net_fault (inl listener) = sound.listener listener
+  no_net_fault (inr nonces) = sound.nonces nonces
+
+  -- the output did not fail after it had had so many faults
+  not_since : (faults : ℕ) → before.ports.streams.write_faults ≤ faults → HasRisen faults after.ports.streams.write_faults → ⊥
+  not_since faults later risen = sound.output (HasRisen-earlier before.ports.streams.write_faults faults after.ports.streams.write_faults later risen)
+
+  -- ---- scripts
+
+  module _ (status : ℕ) (held : Option (List ℕ)) (faults : ℕ) (later : before.ports.streams.write_faults ≤ faults) (asks : AsksFor words Script ⊎ AsksFor words Stored) (start end : Standing) (runs_on : (met : StoreEntry) → end.met ≡ Some met → status ≡ 5 → ⊥) where
+    -- what the streams told when the script had ended, before its last line
+    abbrev ended_at : Streams
+    ended_at = record after.ports.streams { held = held; write_faults = faults }
+
+    abbrev Tells : ScriptEnd → Type 0
+    Tells how = TellsEnd how held faults status after.ports.streams.held after.ports.streams.write_faults
+
+    by_writes : (how : ScriptEnd) (whole : List ℕ) → ScriptWrites start end before.ports.streams ended_at how whole → Tells how → Ends status
+    by_writes _ _ (scripts.done bytes written reads short run running) tells = subst Ends (sym tells.0) healthy.done
+    by_writes _ _ (scripts.line_too_long lines written cut run running) tells = healthy.script_unfit status asks (subst (IsUnfit before.ports.streams after.ports.streams) (sym tells.0) (long_line lines cut))
+    by_writes _ _ (scripts.read_fault lines written risen all run running) tells = absurd (sound.input risen)
+    by_writes _ _ (scripts.input_too_long lines written first all run running) (inl told) =
+        healthy.script_unfit status asks (subst (IsUnfit before.ports.streams after.ports.streams) (sym told.0) (too_many_bytes first))
+    by_writes _ _ (scripts.input_too_long lines written first all run running) (inr failed) = absurd (not_since faults later failed.1)
+    by_writes _ _ (scripts.stopped written met way is) tells = absurd (runs_on met is tells.0)
+
+    -- the output failed, so its count rose
+    unwritten : HasRisen before.ports.streams.write_faults faults → Tells script_ends.WriteFault → ⊥
+    unwritten risen tells = sound.output (subst (HasRisen before.ports.streams.write_faults) (sym tells.2) risen)
+
+    by_end : (how : ScriptEnd) → ScriptEnds start end before.ports.streams ended_at how → Tells how → Ends status
+    by_end _ (scripts.written how whole writes out) tells = by_writes how whole writes tells
+    by_end _ (scripts.cut_short whole risen way some) tells = absurd (unwritten risen tells)
+    by_end _ (scripts.cut_at_long_line whole risen writes some) tells = absurd (unwritten risen tells)
+    by_end _ (scripts.out_of_memory whole way some) tells = subst Ends (sym tells.0) healthy.out_of_memory
+    by_end _ (scripts.out_of_memory_at_long_line whole writes some) tells = subst Ends (sym tells.0) healthy.out_of_memory
+
+  of_script : (status : ℕ) (start end : Standing) → AsksFor words Script ⊎ AsksFor words Stored → ((met : StoreEntry) → end.met ≡ Some met → status ≡ 5 → ⊥) → ScriptStatus start end before.ports.streams after.ports.streams status → Ends status
+  of_script status start end asks runs_on s = by_end status s.held s.write_faults s.never_falls asks start end runs_on s.how s.ends s.tells
+
+  of_memory : (status : ℕ) → AsksFor words Script → MemoryEnds secrets before.ports.streams after.ports.streams status → Ends status
+  of_memory _ asks (in_memory.ended status end runs_on s) = of_script status _ end (inl asks) (λ met is five. runs_on five) s
+  of_memory _ asks (in_memory.disk_failed end s) = healthy.out_of_memory
+
+  -- ---- an inquiry
+
+  by_answer : (status : ℕ) (line : List ℕ) → AsksFor words Check → InquiryEnds before.ports.streams.left after.ports.streams.left before.ports.streams.read_faults after.ports.streams.read_faults status line → Ends status
+  by_answer _ _ asks (inquiries.answered bytes statements goal proof reads short is) = healthy.done
+  by_answer _ _ asks (inquiries.bad_line bytes number fault reads short first) = healthy.inquiry_wrong bytes number fault asks reads first
+  by_answer _ _ asks (inquiries.long_line bytes reads long) = healthy.inquiry_long bytes asks reads long
+  by_answer _ _ asks (inquiries.read_fault risen) = absurd (sound.input risen)
+  by_answer _ _ asks (inquiries.too_long first) = healthy.inquiry_too_many_bytes asks first
+
+  of_inquiry : (status : ℕ) → AsksFor words Check → TellsInquiry before.ports.streams after.ports.streams status → Ends status
+  of_inquiry status asks (inquired.answered found line ends (inl told)) = subst Ends (sym told.0) (by_answer found line asks ends)
+  of_inquiry status asks (inquired.answered found line ends (inr failed)) = absurd (sound.output failed.1)
+  of_inquiry status asks (inquired.unanswered untold) = subst Ends (sym untold.0) healthy.out_of_memory
+
+  -- ---- a run with one line
+
+  of_report : (pieces : Option ℕ) (generation : ℕ) (image : List ℕ) (start : Standing) (report : Report) (rows : List ReportRow) → report.rows ≡ rows → AsksFor words (Audit pieces) → IsOpened secrets generation image before.ports.disks start → IsReport (authority_under secrets) start.base start.events report →
+      Ends (audit_status rows)
+  of_report pieces generation image start report [] is asks opened found = healthy.done
+  of_report pieces generation image start report (row ∷ rows) is asks opened found = healthy.reports pieces generation image start report row rows asks opened found is
+
+  by_cause : (rests : Rests) (status : ℕ) (line : List ℕ) → ((port count : ℕ) → IsServe words port count → ⊥) → HasCause secrets words rests before.ports.disks after.ports.disks status line → Ends status
+  by_cause rests _ _ alone (runs.usage none same) = healthy.asks_nothing none alone
+  by_cause rests _ _ alone (runs.made asks is b) = healthy.done
+  by_cause rests _ _ alone (runs.exists asks is_open same) = healthy.is_there_already asks is_open
+  by_cause rests _ _ alone (runs.not_made asks failed kept) = absurd (no_disk_failed failed)
+  by_cause rests _ _ alone (runs.no_store asks none same) = healthy.unopened 4 (inl asks) (absent none)
+  by_cause rests _ _ alone (runs.damaged number damage asks found same) = healthy.unopened 3 (inl asks) (damaged number damage found)
+  by_cause rests _ _ alone (runs.not_opened asks failed kept) = absurd (no_disk_failed failed)
+  by_cause rests _ _ alone (runs.checkpointed generation image start asks opened fits stays made) = healthy.done
+  by_cause rests _ _ alone (runs.full generation image start asks opened none same rest) = healthy.has_no_room generation image start asks opened none
+  by_cause rests _ _ alone (runs.not_checkpointed generation image start asks opened fits failed stays survives) = absurd (no_disk_failed failed)
+  by_cause rests _ _ alone (runs.audited pieces generation image start report asks opened found same rest) = of_report pieces generation image start report report.rows refl asks opened found
+  by_cause rests _ _ alone (runs.loaded rounds seed told asks is same) = healthy.done
+
+  of_run : (rests : Rests) (status : ℕ) → ((port count : ℕ) → IsServe words port count → ⊥) → EndsWith secrets words rests before.ports after.ports status → Ends status
+  of_run rests _ alone (runs.in_memory status asks same ends) = of_memory status asks ends
+  of_run rests _ alone (runs.stored status generation image start end asks opened back ends) = of_script status start end (inr asks) (λ met is five. no_disk_failed (back.failed met is)) ends
+  of_run rests _ alone (runs.told status line cause left out) = by_cause rests status line alone cause
+  of_run rests _ alone (runs.cut_short status line cause left risen some) = absurd (sound.output risen)
+  of_run rests _ alone (runs.inquired status asks same ends) = of_inquiry status asks ends
+  of_run rests _ alone (runs.out_of_memory same left out) = healthy.out_of_memory
+
+  -- ---- sessions
+
+  by_line : (count : ℕ) (end : ServeEnd) (status : ℕ) (line : List ℕ) → AreAttended count before.net after.net end → IsServeLine end status line → Ends status
+  by_line count _ _ _ attended (serving.all_served n) = healthy.done
+  by_line count _ _ _ attended (serving.net_failed n) = absurd (no_net_fault (attended.risen tt))
+
+  module _ (sources : SessionSources) (rests : Rests) (port count : ℕ) (serves : IsServe words port count) where
+    by_serving : (status : ℕ) (line : List ℕ) → ServeWrites sources secrets count rests before after status line → Ends status
+    by_serving _ _ (serving.served end status line served attended is) = by_line count end status line attended is
+    by_serving _ _ (serving.disk_failed end pass served attended) = absurd (no_disk_failed (served.risen pass refl))
+    by_serving _ _ (serving.no_store none same net) = healthy.unopened 4 (inr (port, count, serves)) (absent none)
+    by_serving _ _ (serving.damaged number damage found same net) = healthy.unopened 3 (inr (port, count, serves)) (damaged number damage found)
+    by_serving _ _ (serving.not_opened failed kept net) = absurd (no_disk_failed failed)
+
+    of_serving : (status : ℕ) → EndsServing sources secrets count rests before after status → Ends status
+    of_serving _ (serving.told status line writes out) = by_serving status line writes
+    of_serving _ (serving.cut_short status line writes risen some) = absurd (sound.output risen)
+    of_serving _ (serving.unopened same net out) = healthy.out_of_memory
+    of_serving _ (serving.out_of_memory end no_fault served attended out) = healthy.out_of_memory
+
+  pub EndsHealthy-run : (sources : SessionSources) (rests : Rests) (status : ℕ) → RunEnds sources secrets words rests before after status → Ends status
+  EndsHealthy-run sources rests _ (serving.serves status port count serves left reads ends) = of_serving sources rests port count serves status ends
+  EndsHealthy-run sources rests _ (serving.unread same net left reads out) = healthy.out_of_memory
+  EndsHealthy-run sources rests _ (serving.alone status alone ends net) = of_run rests status alone ends
