@@ -276,7 +276,7 @@ def secrets_of(path):
     """The key of the seal, and the keys of those who sign by their names."""
     with open(path, encoding="ascii") as file:
         (_, seal), *lines = map(str.split, file)
-    return hex_bytes(seal), {name: hex_bytes(word) for _, name, word in lines}
+    return hex_bytes(seal), {words[1]: hex_bytes(words[2]) for words in lines if words[0] == "key"}
 
 
 def key_of(path, name):

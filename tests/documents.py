@@ -15,8 +15,10 @@ from pathlib import Path
 TOP = Path(__file__).resolve().parents[1]
 EXAMPLES = TOP / "examples"
 sys.path.append(str(EXAMPLES))
+sys.path.append(str(EXAMPLES.parent / "tests/model"))
 
 from pcfs_client import Text, key_of, sign_login, sign_statement
+import root_model
 
 SECRETS = EXAMPLES / "pcfs.secrets"
 
@@ -111,6 +113,12 @@ def protocol(run):
     if sign_statement(admin, "admin says may(alice,#1,write) from 0 to 200").hex() not in text or sign_login(admin, "admin", bytes(16)).hex() not in text:
         yield "the signatures"
     yield from session(run, text)
+    table, wanted = (block.replace("    ", "").splitlines() for block in re.search(r"((?:    .*\n)+)\nmakes five statements:\n\n((?:    .*\n)+)", text).groups())
+    if run.script(*table, words=("modes", "0", "200")) != wanted:
+        yield "the table of modes"
+    given = [line.strip() for line in re.search(r"(    seed [0-9a-f]{64}\n    statement .*\n)", text).group(1).splitlines()]
+    if run.script(*given, words=("rootsign", "1", "0")) != root_model.lines("\n".join(given).encode(), 1, 0)[0]:
+        yield "the statement that a tree of hashes signs"
 
 
 def session(run, text):

@@ -1,8 +1,8 @@
 #!/usr/bin/env bash
 # Runs each example by the built program, in a folder with the secrets of the examples beside it, and compares the replies
 # with those that are kept; so too three scripts over one store, and what the documents show (documents.py); then random
-# scripts, whose replies are compared with those of the model; and sessions of three users (sessions.sh). Exits 1 if some
-# differ.
+# scripts, tables of modes and statements to be signed, whose replies are compared with those of the model; and sessions of
+# three users (sessions.sh). Exits 1 if some differ.
 # usage: tests/examples.sh [PROGRAM], by default crates/pcfs/out/pcfs
 set -euo pipefail
 tests=$(cd "$(dirname "$0")" && pwd)
@@ -142,6 +142,62 @@ for seed in 1 2 3 4 5; do
         differ=$((differ + 1))
     fi
 done
+
+# a table of modes becomes the statements of the example, and random tables are answered as by the model
+tables=0
+"$program" modes 0 200 < "$here/modes.table" | cmp -s - <(grep '^register - .*class(' "$here/modes.pcfs") || tables=1
+for seed in {1..40}; do
+    python3 "$tests/model/modes_model.py" random "$seed" > random.table
+    ended=0
+    "$program" modes 0 200 < random.table > replies 2> /dev/null || ended=$?
+    wanted=0
+    python3 "$tests/model/modes_model.py" lines 0 200 < random.table > random.replies || wanted=$?
+    [ "$ended" -eq "$wanted" ] && cmp -s replies random.replies || tables=1
+done
+if [ "$tables" -eq 0 ]; then
+    echo "agrees tables of modes"
+    agree=$((agree + 1))
+else
+    echo "differs tables of modes"
+    differ=$((differ + 1))
+fi
+
+# statements are signed as by the model; and a ring with a root takes what its client signs, each leaf of which signs once
+signed=0
+for seed in {1..8}; do
+    python3 "$tests/model/root_model.py" random "$seed" > random.statements
+    for words in "0 0" "1 0" "2 1"; do
+        ended=0
+        "$program" rootsign $words < random.statements > replies 2> /dev/null || ended=$?
+        wanted=0
+        python3 "$tests/model/root_model.py" lines $words < random.statements > random.replies || wanted=$?
+        [ "$ended" -eq "$wanted" ] && cmp -s replies random.replies || signed=1
+    done
+done
+client() {
+    python3 "$here/root_client.py" "$@"
+}
+mkdir rooted
+root=$(client new zoe.tree 1)
+{ cat "$here/pcfs.secrets"; client root zoe.tree zoe; } > rooted/pcfs.secrets
+[ "$(tail -n 1 rooted/pcfs.secrets)" = "root zoe 1 $root" ] && [ "$(client left zoe.tree)" = 2 ] || signed=1
+{
+    echo "at 100"
+    for permission in read write; do
+        client statement zoe.tree "zoe says may(bob,#1,$permission) from 0 to 200"
+    done
+    echo "register - zoe says may(bob,#1,govern) from 0 to 200"
+} > signed.pcfs
+(cd rooted && "$program" script < ../signed.pcfs) | cmp -s - <(printf 'ok\nok statement 1\nok statement 2\nrejected 1\n') || signed=1
+client login zoe.tree zoe 00000000000000000000000000000000 > login 2> /dev/null && signed=1
+[ "$(client left zoe.tree)" = 0 ] && [ ! -s login ] || signed=1
+if [ "$signed" -eq 0 ]; then
+    echo "agrees statements signed by a tree of hashes"
+    agree=$((agree + 1))
+else
+    echo "differs statements signed by a tree of hashes"
+    differ=$((differ + 1))
+fi
 
 # of generated scripts the program counts the replies that the model gives, and those that it gives itself to the lines that the model makes
 counted() {

@@ -10,16 +10,20 @@ import shutil
 import signal
 import subprocess
 import sys
+import threading
 import time
+from contextlib import suppress
 
-from said import secrets_of
+from said import login, secrets_of
 from serving import AREAS, free_port
-from talking import Session
+from talking import Session, Unanswered
 
 PATIENCE = 60  # seconds
 POLICY = b"at 100\nregister - admin says forall K:principal. may(K,#1,write) from 0 to +inf\n" \
     b"verify alice #1 write 1 saysR(claim(0,forallL(1,alice,init(2))))\nas alice\n"
 ROUNDS = 40  # of each signal
+LINES = 1000  # of a script that a signal ends
+BROKEN_OUTPUT = 7  # the status of a program whose replies nobody takes: it sees the error of the write, not the signal
 IN_USE = b"the store is in use"
 
 
@@ -158,6 +162,9 @@ class Trial:
         os.rename(f"{self.store}/pcfs.b", f"{self.store}/kept")
         self.wants("the newer file missing: an audit counts those before", self.run("audit")[:2], (b"events 2 statements 1 issues 1 unissued 0\n", 0))
         os.rename(f"{self.store}/pcfs.a", f"{self.store}/kept too")
+        os.rename(f"{self.store}/kept", f"{self.store}/pcfs.b")
+        self.wants("the older file missing: an audit counts all", self.run("audit")[:2], (b"events 5 statements 1 issues 1 unissued 0\n", 0))
+        os.rename(f"{self.store}/pcfs.b", f"{self.store}/kept")
         written, status, said = self.run("audit")
         self.wants("both files missing", (written, status, b"pcfs.a is not there" in said), (b"nostore\n", 4, True))
 
@@ -175,6 +182,30 @@ class Trial:
                 self.wants("a reply over a removed file", told, b"ok node #3\n" if is_late else b"stopped\n")
                 process.communicate()
             self.wants("the store afterwards", self.run("audit")[:2], (b"nostore\n", 4))
+            self.removed_from_server(is_late)
+
+    def removed_from_server(self, is_late):
+        """The same of a server: all its sessions are told `stopped` then, and it says at once which file."""
+        self.fresh()
+        port = free_port()
+        with self.start("serve", str(port), "2") as process:
+            one, procap = self.alice(port)
+            if is_late:
+                one.ask(b"do create #1 f0 " + procap)
+            os.unlink(f"{self.store}/pcfs.a")
+            told = [one.ask(b"do create #1 f%d %s" % (number, procap)) for number in (1, 2)]
+            self.wants("a server over a removed file", told, [b"ok node #3", b"ok node #4"] if is_late else [b"stopped"] * 2)
+            one.leave()
+            Session(port).leave()
+            said = process.communicate(timeout=PATIENCE)[1]
+            self.wants("its end", (process.returncode, b"pcfs.a: No such file" in said), (0, False) if is_late else (5, True))
+        self.wants("its store afterwards", self.run("audit")[:2], (b"nostore\n", 4))
+
+    def alice(self, port):
+        """A session in which alice is logged in, and her procap."""
+        session = Session(port)
+        session.ask(login("alice", session.nonce).encode())
+        return session, session.ask(b"procap 1").split()[-1]
 
     # ---- room ----------------------------------------------------------------------------------------------------------
 
@@ -208,54 +239,84 @@ class Trial:
         for kind in (signal.SIGTERM, signal.SIGINT, signal.SIGKILL, signal.SIGHUP, signal.SIGPIPE, signal.SIGXFSZ):
             for _ in range(ROUNDS):
                 self.one_signal(kind, draw)
-        for kind in (signal.SIGTERM, signal.SIGINT):
-            self.server_signal(kind)
+        for kind in (signal.SIGTERM, signal.SIGINT, signal.SIGKILL, signal.SIGHUP):
+            for _ in range(ROUNDS // 4):
+                self.server_signal(kind, draw)
 
     def one_signal(self, kind, draw):
+        """A script ends by this signal, or by the write that would bring it; its input stays open until then."""
         self.fresh()
-        limit = None
-        if kind == signal.SIGXFSZ:
-            most = os.path.getsize(f"{self.store}/pcfs.a") + draw.randrange(1, 9000)
-
-            def limit():
-                resource.setrlimit(resource.RLIMIT_FSIZE, (most, most))
-
-        with self.start("script", "--stored", stdin=subprocess.PIPE, preexec_fn=limit) as process:
-            given = b"at 200\nas alice\n" + b"".join(lines_from(0, 200))
-            try:
-                process.stdin.write(given)
-                process.stdin.flush()
-            except BrokenPipeError:
-                pass
-            told = 0
+        most = os.path.getsize(f"{self.store}/pcfs.a") + draw.randrange(1, 9000) if kind == signal.SIGXFSZ else None
+        process = self.start("script", "--stored", stdin=subprocess.PIPE, preexec_fn=as_by_default(kind, most))
+        until = threading.Timer(PATIENCE, process.kill)
+        until.start()
+        try:
             if kind == signal.SIGPIPE:
-                for _ in range(draw.randrange(1, 100)):
-                    told += process.stdout.readline().startswith(b"ok node")
-                process.stdout.close()
-            elif kind != signal.SIGXFSZ:
-                time.sleep(draw.random() * 0.02)
-                process.send_signal(kind)
-            if kind != signal.SIGPIPE:
+                fcntl.fcntl(process.stdout, fcntl.F_SETPIPE_SZ, 4096)  # so its replies to these lines do not fit
+            with suppress(BrokenPipeError):
+                process.stdin.write(b"at 200\nas alice\n" + b"".join(lines_from(0, LINES)))
+                process.stdin.flush()
+            if kind == signal.SIGPIPE:
+                told = sum(process.stdout.readline().startswith(b"ok node") for _ in range(draw.randrange(1, 100)))
+            else:
+                if kind != signal.SIGXFSZ:
+                    if draw.random() < 0.7:
+                        process.stdout.readline()  # it has opened the store
+                    time.sleep(draw.random() * 0.05)
+                    process.send_signal(kind)
                 told = process.stdout.read().count(b"ok node")
-            try:
+            process.stdout.close()
+            status = process.wait()
+        finally:
+            until.cancel()
+            process.kill()
+            process.stderr.close()
+            with suppress(BrokenPipeError):
                 process.stdin.close()
-            except BrokenPipeError:
-                pass
-            process.wait(PATIENCE)
-        found, status, said = self.run("audit")
+        self.wants(f"the end by {kind.name}", status, BROKEN_OUTPUT if kind == signal.SIGPIPE else -kind)
+        self.has_told(kind, told, told + LINES if kind == signal.SIGPIPE else told + 1)
+
+    def has_told(self, kind, told, most):
+        """The store has the files that were told, and at most so many."""
         self.done += 1
-        most = told + 200 if kind == signal.SIGPIPE else told + 1
+        found, status, said = self.run("audit")
         if status or not any(found == events(number) for number in range(told, most + 1)):
             self.fault(f"{kind.name}: {told} were told, and an audit writes {found!r}, {status}, {said!r}")
 
-    def server_signal(self, kind):
+    def server_signal(self, kind, draw):
+        """A server is ended while a session has events."""
         self.fresh()
-        port = free_port()
-        with self.start("serve", str(port), "2") as process:
-            Session(port).leave()
+        port, told = free_port(), 0
+        with self.start("serve", str(port), "2", preexec_fn=as_by_default(kind)) as process:
+            later = threading.Timer(draw.random() * 0.1, process.send_signal, (kind,))
+            try:
+                session, procap = self.alice(port)
+                later.start()
+                for number in range(LINES * 10):
+                    told += session.ask(b"do create #1 f%d %s" % (number, procap)).startswith(b"ok node")
+            except (OSError, Unanswered):
+                pass
             process.send_signal(kind)
-            process.communicate(timeout=PATIENCE)
-        self.wants(f"a store after {kind.name}", self.run("audit")[1], 0)
+            try:
+                process.communicate(timeout=PATIENCE)
+            except subprocess.TimeoutExpired:
+                process.kill()
+        self.wants(f"the end of a server by {kind.name}", process.returncode, -kind)
+        self.has_told(kind, told, told + 1)
+
+
+def as_by_default(kind, most=None):
+    """What a program does before it begins: the signal ends it, also if whoever runs these tests has it ignored or held back, as a
+    shell does with what it runs in the background; and no file grows longer than this."""
+
+    def begin():
+        if kind != signal.SIGKILL:
+            signal.signal(kind, signal.SIG_DFL)
+        signal.pthread_sigmask(signal.SIG_SETMASK, ())
+        if most is not None:
+            resource.setrlimit(resource.RLIMIT_FSIZE, (most, most))
+
+    return begin
 
 
 def events(files):

@@ -257,12 +257,15 @@ class Parts:
         raise Fault(f"init ends with {written}, {status}")
 
     def audit(self):
-        """An audit of a store, and a check of a proof."""
+        """An audit of a store, a check of a proof, a large run, a table of modes, and statements that are signed."""
         base = self.made()
         for name in ("first-file", "public"):
             base = self.after(base, "script", "--stored", given=joined(example(name)))
+        with open(f"{EXAMPLES}/modes.table", "rb") as file:
+            table = file.read()
+        signed = joined([b"seed " + b"5a" * 32, b"statement zoe says true from 0 to 1", b"statement zoe says true from 0 to 2"])
         inquiry = [b"statement admin says may(alice,#1,write) from 0 to 200", b"goal alice #1 write saysR(claim(0,init(1)))"]
-        for words, given in ((["audit"], b""), (["audit", "--pieces", "3"], b""), (["check"], joined(inquiry)), (["load", "1", "7"], b"")):
+        for words, given in ((["audit"], b""), (["audit", "--pieces", "3"], b""), (["check"], joined(inquiry)), (["load", "1", "7"], b""), (["modes", "0", "200"], table), (["rootsign", "1", "0"], signed)):
             wanted = self.refusing.run(self.refusing.new_folder(base), 0, *words, given=given)[:2]
             self.each(" ".join(words), lambda number: self.check_report(base, number, words, given, wanted))
 

@@ -164,10 +164,9 @@ class Telling:
 
     def add_state(self, state):
         """A gate was opened."""
-        before = self.states[-1]
         self.states.append(state)
-        if before is None or state[0] != before[0]:
-            kind = "checkpoint" if before else "made"
+        if not state[2]:
+            kind = "made" if state[0] == 1 else "checkpoint"
         else:
             kind = {1: "statement", 2: "issue", 3: "acted"}.get(state[2][-1][0], "?")
         self.places.setdefault(kind, []).append(len(self.states) - 1)
@@ -307,7 +306,7 @@ class Trial:
             state = standing(*(area.now() for area in areas))
         except Damaged as damaged:
             raise Fault(f"a gate is open over what is no record: {damaged}") from None
-        if state != telling.states[-1]:
+        if state != telling.states[-1] or not telling.places:  # a remedy may make again what was begun before it
             telling.add_state(state)
 
     def cut(self, areas, telling, modes):
@@ -503,15 +502,16 @@ class Trial:
         left = tuple(area.left(mode, self.draw) for area in areas)
         state = standing(*left)
         there, device = f"{self.folder}/remedy", f"{self.folder}/device"
-        self.new_folder(there, [area.now() for area in areas])
+        stood = [bytes_or_none(f"{folder}/{name}") for name in AREAS]
+        self.new_folder(there, stood)
         self.new_folder(device, [area if area is not None else b"" for area in left])
         shutil.copy(f"{folder}/{MARK}", f"{there}/{MARK}")
-        after = [Area(one, one is not None) for one in left]
+        after = [Area(b"" if one is None and was is not None else one, one is not None) for one, was in zip(left, stood)]
         again = Telling()
         again.states = list(telling.states)
         again.told = lowest
         words = "checkpoint" if state else "init"
-        again.expect([])
+        again.expect([words.encode()])
         written, said, status = self.run(there, words, POWER_DROP=device)
         if status or os.path.exists(f"{there}/{MARK}"):
             raise Fault(f"after a failed sync that left {mode}, {words} writes {written!r}, ends with {status}, and says {said!r}")

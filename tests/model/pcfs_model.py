@@ -17,6 +17,10 @@ import sys
 from collections import namedtuple
 from pathlib import Path
 
+import hash_trees
+import modes_model
+import root_model
+
 sys.path.append(str(Path(__file__).resolve().parents[2] / "examples"))
 
 from pcfs_client import PERMISSIONS, STATE, Text, short, tag_of
@@ -650,7 +654,8 @@ class Server:
     def __init__(self, secrets):
         lines = [line.split() for line in secrets.splitlines()]
         self.seal = bytes.fromhex(lines[0][1].replace("-", "")) if lines else b""
-        self.keys = {who: bytes.fromhex(word.replace("-", "")) for _, who, word in lines[1:]}
+        self.keys = {words[1]: bytes.fromhex(words[2].replace("-", "")) for words in lines[1:] if words[0] == "key"}
+        self.roots = {words[1]: (int(words[2]), bytes.fromhex(words[3])) for words in lines[1:] if words[0] == "root"}
         self.clock, self.moment, self.caller, self.count = 0, FIRST, "admin", 0
         self.statements, self.issues = [], []
         self.nodes, self.next, self.together = {1: Node("directory", "admin", 0, "")}, 2, 0
@@ -672,10 +677,15 @@ class Server:
         self.caller = who
         return "ok"
 
+    def accepts(self, who, message, given):
+        if who in self.roots:
+            height, root = self.roots[who]
+            return given is not None and hash_trees.accepts(root, height, message, given)
+        return who in self.keys and given in (None, tag_of(self.keys[who], message))
+
     def register(self, given, text):
         statement = statement_of(text)
-        key = self.keys.get(statement.who)
-        if key is None or given not in (None, tag_of(key, b"S" + statement.bytes)):
+        if not self.accepts(statement.who, b"S" + statement.bytes, given):
             return "rejected 1"
         for place, other in enumerate(self.statements):
             if other.bytes == statement.bytes:
@@ -941,8 +951,8 @@ def replies(server, lines):
 
 
 def run_case(rows):
-    """The replies to the case's lines, those that it wants, and whether it is a plain run of a script."""
-    texts, given, wanted, secrets, plain, rest = {}, [], [], "", True, ""
+    """The replies to the case's lines, those that it wants, and whether it is a plain run of a script, of a table of modes, or of statements to be signed."""
+    texts, given, wanted, secrets, plain, rest, seconds, leaves = {}, [], [], "", True, "", None, None
     for row in rows:
         kind, _, text = row.partition(" ")
         if kind == ">":
@@ -962,14 +972,20 @@ def run_case(rows):
         elif kind == "secret":
             secrets += text + "\n"
         elif kind == "words":
-            plain &= text == "script"
+            seconds = re.fullmatch(r"modes (\d+) (\d+)", text)
+            leaves = re.fullmatch(r"rootsign ([0-8]) (\d+)", text)
+            plain &= text == "script" or seconds is not None or leaves is not None
         elif kind == "status":
-            plain &= text in ("0", "2")
+            plain &= text in ("0", "2", "12", "15", "18")
         elif kind == "pieces":
             pass  # the replies are those of the whole input
         elif kind not in ("", "#"):
             plain = False
     lines = "\n".join([*given, rest]).split("\n") if rest else "\n".join([*given, ""]).split("\n")[:-1]
+    if plain and seconds:
+        return modes_model.lines("".join(f"{line}\n" for line in lines).encode(), *map(int, seconds.groups()))[0], wanted, plain
+    if plain and leaves:
+        return root_model.lines("".join(f"{line}\n" for line in lines).encode(), *map(int, leaves.groups()))[0], wanted, plain
     return list(replies(Server(secrets), lines)) if plain else [], wanted, plain
 
 
@@ -984,8 +1000,9 @@ def compare_rows(path):
             print(f"not of lines alone: {name}")
             continue
         pairs = list(zip(found, wanted))
-        faults = sum(row.startswith("bad 4") for row in wanted)
-        differ = [(place, mine, row) for place, (mine, row) in enumerate(pairs) if mine != row and not row.startswith("bad 4")]
+        untold = re.compile(r"bad 4|line \d+ bad 1[1-5] ")  # the fault of a text
+        faults = sum(untold.match(row) is not None for row in wanted)
+        differ = [(place, mine, row) for place, (mine, row) in enumerate(pairs) if mine != row and not untold.match(row)]
         if differ or len(found) != len(wanted):
             agrees = False
             print(f"differs: {name}: {len(found)} replies, {len(wanted)} wanted")

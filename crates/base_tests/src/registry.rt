@@ -43,6 +43,28 @@ fn a_name_keeps_its_first_key(rt: HostRuntime) -> Result<(), Fail> {
     Ok(())
 }
 
+// What a ring with a key for `hr` answers to a root of this height for the name.
+fn answer_to_root(alloc: Global, name: &[u8], height: u8) -> Result<Result<(), KeyFault>, Fail> {
+    let who = Principal::new(name).ok_or("a name")?;
+    let root = [7u8; 32];
+    let mut ring = ring_of(alloc, b"hr", 1)?;
+    Ok(ring.add_root(who, height, root))
+}
+
+#[test]
+fn a_root_is_for_a_name_without_a_key(rt: HostRuntime) -> Result<(), Fail> {
+    let cases: [(&[u8], u8, Result<(), KeyFault>); 4] = [
+        (b"it", 8, Ok(())),
+        (b"it", 9, Err(KeyFault::BadHeight)),
+        (b"hr", 8, Err(KeyFault::Known)),
+        (b"hr", 9, Err(KeyFault::Known)),
+    ];
+    for (name, height, want) in cases {
+        assert_eq!(rt; answer_to_root(rt.alloc(), name, height)?, want);
+    }
+    Ok(())
+}
+
 fn is_copied(alloc: Global, ring: &Keyring, who: &Principal) -> Result<bool, Fail> {
     let copied = ring.copy(alloc)?;
     Ok(copied.sign(who, b"text") == Some(mac(&[1], b"text")))

@@ -10,7 +10,7 @@ fn fault_of(alloc: Global, text: &[u8]) -> Option<SecretFault> {
 
 #[test]
 fn the_first_bad_line_is_told(rt: HostRuntime) {
-    let cases: [(&[u8], usize); 22] = [
+    let cases: [(&[u8], usize); 26] = [
         (b"", 1),
         (b"\n", 1),
         (b"key admin 01", 1),
@@ -33,6 +33,22 @@ fn the_first_bad_line_is_told(rt: HostRuntime) {
         (b"seal 00\nkey admin ", 2),
         (b"seal 00\nkey true 01", 2),
         (b"seal 00\nkey Admin 01", 2),
+        (
+            b"seal 00\nroot hr 9 0707070707070707070707070707070707070707070707070707070707070707",
+            2,
+        ),
+        (
+            b"seal 00\nroot hr 1 07070707070707070707070707070707070707070707070707070707070707",
+            2,
+        ),
+        (
+            b"seal 00\nroot hr 1 0707070707070707070707070707070707070707070707070707070707070707\nkey hr 01",
+            3,
+        ),
+        (
+            b"seal 00\nkey hr 01\nroot hr 1 0707070707070707070707070707070707070707070707070707070707070707",
+            3,
+        ),
     ];
     for (text, number) in cases {
         let fault = fault_of(rt.alloc(), text);

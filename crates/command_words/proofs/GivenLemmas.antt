@@ -1,5 +1,6 @@
 -- What is given to a command.
 use Rattle.std.proofs.Common.{◌≡◌, ◌≤◌, ℕ, List, sym, subst, ◌∙◌, Option, Some, None}
+use Rattle.std.proofs.lemmas.Fmt.{decimal_injective}
 use Rattle.clap.specs.Words.{Row, Text, first_of}
 use Rattle.line_words.specs.Numbers.{IsLongNumber}
 use Rattle.command_words.specs.CommandWords.{GivesNumber}
@@ -12,6 +13,12 @@ some_none x is = absurd cc
 
 same_number : (x y : ℕ) → Some x ≡ Some y → x ≡ y
 same_number x y is = cc
+
+-- one number is given under a name, whatever its range is
+pub given_once : (least most low high : ℕ) (name : Text) (given : List Row) (m n : ℕ) → GivesNumber least most name given m → GivesNumber low high name given n → m ≡ n
+given_once least most low high name given m n first second =
+    let text = same_some first.text second.text (sym first.is_given ∙ second.is_given) in
+    decimal_injective m n first.says.fits second.says.fits (sym first.says.decimal_is ∙ text ∙ second.says.decimal_is)
 
 module _ (least most : ℕ) (name : Text) (given : List Row) where
   -- nothing is given

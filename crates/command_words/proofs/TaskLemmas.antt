@@ -16,7 +16,7 @@ use Rattle.command_words.specs.Commands.{program}
 use Rattle.command_words.specs.CommandWords.{GivesNumber, GivesPieces}
 use Rattle.command_words.specs.Tasks.{AreKnown, AskForNoRun, AsksFor, Finds, IsFit, IsServing, IsTaskOf, texts_of}
 use Rattle.command_words.specs.declared.words.Task.{Task}
-use Rattle.command_words.specs.declared.words.Task.TheVariants.{Script, Stored, Init, Checkpoint, Audit, Check, Load, Serve}
+use Rattle.command_words.specs.declared.words.Task.TheVariants.{Script, Stored, Init, Checkpoint, Audit, Check, Load, Modes, RootSign, Serve}
 
 -- ---- names
 
@@ -35,6 +35,8 @@ module _ (given : List Row) where
   no_audit none (Audit pieces) is = none pieces is.1
   no_audit none Check is = absurd (differ (codes "audit") (codes "check") refl is)
   no_audit none (Load rounds seed) is = absurd (differ (codes "audit") (codes "load") refl is.0)
+  no_audit none (Modes from to) is = absurd (differ (codes "audit") (codes "modes") refl is.0)
+  no_audit none (RootSign height from) is = absurd (differ (codes "audit") (codes "rootsign") refl is.0)
   no_audit none (Serve port count) is = absurd (differ (codes "audit") (codes "serve") refl is.0)
 
   -- pieces are given, but as no such number
@@ -50,7 +52,33 @@ module _ (given : List Row) where
   no_load none (Audit pieces) is = absurd (differ (codes "load") (codes "audit") refl is.0)
   no_load none Check is = absurd (differ (codes "load") (codes "check") refl is)
   no_load none (Load rounds seed) is = none rounds seed is.1 is.2
+  no_load none (Modes from to) is = absurd (differ (codes "load") (codes "modes") refl is.0)
+  no_load none (RootSign height from) is = absurd (differ (codes "load") (codes "rootsign") refl is.0)
   no_load none (Serve port count) is = absurd (differ (codes "load") (codes "serve") refl is.0)
+
+  pub no_modes : ((from to : ℕ) → GivesNumber 0 253402300799 (codes "from") given from → GivesNumber 0 253402300799 (codes "to") given to → ⊥) → (task : Task) → IsTaskOf (codes "modes") given task → ⊥
+  no_modes none Script is = absurd (differ (codes "modes") (codes "script") refl is.0)
+  no_modes none Stored is = absurd (differ (codes "modes") (codes "script") refl is.0)
+  no_modes none Init is = absurd (differ (codes "modes") (codes "init") refl is)
+  no_modes none Checkpoint is = absurd (differ (codes "modes") (codes "checkpoint") refl is)
+  no_modes none (Audit pieces) is = absurd (differ (codes "modes") (codes "audit") refl is.0)
+  no_modes none Check is = absurd (differ (codes "modes") (codes "check") refl is)
+  no_modes none (Load rounds seed) is = absurd (differ (codes "modes") (codes "load") refl is.0)
+  no_modes none (Modes from to) is = none from to is.1 is.2
+  no_modes none (RootSign height from) is = absurd (differ (codes "modes") (codes "rootsign") refl is.0)
+  no_modes none (Serve port count) is = absurd (differ (codes "modes") (codes "serve") refl is.0)
+
+  pub no_rootsign : ((height from : ℕ) → GivesNumber 0 8 (codes "height") given height → GivesNumber 0 (2 ^ height) (codes "from") given from → ⊥) → (task : Task) → IsTaskOf (codes "rootsign") given task → ⊥
+  no_rootsign none Script is = absurd (differ (codes "rootsign") (codes "script") refl is.0)
+  no_rootsign none Stored is = absurd (differ (codes "rootsign") (codes "script") refl is.0)
+  no_rootsign none Init is = absurd (differ (codes "rootsign") (codes "init") refl is)
+  no_rootsign none Checkpoint is = absurd (differ (codes "rootsign") (codes "checkpoint") refl is)
+  no_rootsign none (Audit pieces) is = absurd (differ (codes "rootsign") (codes "audit") refl is.0)
+  no_rootsign none Check is = absurd (differ (codes "rootsign") (codes "check") refl is)
+  no_rootsign none (Load rounds seed) is = absurd (differ (codes "rootsign") (codes "load") refl is.0)
+  no_rootsign none (Modes from to) is = absurd (differ (codes "rootsign") (codes "modes") refl is.0)
+  no_rootsign none (RootSign height from) is = none height from is.1 is.2
+  no_rootsign none (Serve port count) is = absurd (differ (codes "rootsign") (codes "serve") refl is.0)
 
   pub no_serve : ((port count : ℕ) → GivesNumber 1 65535 (codes "port") given port → GivesNumber 1 1000000 (codes "count") given count → ⊥) → (task : Task) → IsTaskOf (codes "serve") given task → ⊥
   no_serve none Script is = absurd (differ (codes "serve") (codes "script") refl is.0)
@@ -60,18 +88,22 @@ module _ (given : List Row) where
   no_serve none (Audit pieces) is = absurd (differ (codes "serve") (codes "audit") refl is.0)
   no_serve none Check is = absurd (differ (codes "serve") (codes "check") refl is)
   no_serve none (Load rounds seed) is = absurd (differ (codes "serve") (codes "load") refl is.0)
+  no_serve none (Modes from to) is = absurd (differ (codes "serve") (codes "modes") refl is.0)
+  no_serve none (RootSign height from) is = absurd (differ (codes "serve") (codes "rootsign") refl is.0)
   no_serve none (Serve port count) is = none port count is.1 is.2
 
   -- the name is no command's
-  pub no_command : (name : Text) → (name ≡ codes "script" → ⊥) → (name ≡ codes "init" → ⊥) → (name ≡ codes "checkpoint" → ⊥) → (name ≡ codes "audit" → ⊥) → (name ≡ codes "check" → ⊥) → (name ≡ codes "load" → ⊥) → (name ≡ codes "serve" → ⊥) → (task : Task) → IsTaskOf name given task → ⊥
-  no_command name no_script no_init no_checkpoint no_audit no_check no_load no_serve Script is = no_script is.0
-  no_command name no_script no_init no_checkpoint no_audit no_check no_load no_serve Stored is = no_script is.0
-  no_command name no_script no_init no_checkpoint no_audit no_check no_load no_serve Init is = no_init is
-  no_command name no_script no_init no_checkpoint no_audit no_check no_load no_serve Checkpoint is = no_checkpoint is
-  no_command name no_script no_init no_checkpoint no_audit no_check no_load no_serve (Audit pieces) is = no_audit is.0
-  no_command name no_script no_init no_checkpoint no_audit no_check no_load no_serve Check is = no_check is
-  no_command name no_script no_init no_checkpoint no_audit no_check no_load no_serve (Load rounds seed) is = no_load is.0
-  no_command name no_script no_init no_checkpoint no_audit no_check no_load no_serve (Serve port count) is = no_serve is.0
+  pub no_command : (name : Text) → (name ≡ codes "script" → ⊥) → (name ≡ codes "init" → ⊥) → (name ≡ codes "checkpoint" → ⊥) → (name ≡ codes "audit" → ⊥) → (name ≡ codes "check" → ⊥) → (name ≡ codes "load" → ⊥) → (name ≡ codes "modes" → ⊥) → (name ≡ codes "rootsign" → ⊥) → (name ≡ codes "serve" → ⊥) → (task : Task) → IsTaskOf name given task → ⊥
+  no_command name no_script no_init no_checkpoint no_audit no_check no_load no_modes no_rootsign no_serve Script is = no_script is.0
+  no_command name no_script no_init no_checkpoint no_audit no_check no_load no_modes no_rootsign no_serve Stored is = no_script is.0
+  no_command name no_script no_init no_checkpoint no_audit no_check no_load no_modes no_rootsign no_serve Init is = no_init is
+  no_command name no_script no_init no_checkpoint no_audit no_check no_load no_modes no_rootsign no_serve Checkpoint is = no_checkpoint is
+  no_command name no_script no_init no_checkpoint no_audit no_check no_load no_modes no_rootsign no_serve (Audit pieces) is = no_audit is.0
+  no_command name no_script no_init no_checkpoint no_audit no_check no_load no_modes no_rootsign no_serve Check is = no_check is
+  no_command name no_script no_init no_checkpoint no_audit no_check no_load no_modes no_rootsign no_serve (Load rounds seed) is = no_load is.0
+  no_command name no_script no_init no_checkpoint no_audit no_check no_load no_modes no_rootsign no_serve (Modes from to) is = no_modes is.0
+  no_command name no_script no_init no_checkpoint no_audit no_check no_load no_modes no_rootsign no_serve (RootSign height from) is = no_rootsign is.0
+  no_command name no_script no_init no_checkpoint no_audit no_check no_load no_modes no_rootsign no_serve (Serve port count) is = no_serve is.0
 
   -- it is this command's
   pub as_named : (name literal : Text) (task : Option Task) → name ≡ literal → MatchOption task ((t : Task) → IsTaskOf literal given t → ⊥) (IsTaskOf literal given) → MatchOption task ((t : Task) → IsTaskOf name given t → ⊥) (IsTaskOf name given)
@@ -117,6 +149,8 @@ fits_found (Some f) (Audit None) finds = tt
 fits_found (Some f) (Audit (Some n)) finds = finds.1.not_below
 fits_found (Some f) Check finds = tt
 fits_found (Some f) (Load rounds seed) finds = finds.1.not_above
+fits_found (Some f) (Modes from to) finds = (finds.1.not_above, finds.2.not_above)
+fits_found (Some f) (RootSign height from) finds = (finds.1.not_above, finds.2.not_above)
 fits_found (Some f) (Serve port count) finds = (finds.2.not_below, finds.2.not_above)
 
 -- what is asked for has its numbers in their ranges
@@ -136,6 +170,8 @@ serving_only (Some f) port count serves Checkpoint finds = absurd (differ (codes
 serving_only (Some f) port count serves (Audit pieces) finds = absurd (differ (codes "serve") (codes "audit") refl (sym serves.0 ∙ finds.0))
 serving_only (Some f) port count serves Check finds = absurd (differ (codes "serve") (codes "check") refl (sym serves.0 ∙ finds))
 serving_only (Some f) port count serves (Load rounds seed) finds = absurd (differ (codes "serve") (codes "load") refl (sym serves.0 ∙ finds.0))
+serving_only (Some f) port count serves (Modes from to) finds = absurd (differ (codes "serve") (codes "modes") refl (sym serves.0 ∙ finds.0))
+serving_only (Some f) port count serves (RootSign height from) finds = absurd (differ (codes "serve") (codes "rootsign") refl (sym serves.0 ∙ finds.0))
 serving_only (Some f) port count serves (Serve other more) finds = tt
 
 -- if sessions are asked for, nothing else is

@@ -34,6 +34,12 @@ check_app = new_app (codes "check")
 abbrev pub load_app : App
 load_app = with_rule (with_rule (new_app (codes "load")) (word_rule (codes "rounds"))) (word_rule (codes "seed"))
 
+abbrev pub modes_app : App
+modes_app = with_rule (with_rule (new_app (codes "modes")) (word_rule (codes "from"))) (word_rule (codes "to"))
+
+abbrev pub rootsign_app : App
+rootsign_app = with_rule (with_rule (new_app (codes "rootsign")) (word_rule (codes "height"))) (word_rule (codes "from"))
+
 abbrev pub serve_app : App
 serve_app = with_rule (with_rule (new_app (codes "serve")) (word_rule (codes "port"))) (word_rule (codes "count"))
 
@@ -45,4 +51,4 @@ abbrev pub stored_commands : App
 stored_commands = with_subcommand (with_subcommand (with_subcommand (with_subcommand no_commands script_app.top) init_app.top) audit_app.top) checkpoint_app.top
 
 abbrev pub program : App
-program = with_subcommand (with_subcommand (with_subcommand stored_commands check_app.top) load_app.top) serve_app.top
+program = with_subcommand (with_subcommand (with_subcommand (with_subcommand (with_subcommand stored_commands check_app.top) load_app.top) modes_app.top) rootsign_app.top) serve_app.top

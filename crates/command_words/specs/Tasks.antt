@@ -4,7 +4,7 @@ use Rattle.std.specs.String.{string_bytes}
 use Rattle.std.specs.declared.alloc.Global.{Global}
 use Rattle.clap.specs.Words.{Row, Text, fault_of, first_of, subcommand_of}
 use Rattle.command_words.specs.declared.words.Task.{Task}
-use Rattle.command_words.specs.declared.words.Task.TheVariants.{Script, Stored, Init, Checkpoint, Audit, Check, Load, Serve}
+use Rattle.command_words.specs.declared.words.Task.TheVariants.{Script, Stored, Init, Checkpoint, Audit, Check, Load, Modes, RootSign, Serve}
 use Rattle.command_words.specs.CommandWords.{GivesNumber, GivesPieces}
 use Rattle.command_words.specs.Commands.{program}
 
@@ -17,6 +17,9 @@ IsTaskOf name given Checkpoint = name ≡ codes "checkpoint"
 IsTaskOf name given (Audit pieces) = (name ≡ codes "audit") × GivesPieces given pieces
 IsTaskOf name given Check = name ≡ codes "check"
 IsTaskOf name given (Load rounds seed) = (name ≡ codes "load") × GivesNumber 0 20000 (codes "rounds") given rounds × GivesNumber 0 (2 ^ 64 - 1) (codes "seed") given seed
+IsTaskOf name given (Modes from to) = (name ≡ codes "modes") × GivesNumber 0 253402300799 (codes "from") given from × GivesNumber 0 253402300799 (codes "to") given to
+IsTaskOf name given (RootSign height from) =
+    (name ≡ codes "rootsign") × GivesNumber 0 8 (codes "height") given height × GivesNumber 0 (2 ^ height) (codes "from") given from
 IsTaskOf name given (Serve port count) = (name ≡ codes "serve") × GivesNumber 1 65535 (codes "port") given port × GivesNumber 1 1000000 (codes "count") given count
 
 -- the command that was found asks for this
@@ -46,6 +49,8 @@ IsFit Checkpoint = Unit {0}
 IsFit (Audit pieces) = IfSome pieces (λ n. 1 ≤ n)
 IsFit Check = Unit {0}
 IsFit (Load rounds seed) = rounds ≤ 20000
+IsFit (Modes from to) = (from ≤ 253402300799) × (to ≤ 253402300799)
+IsFit (RootSign height from) = (height ≤ 8) × (from ≤ 2 ^ height)
 IsFit (Serve port count) = (1 ≤ count) × (count ≤ 1000000)
 
 -- sessions are asked for, which need more ports than a run without them
@@ -57,6 +62,8 @@ IsServing Checkpoint = ⊥
 IsServing (Audit pieces) = ⊥
 IsServing Check = ⊥
 IsServing (Load rounds seed) = ⊥
+IsServing (Modes from to) = ⊥
+IsServing (RootSign height from) = ⊥
 IsServing (Serve port count) = Unit {0}
 
 -- the words ask for nothing, unless it is sessions

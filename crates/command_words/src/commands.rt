@@ -3,7 +3,7 @@
 ghost use Rattle.std.specs.Prelude.{◌≡◌, IfOk, false};
 ghost use Rattle.clap.specs.Words.{AddsSubcommand, app_of, rule_of, with_subcommand};
 ghost use Rattle.clap.specs.declared.builder.command.Command.{Command};
-ghost use Rattle.command_words.specs.Commands.{audit_app, flag_rule, load_app, no_commands, option_rule, program, script_app, serve_app, stored_commands, word_rule};
+ghost use Rattle.command_words.specs.Commands.{audit_app, flag_rule, load_app, modes_app, no_commands, option_rule, program, rootsign_app, script_app, serve_app, stored_commands, word_rule};
 
 use clap::{Arg, ArgAction, Command};
 use std::alloc::{AllocError, Global};
@@ -54,6 +54,22 @@ fn load_command<'a>(alloc: Global) -> Result<Command<'a>, AllocError>
     Ok(command)
 }
 
+fn modes_command<'a>(alloc: Global) -> Result<Command<'a>, AllocError>
+    ensures { IfOk result (λ c. (old new : Command) → AddsSubcommand old c new → app_of new ≡ with_subcommand (app_of old) modes_app.top) }
+{
+    let first = Command::new(alloc, "modes").arg(word(alloc, "from"))?;
+    let command = first.arg(word(alloc, "to"))?;
+    Ok(command)
+}
+
+fn rootsign_command<'a>(alloc: Global) -> Result<Command<'a>, AllocError>
+    ensures { IfOk result (λ c. (old new : Command) → AddsSubcommand old c new → app_of new ≡ with_subcommand (app_of old) rootsign_app.top) }
+{
+    let first = Command::new(alloc, "rootsign").arg(word(alloc, "height"))?;
+    let command = first.arg(word(alloc, "from"))?;
+    Ok(command)
+}
+
 fn serve_command<'a>(alloc: Global) -> Result<Command<'a>, AllocError>
     ensures { IfOk result (λ c. (old new : Command) → AddsSubcommand old c new → app_of new ≡ with_subcommand (app_of old) serve_app.top) }
 {
@@ -89,10 +105,14 @@ pub fn program<'a>(alloc: Global) -> Result<Command<'a>, AllocError>
     ensures { IfOk result (λ c. app_of c ≡ program) }
 {
     let load = load_command(alloc)?;
+    let modes = modes_command(alloc)?;
+    let rootsign = rootsign_command(alloc)?;
     let serve = serve_command(alloc)?;
     let stored = stored_commands(alloc)?;
     let with_check = stored.subcommand(Command::new(alloc, "check"))?;
     let with_load = with_check.subcommand(load)?;
-    let command = with_load.subcommand(serve)?;
+    let with_modes = with_load.subcommand(modes)?;
+    let with_rootsign = with_modes.subcommand(rootsign)?;
+    let command = with_rootsign.subcommand(serve)?;
     Ok(command)
 }

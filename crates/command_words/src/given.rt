@@ -1,6 +1,6 @@
 //! What is given to a command, as `clap` found it.
 
-ghost use Rattle.std.specs.Prelude.{◌≡◌, ◌≤◌, ℕ, codes, MatchOption};
+ghost use Rattle.std.specs.Prelude.{◌≡◌, ◌≤◌, ◌^◌, ℕ, codes, MatchOption};
 ghost use Rattle.clap.specs.Words.{found_of, rows_of};
 ghost use Rattle.command_words.specs.CommandWords.{GivesNumber};
 ghost use Rattle.command_words.specs.Tasks.{IsTaskOf};
@@ -15,6 +15,12 @@ const MOST_PIECES: u64 = 64;
 
 /// The most rounds of a generated script.
 const MOST_ROUNDS: u64 = 20_000;
+
+/// The last second of a table of modes, 9999-12-31T23:59:59Z.
+const LAST_SECOND: u64 = 253_402_300_799;
+
+/// The greatest height of a tree of hashes.
+const MOST_HEIGHT: u64 = 8;
 
 /// The greatest port.
 const LAST_PORT: u64 = 65_535;
@@ -76,6 +82,41 @@ pub fn load_task(given: &ArgMatches<'_>) -> Option<Task>
     match number_given(given, "rounds", 0, MOST_ROUNDS) {
         Some(rounds) => match number_given(given, "seed", 0, u64::MAX) {
             Some(seed) => Some(Task::Load(rounds, seed)),
+            None => None,
+        },
+        None => None,
+    }
+}
+
+/// What a table of modes is asked for: its statements hold from one second to another; none if the words are no such numbers.
+pub fn modes_task(given: &ArgMatches<'_>) -> Option<Task>
+    ensures { MatchOption result ((task : Task) → IsTaskOf (codes "modes") (rows_of (found_of given.now)) task → ⊥) (IsTaskOf (codes "modes") (rows_of (found_of given.now))) }
+{
+    match number_given(given, "from", 0, LAST_SECOND) {
+        Some(from) => match number_given(given, "to", 0, LAST_SECOND) {
+            Some(to) => Some(Task::Modes(from, to)),
+            None => None,
+        },
+        None => None,
+    }
+}
+
+// How many leaves a tree of this height has.
+fn leaves_of(height: u64) -> u64
+    requires { height ≤ 8 }
+    ensures leaves { result ≡ 2 ^ height }
+    ensures few { result ≤ 256 }
+{
+    1 << height
+}
+
+/// What signing by a tree of hashes is asked for; none if its words are no such numbers.
+pub fn rootsign_task(given: &ArgMatches<'_>) -> Option<Task>
+    ensures { MatchOption result ((task : Task) → IsTaskOf (codes "rootsign") (rows_of (found_of given.now)) task → ⊥) (IsTaskOf (codes "rootsign") (rows_of (found_of given.now))) }
+{
+    match number_given(given, "height", 0, MOST_HEIGHT) {
+        Some(height) => match number_given(given, "from", 0, leaves_of(height)) {
+            Some(from) => Some(Task::RootSign(height as u8, from as u32)),
             None => None,
         },
         None => None,

@@ -5,7 +5,7 @@ ghost use Rattle.clap.specs.Words.{found_of, rows_of, subcommand_rows_of};
 ghost use Rattle.command_words.specs.Tasks.{AreKnown, AsksFor, Finds, IsTaskOf};
 
 use crate::commands::program;
-use crate::given::{audit_task, load_task, script_task, serve_task};
+use crate::given::{audit_task, load_task, modes_task, rootsign_task, script_task, serve_task};
 use bl_syntax::NoMemory;
 use clap::ArgMatches;
 use clap::error::ErrorKind;
@@ -28,6 +28,10 @@ pub enum Task {
     Check,
     /// So many rounds of the script that is generated from this seed.
     Load(u64, u64),
+    /// The statements of a table of modes, from this second to that one.
+    Modes(u64, u64),
+    /// The statements in an input, signed by a tree of hashes of this height, from this leaf on.
+    RootSign(u8, u32),
     /// Sessions over the areas on this port, for so many connections.
     Serve(u16, u64),
 }
@@ -53,6 +57,12 @@ fn task_named(name: &str, given: &ArgMatches<'_>) -> Option<Task>
     }
     if name == "load" {
         return load_task(given);
+    }
+    if name == "modes" {
+        return modes_task(given);
+    }
+    if name == "rootsign" {
+        return rootsign_task(given);
     }
     if name == "serve" {
         return serve_task(given);

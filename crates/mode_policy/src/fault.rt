@@ -8,7 +8,7 @@ use bl_syntax::NoMemory;
 /// Why a text was not read as a table, or why its statements were not made.
 #[derive(Clone, Copy, Debug, PartialEq, Eq)]
 pub enum ModeFault {
-    /// The line of this number, from 1, is outside the grammar, or speaks of a principal that no line before it names.
+    /// The line of this number, from 1, is outside the grammar, or its member or owner stands in no `who` line before.
     BadLine(usize),
     /// The line of this number, from 1, repeats a principal, a membership or a file.
     Twice(usize),

@@ -32,9 +32,9 @@ fn fault_at(number: usize, fault: LineFault) -> ModeFault
 }
 
 impl ModeTable {
-    /// The table of a text. Its lines are `who K`, `member K GROUP` and `mode #N OWNER GROUP BITS`, with three octal digits; K and
-    /// OWNER stand in a `who` line before. The first line that is not such a one is `BadLine`; one that repeats a principal, a
-    /// membership or a file is `Twice`.
+    /// The table of a text. Its lines are `who K`, `member K GROUP` and `mode #N OWNER GROUP BITS`, with three octal digits; the K
+    /// of a `member` line and OWNER stand in a `who` line before. The first line that is not such a one is `BadLine`; one that
+    /// repeats a principal, a membership or a file is `Twice`.
     pub fn parse(alloc: Global, text: &[u8]) -> Result<ModeTable, ModeFault>
         ensures { ReadsTable text.now result }
     {

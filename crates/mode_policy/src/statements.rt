@@ -1,6 +1,6 @@
 //! The statements of a table of modes.
 
-ghost use Rattle.std.specs.Prelude.{◌≡◌, ◌++◌, ◌∷◌, []};
+ghost use Rattle.std.specs.Prelude.{◌≡◌, ◌≤◌, ◌++◌, ◌∷◌, [], length};
 ghost use Rattle.bl_syntax.specs.Formula.{formula_view};
 ghost use Rattle.bl_syntax.specs.Statement.{IsSayableFormula};
 ghost use Rattle.bl_syntax.specs.TimeOrder.{IsInRange};
@@ -46,7 +46,8 @@ impl Statements {
 
     /// The statements in order.
     pub fn as_slice(&self) -> &[Statement]
-        ensures { result.now ≡ self.now }
+        ensures same { result.now ≡ self.now }
+        ensures few { length self.now ≤ 4096 }
     {
         self.statements.as_slice()
     }

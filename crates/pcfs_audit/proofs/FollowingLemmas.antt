@@ -1,5 +1,5 @@
 -- What is found with an event, and where the auditor stands after it.
-use Rattle.std.proofs.Common.{◌≡◌, ◌≢◌, ◌+◌, ℕ, List, [], ◌∷◌, ◌++◌, length, refl, sym, subst, ◌∙◌, arith, Bool, true, false, None, Some, Option, take, drop, get_or, ap, ◌<◌}
+use Rattle.std.proofs.Common.{◌≡◌, ◌+◌, ℕ, List, [], ◌∷◌, ◌++◌, length, refl, sym, subst, ◌∙◌, arith, Bool, true, false, None, Some, Option, take, drop, get_or, ap, ◌<◌}
 use Rattle.std.specs.Prelude.{IsTrue, not, ℤ, ◌≤ℤ◌}
 use Rattle.std.proofs.lemmas.Bool.{false≢true}
 use Rattle.std.proofs.lemmas.List.{length-append, take-append-drop, take_more}

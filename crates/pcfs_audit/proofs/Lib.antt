@@ -1,5 +1,6 @@
 pub mod CitesLemmas
 pub mod CredentialLemmas
+pub mod ExaminingLemmas
 pub mod FirstsLemmas
 pub mod FollowingLemmas
 pub mod LawLemmas
@@ -8,3 +9,4 @@ pub mod ReferenceLemmas
 pub mod RowsLemmas
 pub mod SplitLemmas
 pub mod TakingLemmas
+pub mod CrossingLemmas

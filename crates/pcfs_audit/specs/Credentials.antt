@@ -36,3 +36,8 @@ HasCredentialsAt authority base events place credentials = (event : Event) → s
 pub record AreCredentials (authority : Authority) (base : BaseView) (events : List Event) (all : List Credentials) : Type 0 where
   pub counted : length all ≡ length events
   pub each : (place : ℕ) (credentials : Credentials) → slice_get all place ≡ Some credentials → HasCredentialsAt authority base events place credentials
+
+-- these were found of so many events, in order
+pub record AreFound (Finds : ℕ → Credentials → Type 0) (count : ℕ) (all : List Credentials) : Type 0 where
+  pub counted : length all ≡ count
+  pub each : (place : ℕ) (credentials : Credentials) → slice_get all place ≡ Some credentials → Finds place credentials

@@ -1,6 +1,7 @@
 pub mod Cites
 pub mod Credentials
 pub mod Dossier
+pub mod DossierCredentials
 pub mod Finding
 pub mod Firsts
 pub mod Following

@@ -6,7 +6,7 @@ ghost use Rattle.pcfs_audit.specs.Dossier.{IsDossier};
 ghost use Rattle.pcfs_audit.specs.Report.{AreRows, IsReport, authority_by};
 
 use crate::auditor::auditor_at;
-use crate::credentials::{Credentials, credentials_in_order};
+use crate::credentials::{Credentials, credentials_in_order, credentials_in_pieces};
 use crate::digests::{grant_digests, grant_digests_in_pieces};
 use crate::dossier::{Dossier, dossier_of};
 use crate::papers::papers_of;
@@ -78,16 +78,17 @@ pub fn audit<S: Signatures>(
     report_on(alloc, &dossier, all.as_slice())
 }
 
-// How many of so many a piece has at least, if there are so many pieces.
+// How many of so many a piece has at least, if there are to be so many pieces. It is rounded down: a piece is halved only if
+// each half has as many, so what is left over would halve the number of pieces.
 fn least_of(count: usize, pieces: usize) -> usize
     requires { 1 ≤ pieces }
 {
-    count.div_ceil(pieces).max(1)
+    (count / pieces).max(1)
 }
 
-/// The same report, with the tags of issued grants made in so many pieces at most, in several threads; all else is done in
-/// order.
-pub fn audit_pieces<R: Threads + Sync, S: Signatures>(
+/// The same report, made in several threads, in about so many pieces: few events may be in more. The tags of issued grants
+/// are made, and the events' signatures, proofs and seals are tested; all else is done in order.
+pub fn audit_pieces<R: Threads + Sync, S: Signatures + Sync>(
     rt: &R,
     alloc: Global,
     base: &Base,
@@ -105,6 +106,6 @@ pub fn audit_pieces<R: Threads + Sync, S: Signatures>(
     let grants = papers.grants.as_slice();
     let digests = grant_digests_in_pieces(rt, alloc, &key, grants, least_of(grants.len(), pieces))?;
     let dossier = dossier_of(alloc, key, base, events, papers, digests.as_slice())?;
-    let all = credentials_in_order(alloc, &dossier, ring)?;
+    let all = credentials_in_pieces(rt, alloc, &dossier, ring, least_of(events.len(), pieces))?;
     report_on(alloc, &dossier, all.as_slice())
 }

@@ -8,11 +8,13 @@ ghost use Rattle.access_history.specs.Authority.{sayings};
 ghost use Rattle.access_history.specs.Base.{BaseView};
 ghost use Rattle.pcfs_audit.specs.Credentials.{AreCredentials, IsOfIssues, HasCredentials, HasCredentialsAt};
 ghost use Rattle.pcfs_audit.specs.Dossier.{IsDossier};
+ghost use Rattle.pcfs_audit.specs.DossierCredentials.{AreCredentialsIn, HasCredentialsIn};
 ghost use Rattle.pcfs_audit.specs.Papers.{grants_in, shown};
 ghost use Rattle.pcfs_audit.specs.Report.{authority_by};
 
 use crate::digests::tag_digest;
 use crate::dossier::Dossier;
+use crate::examining::{Examiner, examine_in_pieces};
 use crate::grants::was_issued;
 use crate::issues::is_good_issue;
 use crate::papers::Before;
@@ -22,6 +24,7 @@ use bl_syntax::NoMemory;
 use pcfs_ports::Signatures;
 use procap::Procap;
 use std::alloc::Global;
+use std::thread::Threads;
 
 /// Whether what an event brings is genuine, and whether each grant that it uses was issued before.
 #[derive(Clone, Copy, Debug)]
@@ -166,4 +169,41 @@ pub fn credentials_in_order<S: Signatures>(
         all.push(credentials_at(alloc, dossier, ring, place)?)?;
     }
     Ok(all)
+}
+
+// A dossier whose events are tested, with what the threads that test them share.
+#[derive(Drop)]
+struct Examination<'d, 'h, S> {
+    alloc: Global,
+    dossier: &'d Dossier<'h>,
+    ring: &'d S,
+}
+
+impl<'d, 'h, S: Signatures> Examiner for Examination<'d, 'h, S> {
+    ghost has = { λ it place. IsDossier it.dossier.now × (place < length it.dossier.now.events.now) };
+
+    ghost finds = { λ it place. HasCredentialsIn it.dossier.now (S.Signatures.accepted it.ring.now) place };
+
+    fn examine(&self, place: usize) -> Result<Credentials, NoMemory> {
+        credentials_at(self.alloc, self.dossier, self.ring, place)
+    }
+}
+
+/// The credentials of all events, found in several threads, each for at least `least` events.
+pub fn credentials_in_pieces<R: Threads + Sync, S: Signatures + Sync>(
+    rt: &R,
+    alloc: Global,
+    dossier: &Dossier,
+    ring: &S,
+    least: usize,
+) -> Result<Vec<Credentials>, NoMemory>
+    requires { IsDossier dossier.now }
+    ensures { IfOk result (λ all. AreCredentialsIn dossier.now (S.Signatures.accepted ring.now) all.items) }
+{
+    let examination = Examination {
+        alloc,
+        dossier,
+        ring,
+    };
+    examine_in_pieces(rt, alloc, &examination, dossier.events.len(), least)
 }

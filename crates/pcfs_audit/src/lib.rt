@@ -12,6 +12,7 @@ mod auditor;
 mod credentials;
 mod digests;
 mod dossier;
+mod examining;
 mod firsts;
 mod grants;
 mod issues;

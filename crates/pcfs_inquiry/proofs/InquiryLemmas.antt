@@ -1,13 +1,11 @@
 -- The lines of an inquiry, one after the other.
-use Rattle.std.proofs.Common.{◌≡◌, ◌<◌, ◌≤◌, ◌+◌, ℕ, suc, List, [], ◌∷◌, ◌++◌, length, refl, sym, ap, subst, ◌∙◌, append_assoc, ⊎_elim, arith, Bool, true, false, None, Some, Result, Ok, Err, zero}
-use Rattle.std.specs.Prelude.{Contains, IfOk, MatchResult, codes, if◌then◌else◌}
+use Rattle.std.proofs.Common.{◌≡◌, ◌<◌, ◌≤◌, ◌+◌, ℕ, suc, List, [], ◌∷◌, ◌++◌, length, refl, sym, ap, subst, ◌∙◌, append_assoc, ⊎_elim, arith, Bool, true, false, None, Some, Result, Ok, Err}
+use Rattle.std.specs.Prelude.{IfOk, MatchResult, codes, if◌then◌else◌}
 use Rattle.std.specs.Str.{bytes_eq}
 use Rattle.std.specs.List.{AllZip}
 use Rattle.std.proofs.lemmas.Bool.{cases_lt}
 use Rattle.std.proofs.lemmas.Slice.Eq.{bytes_eq-Decides}
 use Rattle.std.proofs.lemmas.List.{append-nil, length-append}
-use Rattle.std.proofs.lemmas.List.Elements.{Contains-append_right}
-use Rattle.bl_syntax.proofs.GrantLemmas.{Contains-head}
 use Rattle.bl_syntax.specs.declared.grant.Goal.{Goal}
 use Rattle.bl_syntax.specs.Statement.{StatementView}
 use Rattle.bl_syntax.specs.declared.lists.NoMemory.{NoMemory as OutOfMemory}
@@ -29,7 +27,6 @@ use Rattle.line_words.specs.Cutting.{first_cut}
 use Rattle.line_forms.specs.Lines.{IsAsked, IsLineIn, IsUnreadIn}
 use Rattle.line_text.specs.Lines.{lines_of}
 use Rattle.pcfs_inquiry.specs.declared.reading.InquiryFault.TheVariants as faults
-use Rattle.pcfs_inquiry.specs.Answers.{HasLongLine}
 use Rattle.pcfs_inquiry.specs.Inquiry.{AreSaid, HasFirstFault, IsBadAfter, IsOutOfPlace, SaysStatement, after_goal, early_goal, faulty, in_line, late_statement, no_goal, numbered_from}
 use Rattle.pcfs_inquiry.specs.Reading.{IsAskedAfter, IsEnding, IsRead, IsUnread, IsUnreadAfter, fault_at}
 
@@ -249,30 +246,6 @@ no_goal_left lines cites rest is none =
     let count : length cites ≡ length lines = counted lines cites rest is ∙ sym (ap length same) in
     subst (λ (n : ℕ). HasFirstFault lines (n + 1) (BadWord 0)) (sym count)
     (no_goal is.statements (subst (λ (ls : List (List ℕ)). AreSaid ls is.statements) (sym same) is.are_said) (omega (arith, ap length same, is.few, length-said is.said is.statements is.are_said)))
-
--- ---- long lines
-
-pub long_here : (lines : List (List ℕ)) (line : List ℕ) (others : List (List ℕ)) → lines ≡ line ∷ others → 262144 < length line → HasLongLine lines
-long_here lines line others is long = record { line = line; among = subst (λ (ls : List (List ℕ)). Contains ls line) (sym is) (Contains-head line line others refl); long = long }
-
-pub long_later : (lines : List (List ℕ)) (line : List ℕ) (others : List (List ℕ)) → lines ≡ line ∷ others → HasLongLine others → HasLongLine lines
-long_later lines line others is has =
-    record { line = has.line; among = subst (λ (ls : List (List ℕ)). Contains ls has.line) (sym is) (Contains-append_right (line ∷ []) others has.line has.among); long = has.long }
-
-Contains-behind : (line : List ℕ) (others : List (List ℕ)) (item : List ℕ) → Contains (line ∷ others) item → (line ≡ item → ⊥) → Contains others item
-Contains-behind line others item (zero, within, same) other = absurd (other same)
-Contains-behind line others item (suc place, within, same) other = (place, omega (arith, within), same)
-
-pub long_rest : (lines : List (List ℕ)) (line : List ℕ) (others : List (List ℕ)) → lines ≡ line ∷ others → length line ≤ 262144 → HasLongLine lines → HasLongLine others
-long_rest lines line others is short has =
-    record {
-      line = has.line;
-      among = Contains-behind line others has.line (subst (λ (ls : List (List ℕ)). Contains ls has.line) is has.among) (λ same. omega (arith, has.long, short, ap length same));
-      long = has.long;
-    }
-
-pub long_none : (lines : List (List ℕ)) → lines ≡ [] → HasLongLine lines → ⊥
-long_none lines none has = omega (arith, has.among.1, ap length none)
 
 -- ---- a line that is read, and one with the goal
 

@@ -1,11 +1,8 @@
 -- What is answered to an inquiry, and how a run of it ends (this project's own).
-use Rattle.std.specs.Prelude.{◌<◌, ◌+◌, ℕ, List, ◌++◌, length, drop, codes, Option, Result, Ok, Err, Contains}
-use Rattle.std.specs.Fmt.{decimal}
+use Rattle.std.specs.Prelude.{ℕ, List, drop, codes, Option, Result, Ok, Err}
 use Rattle.bl_syntax.specs.declared.grant.Goal.{Goal}
 use Rattle.bl_syntax.specs.Grant.{GrantView}
 use Rattle.bl_syntax.specs.Statement.{StatementView}
-use Rattle.bl_tokens.specs.declared.faults.TextFault.{TextFault}
-use Rattle.bl_tokens.specs.declared.faults.TextFault.TheVariants as texts
 use Rattle.pcfs_ports.specs.Faults.{HasRisen}
 use Rattle.pcfs_ports.specs.Told.{ReadsToEnd, TakesFirst}
 use Rattle.proof_term.specs.Proof.{ProofView}
@@ -13,7 +10,8 @@ use Rattle.proof_verifier.specs.Verdict.{verdict}
 use Rattle.proof_verifier.specs.declared.fault.CheckFault.{CheckFault}
 use Rattle.line_text.specs.Lines.{lines_of}
 use Rattle.line_forms.specs.declared.fault.LineFault.{LineFault}
-use Rattle.line_forms.specs.declared.fault.LineFault.TheVariants.{BadWord, BadCount, BadText, NoMemory}
+use Rattle.line_faults.specs.LongLines.{HasLongLine}
+use Rattle.line_faults.specs.Reports.{bad_line_text}
 use Rattle.line_wire.specs.CheckedText.{checked_text}
 use Rattle.line_wire.specs.FaultText.{unproved_text}
 use Rattle.pcfs_inquiry.specs.Inquiry.{HasFirstFault, IsInquiry}
@@ -22,32 +20,6 @@ use Rattle.pcfs_inquiry.specs.Inquiry.{HasFirstFault, IsInquiry}
 abbrev pub verdict_text : Result GrantView CheckFault → List ℕ
 verdict_text (Ok g) = drop 3 (checked_text g)
 verdict_text (Err fault) = unproved_text fault
-
--- the number of a fault of a text, and its place there
-abbrev pub text_fault_text : TextFault → List ℕ
-text_fault_text (texts.Unexpected at) = codes "11 " ++ decimal at
-text_fault_text (texts.UnknownName at) = codes "12 " ++ decimal at
-text_fault_text (texts.BadDate at) = codes "13 " ++ decimal at
-text_fault_text (texts.Sort at) = codes "14 " ++ decimal at
-text_fault_text (texts.TooLarge at) = codes "15 " ++ decimal at
-text_fault_text texts.NoMemory = codes "nomemory"
-
--- the number of a fault of a line, and its place
-abbrev pub line_fault_text : LineFault → List ℕ
-line_fault_text (BadWord place) = codes "1 " ++ decimal place
-line_fault_text BadCount = codes "2 0"
-line_fault_text (BadText fault) = text_fault_text fault
-line_fault_text NoMemory = codes "nomemory"
-
--- the line that is wrong, and its fault
-abbrev pub bad_line_text : ℕ → LineFault → List ℕ
-bad_line_text number fault = codes "line " ++ (decimal number ++ (codes " bad " ++ line_fault_text fault))
-
--- a line is longer than a line may be
-pub record HasLongLine (lines : List (List ℕ)) : Type 0 where
-  pub line : List ℕ
-  pub among : Contains lines line
-  pub long : 262144 < length line
 
 -- The status that the inquiry in an input ends with, and the line that it has to write. A line that is too long comes before any other fault, wherever it stands. `left` and `faults` are what the input has left and the count of its faults.
 pub data InquiryEnds (left left_after : Option (List ℕ)) (faults faults_after : ℕ) : ℕ → List ℕ → Type 0 where

@@ -1,25 +1,18 @@
 //! The answer to the inquiry in an input.
 
-ghost use Rattle.std.specs.Prelude.{◌≡◌, ◌≢◌, ◌↔◌, ◌++◌, ◌∷◌, [], ℕ, List, IfOk, IsTrue, OnErr, OnOk};
-ghost use Rattle.bl_syntax.specs.BeginsWith.{BeginsWith};
-ghost use Rattle.line_text.specs.Lines.{lines_of};
+ghost use Rattle.std.specs.Prelude.{◌≡◌, ◌≢◌, ◌++◌, ◌∷◌, [], ℕ, List, IfOk, OnOk};
 ghost use Rattle.proof_verifier.specs.Cited.{AreCited, statements_of};
 ghost use Rattle.proof_verifier.specs.Verdict.{verdict};
-ghost use Rattle.pcfs_inquiry.specs.Answers.{HasLongLine, InquiryEnds, bad_line_text, line_fault_text, text_fault_text, verdict_text};
+ghost use Rattle.pcfs_inquiry.specs.Answers.{InquiryEnds, verdict_text};
 
 use crate::reading::{Inquiry, InquiryFault, read_inquiry};
-use bl_syntax::decimal::{put_counted, put_text};
+use bl_syntax::decimal::put_text;
 use bl_syntax::{Bytes, Grant, NoMemory};
-use bl_text::TextFault;
-use line_forms::LineFault;
-use line_text::first_line;
+use line_faults::{bad_line, has_long_line};
 use line_wire::{LineReply, write_reply};
 use pcfs_ports::{Source, TakeFault, read_to_end};
 use proof_verifier::{CheckFault, verdict};
 use std::alloc::Global;
-
-/// The longest line.
-const LONGEST_LINE: usize = 262_144;
 
 /// The inquiry was answered.
 const DONE: u8 = 0;
@@ -41,46 +34,6 @@ const TOO_LONG: u8 = 13;
 pub struct InquiryEnd {
     pub status: u8,
     pub line: Bytes,
-}
-
-// Writes the number of a fault of a text, and its place there.
-fn write_text_fault(out: &mut Bytes, fault: TextFault) -> Result<(), NoMemory>
-    ensures ok { OnOk result (out.new ≡ out.old ++ text_fault_text fault) }
-    ensures err { OnErr result (BeginsWith out.new out.old) }
-{
-    match fault {
-        TextFault::Unexpected(at) => put_counted(out, "11 ", at as u64),
-        TextFault::UnknownName(at) => put_counted(out, "12 ", at as u64),
-        TextFault::BadDate(at) => put_counted(out, "13 ", at as u64),
-        TextFault::Sort(at) => put_counted(out, "14 ", at as u64),
-        TextFault::TooLarge(at) => put_counted(out, "15 ", at as u64),
-        TextFault::NoMemory => put_text(out, "nomemory"),
-    }
-}
-
-// Writes the number of a fault of a line, and its place.
-fn write_line_fault(out: &mut Bytes, fault: LineFault) -> Result<(), NoMemory>
-    ensures ok { OnOk result (out.new ≡ out.old ++ line_fault_text fault) }
-    ensures err { OnErr result (BeginsWith out.new out.old) }
-{
-    match fault {
-        LineFault::BadWord(place) => put_counted(out, "1 ", place as u64),
-        LineFault::BadCount => put_text(out, "2 0"),
-        LineFault::BadText(fault) => write_text_fault(out, fault),
-        LineFault::NoMemory => put_text(out, "nomemory"),
-    }
-}
-
-// The line that tells which line is wrong, and how.
-fn bad_line(alloc: Global, number: usize, fault: LineFault) -> Result<Bytes, NoMemory>
-    ensures { IfOk result (λ line. line ≡ bad_line_text number fault ++ 10 ∷ []) }
-{
-    let mut line = Bytes::new(alloc);
-    put_counted(&mut line, "line ", number as u64)?;
-    put_text(&mut line, " bad ")?;
-    write_line_fault(&mut line, fault)?;
-    line.push(b'\n')?;
-    Ok(line)
 }
 
 // A line with this text.
@@ -128,20 +81,6 @@ fn answer(alloc: Global, inquiry: &Inquiry) -> Result<Bytes, NoMemory>
         Ok(grant) => granted_line(alloc, grant),
         Err(fault) => refused_line(alloc, fault),
     }
-}
-
-// Whether a line of the input is too long.
-fn has_long_line(input: &[u8]) -> bool
-    ensures { IsTrue result ↔ HasLongLine (lines_of input.now) }
-{
-    let mut rest = input;
-    while let Some((line, others)) = first_line(rest) {
-        if LONGEST_LINE < line.len() {
-            return true;
-        }
-        rest = others;
-    }
-    false
 }
 
 // The end with this status and this line, or out of memory.

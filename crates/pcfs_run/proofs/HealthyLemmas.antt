@@ -1,16 +1,22 @@
 -- A run over ports that do not fail ends with one of these statuses, by its cause.
-use Rattle.std.proofs.Common.{◌≡◌, ◌⊎◌, inl, inr, ◌≤◌, ℕ, List, [], ◌∷◌, String, Option, Some, None, refl, sym, subst}
+use Rattle.std.proofs.Common.{◌≡◌, ◌⊎◌, inl, inr, ◌≤◌, ℕ, List, [], ◌∷◌, String, Option, Some, None, pos, refl, sym, subst}
 use Rattle.std.specs.declared.alloc.Global.{Global}
+use Rattle.bl_syntax.specs.declared.terms.TimePoint.TheVariants.{At}
+use Rattle.line_faults.specs.LongLines.{HasLongLine}
+use Rattle.line_text.specs.Lines.{lines_of}
 use Rattle.pcfs_ports.specs.Faults.{HasRisen}
+use Rattle.pcfs_ports.specs.Told.{ReadsToEnd}
 use Rattle.pcfs_secrets.specs.declared.secrets.Secrets.{Secrets}
 use Rattle.pcfs_server.specs.declared.end.ServeEnd.{ServeEnd}
 use Rattle.command_words.specs.Tasks.{AsksFor}
-use Rattle.command_words.specs.declared.words.Task.TheVariants.{Script, Stored, Audit, Check}
+use Rattle.command_words.specs.declared.words.Task.TheVariants.{Script, Stored, Audit, Check, Modes, RootSign}
 use Rattle.pcfs_audit.specs.Report.{IsReport}
 use Rattle.pcfs_audit.specs.declared.report.Report.{Report}
 use Rattle.pcfs_audit.specs.declared.report.ReportRow.{ReportRow}
 use Rattle.pcfs_inquiry.specs.Answers.{InquiryEnds}
 use Rattle.pcfs_inquiry.specs.Answers as inquiries
+use Rattle.pcfs_modes.specs.Answers.{ComesTo, ModesEnds}
+use Rattle.pcfs_modes.specs.Answers as tables
 use Rattle.pcfs_session.specs.LineAnswer.{authority_under}
 use Rattle.pcfs_session.specs.ScriptEnds.{ScriptEnds, ScriptWrites}
 use Rattle.pcfs_session.specs.ScriptEnds as scripts
@@ -27,9 +33,15 @@ use Rattle.pcfs_tools.specs.LastLine.{IsTold}
 use Rattle.pcfs_tools.specs.Memory.{MemoryEnds}
 use Rattle.pcfs_tools.specs.Memory as in_memory
 use Rattle.pcfs_tools.specs.ScriptStatus.{ScriptStatus, TellsEnd}
+use Rattle.pcfs_tools.specs.Signed.{TellsSigning}
+use Rattle.pcfs_tools.specs.Signed as signed
+use Rattle.pcfs_tools.specs.Stated.{TellsModes}
+use Rattle.pcfs_tools.specs.Stated as stated
 use Rattle.pcfs_top.specs.Ports.{Rests, HasDiskFailed}
 use Rattle.pcfs_top.specs.Run.{HasCause, EndsWith, IsOpened}
 use Rattle.pcfs_top.specs.Run as runs
+use Rattle.root_signing.specs.Signed as signing
+use Rattle.root_signing.proofs.LawLemmas.{status_of_end}
 use Rattle.session_service.specs.Sessions.{SessionSources}
 use Rattle.pcfs_run.specs.ServeWords.{IsServe}
 use Rattle.pcfs_run.specs.Served.{ServePorts, AreAttended, IsServeLine, ServeWrites, EndsServing, RunEnds}
@@ -94,7 +106,7 @@ module _ (secrets : Secrets) (words : List (String Global)) (before after : Serv
 
   by_answer : (status : ℕ) (line : List ℕ) → AsksFor words Check → InquiryEnds before.ports.streams.left after.ports.streams.left before.ports.streams.read_faults after.ports.streams.read_faults status line → Ends status
   by_answer _ _ asks (inquiries.answered bytes statements goal proof reads short is) = healthy.done
-  by_answer _ _ asks (inquiries.bad_line bytes number fault reads short first) = healthy.inquiry_wrong bytes number fault asks reads first
+  by_answer _ _ asks (inquiries.bad_line bytes number fault reads short first) = healthy.inquiry_wrong bytes number fault asks reads short first
   by_answer _ _ asks (inquiries.long_line bytes reads long) = healthy.inquiry_long bytes asks reads long
   by_answer _ _ asks (inquiries.read_fault risen) = absurd (sound.input risen)
   by_answer _ _ asks (inquiries.too_long first) = healthy.inquiry_too_many_bytes asks first
@@ -103,6 +115,47 @@ module _ (secrets : Secrets) (words : List (String Global)) (before after : Serv
   of_inquiry status asks (inquired.answered found line ends (inl told)) = subst Ends (sym told.0) (by_answer found line asks ends)
   of_inquiry status asks (inquired.answered found line ends (inr failed)) = absurd (sound.output failed.1)
   of_inquiry status asks (inquired.unanswered untold) = subst Ends (sym untold.0) healthy.out_of_memory
+
+  -- ---- a table of modes
+
+  module _ (from to : ℕ) (asks : AsksFor words (Modes from to)) where
+    by_text : (bytes : List ℕ) (status : ℕ) (written : List ℕ) → ReadsToEnd before.ports.streams.left after.ports.streams.left bytes → ComesTo (At (pos from)) (At (pos to)) (lines_of bytes) status written → Ends status
+    by_text bytes _ _ reads (tables.of_table t _ _ are (tables.stated few)) = healthy.done
+    by_text bytes _ _ reads (tables.of_table t _ _ are (tables.too_many over)) = healthy.table_wrong from to bytes _ asks reads (tables.of_table t 15 _ are (tables.too_many over))
+    by_text bytes _ _ reads (tables.bad_line number first) = healthy.table_wrong from to bytes _ asks reads (tables.bad_line number first)
+    by_text bytes _ _ reads (tables.twice number first) = healthy.table_wrong from to bytes _ asks reads (tables.twice number first)
+
+    by_table : (status : ℕ) (written : List ℕ) → ModesEnds from to before.ports.streams.left after.ports.streams.left before.ports.streams.read_faults after.ports.streams.read_faults status written → Ends status
+    by_table _ _ (tables.answered bytes status written reads comes) = by_text bytes status written reads comes
+    by_table _ _ (tables.read_fault risen) = absurd (sound.input risen)
+    by_table _ _ (tables.too_long first) = healthy.table_too_many_bytes from to asks first
+
+    of_modes : (status : ℕ) → TellsModes from to before.ports.streams after.ports.streams status → Ends status
+    of_modes status (stated.stated found written ends (inl told)) = subst Ends (sym told.0) (by_table found written ends)
+    of_modes status (stated.stated found written ends (inr failed)) = absurd (sound.output failed.1)
+    of_modes status (stated.unstated untold) = subst Ends (sym untold.0) healthy.out_of_memory
+
+  -- ---- statements to be signed
+
+  module _ (height from : ℕ) (asks : AsksFor words (RootSign height from)) where
+    by_lines : (bytes : List ℕ) (status : ℕ) (written : List ℕ) → ReadsToEnd before.ports.streams.left after.ports.streams.left bytes → (HasLongLine (lines_of bytes) → ⊥)
+        → signing.ComesTo height from (lines_of bytes) status written → (status ≡ 0) ⊎ ((status ≡ 12) ⊎ (status ≡ 18)) → Ends status
+    by_lines bytes status written reads short comes (inl done) = subst Ends (sym done) healthy.done
+    by_lines bytes status written reads short comes (inr (inl wrong)) =
+        subst Ends (sym wrong) (healthy.signing_wrong height from bytes written asks reads short (subst (λ (n : ℕ). signing.ComesTo height from (lines_of bytes) n written) wrong comes))
+    by_lines bytes status written reads short comes (inr (inr spent)) =
+        subst Ends (sym spent) (healthy.leaves_spent height from bytes written asks reads short (subst (λ (n : ℕ). signing.ComesTo height from (lines_of bytes) n written) spent comes))
+
+    by_signing : (status : ℕ) (written : List ℕ) → signing.SigningEnds height from before.ports.streams.left after.ports.streams.left before.ports.streams.read_faults after.ports.streams.read_faults status written → Ends status
+    by_signing _ _ (signing.answered bytes status written reads short comes) = by_lines bytes status written reads short comes (status_of_end height from (lines_of bytes) status written comes)
+    by_signing _ _ (signing.long_line bytes reads long) = healthy.signing_long height from bytes asks reads long
+    by_signing _ _ (signing.read_fault risen) = absurd (sound.input risen)
+    by_signing _ _ (signing.too_long first) = healthy.signing_too_many_bytes height from asks first
+
+    of_signing : (status : ℕ) → TellsSigning height from before.ports.streams after.ports.streams status → Ends status
+    of_signing status (signed.signed found written ends (inl told)) = subst Ends (sym told.0) (by_signing found written ends)
+    of_signing status (signed.signed found written ends (inr failed)) = absurd (sound.output failed.1)
+    of_signing status (signed.unsigned untold) = subst Ends (sym untold.0) healthy.out_of_memory
 
   -- ---- a run with one line
 
@@ -131,6 +184,8 @@ module _ (secrets : Secrets) (words : List (String Global)) (before after : Serv
   of_run rests _ alone (runs.told status line cause left out) = by_cause rests status line alone cause
   of_run rests _ alone (runs.cut_short status line cause left risen some) = absurd (sound.output risen)
   of_run rests _ alone (runs.inquired status asks same ends) = of_inquiry status asks ends
+  of_run rests _ alone (runs.modes_told from to status asks same ends) = of_modes from to asks status ends
+  of_run rests _ alone (runs.signing_told height from status asks same ends) = of_signing height from asks status ends
   of_run rests _ alone (runs.out_of_memory same left out) = healthy.out_of_memory
 
   -- ---- sessions

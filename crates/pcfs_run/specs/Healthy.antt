@@ -1,19 +1,21 @@
 -- How a run ends whose ports do not fail (this project's own).
-use Rattle.std.specs.Prelude.{◌≡◌, ◌⊎◌, ℕ, List, ◌∷◌, String, Option}
+use Rattle.std.specs.Prelude.{◌≡◌, ◌⊎◌, ℕ, List, ◌∷◌, pos, String, Option}
 use Rattle.std.specs.declared.alloc.Global.{Global}
+use Rattle.bl_syntax.specs.declared.terms.TimePoint.TheVariants.{At}
 use Rattle.pcfs_ports.specs.Faults.{HasRisen}
 use Rattle.pcfs_ports.specs.Told.{ReadsToEnd, TakesFirst}
 use Rattle.line_text.specs.Lines.{lines_of}
+use Rattle.line_faults.specs.LongLines.{HasLongLine}
 use Rattle.line_forms.specs.declared.fault.LineFault.{LineFault}
 use Rattle.op_gate.specs.declared.damage.Damage.{Damage}
 use Rattle.pcfs_secrets.specs.declared.secrets.Secrets.{Secrets}
 use Rattle.command_words.specs.Tasks.{AskForNoRun, AsksFor}
-use Rattle.command_words.specs.declared.words.Task.TheVariants.{Script, Stored, Init, Checkpoint, Audit, Check}
+use Rattle.command_words.specs.declared.words.Task.TheVariants.{Script, Stored, Init, Checkpoint, Audit, Check, Modes, RootSign}
 use Rattle.pcfs_audit.specs.Report.{IsReport}
 use Rattle.pcfs_audit.specs.declared.report.Report.{Report}
 use Rattle.pcfs_audit.specs.declared.report.ReportRow.{ReportRow}
-use Rattle.pcfs_inquiry.specs.Answers.{HasLongLine}
 use Rattle.pcfs_inquiry.specs.Inquiry.{HasFirstFault}
+use Rattle.pcfs_modes.specs.Answers.{ComesTo}
 use Rattle.pcfs_session.specs.LineAnswer.{authority_under}
 use Rattle.pcfs_session.specs.ScriptRun.{Standing}
 use Rattle.pcfs_session.specs.Streams.{Streams}
@@ -21,6 +23,7 @@ use Rattle.pcfs_session.specs.Taken.{IsCutAtLong}
 use Rattle.pcfs_top.specs.Ports.{Disks, Ports, IfTold, Rests}
 use Rattle.pcfs_top.specs.Run.{AreOfStore, HasNoArea, HasNoNextArea, IsOpened, state_of_start}
 use Rattle.recover.specs.Opening.{IsNewestDamaged}
+use Rattle.root_signing.specs.Signed as signing
 use Rattle.session_service.specs.Sessions.{SessionSources}
 use Rattle.pcfs_run.specs.ServeWords.{IsServe}
 use Rattle.pcfs_run.specs.Served.{ServePorts, RunEnds}
@@ -44,8 +47,9 @@ pub data IsUnopened (secrets : Secrets) (before : Disks) : ℕ → Type 0 where
   damaged : (number : ℕ) (damage : Damage) → IfTold before (IsNewestDamaged (authority_under secrets) number damage) → IsUnopened secrets before 3
   absent : IfTold before HasNoArea → IsUnopened secrets before 4
 
--- The status that a run ends with whose ports do not fail, and why: what was asked was done, or memory ran out. Or the words ask for nothing; a script's input is given up, or that of an inquiry; there is no store that can be opened; there is
--- one already where one is to be made; an audit reports something; a checkpoint does not fit; or a line of an inquiry is wrong.
+-- The status that a run ends with whose ports do not fail, and why: 0, of which nothing is said here; 9, out of memory; or one with a cause. The words ask for
+-- nothing; a script's input is given up, or that of an inquiry, of a table of modes or of statements to be signed; there is no store that can be opened; there is
+-- one already where one is to be made; an audit reports something; a checkpoint does not fit; a line of an inquiry is wrong; a table of modes has a wrong line or too many statements; or of statements to be signed a line is wrong, or no leaf is left for one.
 pub data EndsHealthy (secrets : Secrets) (words : List (String Global)) (before after : ServePorts) : ℕ → Type 0 where
   done : EndsHealthy secrets words before after 0
   out_of_memory : EndsHealthy secrets words before after 9
@@ -56,9 +60,24 @@ pub data EndsHealthy (secrets : Secrets) (words : List (String Global)) (before 
   reports : (pieces : Option ℕ) (generation : ℕ) (image : List ℕ) (start : Standing) (report : Report) (row : ReportRow) (rows : List ReportRow) → AsksFor words (Audit pieces) → IsOpened secrets generation image before.ports.disks start →
       IsReport (authority_under secrets) start.base start.events report → report.rows ≡ row ∷ rows → EndsHealthy secrets words before after 11
   has_no_room : (generation : ℕ) (image : List ℕ) (start : Standing) → AsksFor words Checkpoint → IsOpened secrets generation image before.ports.disks start → HasNoNextArea generation (state_of_start start) → EndsHealthy secrets words before after 14
-  inquiry_wrong : (bytes : List ℕ) (number : ℕ) (fault : LineFault) → AsksFor words Check → ReadsToEnd before.ports.streams.left after.ports.streams.left bytes → HasFirstFault (lines_of bytes) number fault → EndsHealthy secrets words before after 12
+  inquiry_wrong : (bytes : List ℕ) (number : ℕ) (fault : LineFault) → AsksFor words Check →
+      ReadsToEnd before.ports.streams.left after.ports.streams.left bytes → (HasLongLine (lines_of bytes) → ⊥) → HasFirstFault (lines_of bytes) number fault →
+      EndsHealthy secrets words before after 12
   inquiry_long : (bytes : List ℕ) → AsksFor words Check → ReadsToEnd before.ports.streams.left after.ports.streams.left bytes → HasLongLine (lines_of bytes) → EndsHealthy secrets words before after 2
   inquiry_too_many_bytes : AsksFor words Check → TakesFirst 1073741824 before.ports.streams.left after.ports.streams.left → EndsHealthy secrets words before after 13
+  table_wrong : (from to : ℕ) (bytes written : List ℕ) → AsksFor words (Modes from to) → ReadsToEnd before.ports.streams.left after.ports.streams.left bytes → ComesTo (At (pos from)) (At (pos to)) (lines_of bytes) 15 written →
+      EndsHealthy secrets words before after 15
+  table_too_many_bytes : (from to : ℕ) → AsksFor words (Modes from to) → TakesFirst 1073741824 before.ports.streams.left after.ports.streams.left → EndsHealthy secrets words before after 13
+  signing_wrong : (height from : ℕ) (bytes written : List ℕ) → AsksFor words (RootSign height from) →
+      ReadsToEnd before.ports.streams.left after.ports.streams.left bytes → (HasLongLine (lines_of bytes) → ⊥) →
+      signing.ComesTo height from (lines_of bytes) 12 written → EndsHealthy secrets words before after 12
+  leaves_spent : (height from : ℕ) (bytes written : List ℕ) → AsksFor words (RootSign height from) →
+      ReadsToEnd before.ports.streams.left after.ports.streams.left bytes → (HasLongLine (lines_of bytes) → ⊥) →
+      signing.ComesTo height from (lines_of bytes) 18 written → EndsHealthy secrets words before after 18
+  signing_long : (height from : ℕ) (bytes : List ℕ) → AsksFor words (RootSign height from) →
+      ReadsToEnd before.ports.streams.left after.ports.streams.left bytes → HasLongLine (lines_of bytes) → EndsHealthy secrets words before after 2
+  signing_too_many_bytes : (height from : ℕ) → AsksFor words (RootSign height from) →
+      TakesFirst 1073741824 before.ports.streams.left after.ports.streams.left → EndsHealthy secrets words before after 13
 
 -- ---- the law
 

@@ -1,4 +1,4 @@
--- What is told of audits and inquiries.
+-- What is told of audits, inquiries, tables of modes and statements to be signed.
 use Rattle.std.proofs.Common.{◌≡◌, ◌⊎◌, inl, inr, ◌+◌, ◌-◌, ◌^◌, ◌≤◌, ℕ, List, [], ◌∷◌, length, refl, sym, subst, arith, Option}
 use Rattle.std.specs.Prelude.{Result, IfOk}
 use Rattle.access_history.specs.Authority.{Authority}
@@ -10,6 +10,7 @@ use Rattle.pcfs_audit.specs.ReportText.{report_text}
 use Rattle.pcfs_audit.specs.declared.report.Report.{Report}
 use Rattle.pcfs_audit.specs.declared.report.ReportRow.{ReportRow}
 use Rattle.pcfs_inquiry.specs.Answers.{InquiryEnds}
+use Rattle.pcfs_modes.specs.Answers.{ModesEnds}
 use Rattle.pcfs_ports.specs.Faults.{HasRisen}
 use Rattle.pcfs_ports.specs.Told.{with_back, HoldsSome}
 use Rattle.pcfs_session.specs.ScriptEnds.{with_line_end}
@@ -17,7 +18,10 @@ use Rattle.pcfs_session.specs.Streams.{Streams}
 use Rattle.policy_statement.specs.Ring.{KeyView}
 use Rattle.pcfs_tools.specs.Audited.{TellsAudit, reported, unreported, audit_status}
 use Rattle.pcfs_tools.specs.Inquired.{TellsInquiry, answered}
-use Rattle.pcfs_tools.specs.LastLine.{IsTold, IsUntold}
+use Rattle.pcfs_tools.specs.LastLine.{IsTold, IsUntold, IsWritten}
+use Rattle.pcfs_tools.specs.Signed.{TellsSigning, signed}
+use Rattle.pcfs_tools.specs.Stated.{TellsModes, stated}
+use Rattle.root_signing.specs.Signed.{SigningEnds}
 
 -- these bytes were written, with this status; or the output failed
 abbrev pub Writes : ℕ → List ℕ → Option (List ℕ) → ℕ → ℕ → Option (List ℕ) → ℕ → Type 0
@@ -70,3 +74,17 @@ pub TellsInquiry-told : (before after : Streams) (status : ℕ) (text line bytes
 TellsInquiry-told before after status text line bytes result same is ends writes =
     answered status text ends (IsTold-line status text line before.held after.held before.write_faults after.write_faults result is
     (subst (λ (b : List ℕ). Writes status b before.held before.write_faults result after.held after.write_faults) same writes))
+
+-- ---- tables of modes
+
+pub TellsModes-told : (from to : ℕ) (before after : Streams) (status : ℕ) (written bytes : List ℕ) (result : ℕ) → bytes ≡ written → ModesEnds from to before.left after.left before.read_faults after.read_faults status written →
+    Writes status bytes before.held before.write_faults result after.held after.write_faults → TellsModes from to before after result
+TellsModes-told from to before after status written bytes result is ends writes =
+    stated status written ends (subst (λ (b : List ℕ). IsWritten status b before.held before.write_faults result after.held after.write_faults) is writes)
+
+-- ---- statements to be signed
+
+pub TellsSigning-told : (height from : ℕ) (before after : Streams) (status : ℕ) (written bytes : List ℕ) (result : ℕ) → bytes ≡ written → SigningEnds height from before.left after.left before.read_faults after.read_faults status written →
+    Writes status bytes before.held before.write_faults result after.held after.write_faults → TellsSigning height from before after result
+TellsSigning-told height from before after status written bytes result is ends writes =
+    signed status written ends (subst (λ (b : List ℕ). IsWritten status b before.held before.write_faults result after.held after.write_faults) is writes)

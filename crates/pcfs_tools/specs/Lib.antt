@@ -4,3 +4,5 @@ pub mod LastLine
 pub mod Load
 pub mod Memory
 pub mod ScriptStatus
+pub mod Signed
+pub mod Stated

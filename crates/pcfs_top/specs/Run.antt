@@ -34,13 +34,15 @@ use Rattle.pcfs_audit.specs.Report.{IsReport}
 use Rattle.pcfs_audit.specs.ReportText.{report_text}
 use Rattle.pcfs_audit.specs.declared.report.Report.{Report}
 use Rattle.command_words.specs.Tasks.{AskForNoRun, AsksFor}
-use Rattle.command_words.specs.declared.words.Task.TheVariants.{Script, Stored, Init, Checkpoint, Audit, Check, Load}
+use Rattle.command_words.specs.declared.words.Task.TheVariants.{Script, Stored, Init, Checkpoint, Audit, Check, Load, Modes, RootSign}
 use Rattle.pcfs_tools.specs.Audited.{audit_status}
 use Rattle.pcfs_tools.specs.Inquired.{TellsInquiry}
 use Rattle.pcfs_tools.specs.LastLine.{IsTold, IsUntold}
 use Rattle.pcfs_tools.specs.Load.{IsLoaded}
 use Rattle.pcfs_tools.specs.Memory.{MemoryEnds}
 use Rattle.pcfs_tools.specs.ScriptStatus.{ScriptStatus}
+use Rattle.pcfs_tools.specs.Signed.{TellsSigning}
+use Rattle.pcfs_tools.specs.Stated.{TellsModes}
 use Rattle.pcfs_top.specs.Ports.{Disks, Ports, Rests, IfTold, HasDiskFailed, AreBytesKept}
 
 -- the words ask for a script over the store in the areas, for a checkpoint of it, or for an audit of it
@@ -188,4 +190,7 @@ pub data EndsWith (secrets : Secrets) (words : List (String Global)) (rests : Re
   cut_short : (status : ℕ) (line : List ℕ) → HasCause secrets words rests before.disks after.disks status line → after.streams.left ≡ before.streams.left → HasRisen before.streams.write_faults after.streams.write_faults →
       HoldsSome before.streams.held after.streams.held (with_line_end line) → EndsWith secrets words rests before after 7
   inquired : (status : ℕ) → AsksFor words Check → after.disks ≡ before.disks → TellsInquiry before.streams after.streams status → EndsWith secrets words rests before after status
+  modes_told : (from to status : ℕ) → AsksFor words (Modes from to) → after.disks ≡ before.disks → TellsModes from to before.streams after.streams status → EndsWith secrets words rests before after status
+  signing_told : (height from status : ℕ) → AsksFor words (RootSign height from) → after.disks ≡ before.disks →
+      TellsSigning height from before.streams after.streams status → EndsWith secrets words rests before after status
   out_of_memory : AreBytesKept before.disks after.disks → after.streams.left ≡ before.streams.left → after.streams.held ≡ before.streams.held → EndsWith secrets words rests before after 9

@@ -16,7 +16,7 @@ use pcfs_ports::{Disk, Sink, Source};
 use pcfs_secrets::Secrets;
 use pcfs_store::{CheckpointReply, FormatFault, format_store};
 use pcfs_tools::answering::{DISK_FAULT, DONE, OUT_OF_MEMORY, run_over, tell};
-use pcfs_tools::{audit_history, inquire, load, run_in_memory};
+use pcfs_tools::{audit_history, inquire, load, run_in_memory, sign_statements, state_table};
 use recover::{OpenFault, open_store};
 use std::alloc::Global;
 use std::sync::Wait;
@@ -308,6 +308,16 @@ fn run_task<R: Threads + Wait + Sync, I: Source, O: Sink, D: Disk>(
             a,
             b,
         },
+        Task::Modes(from, to) => Ended {
+            status: state_table(alloc, from, to, input, output),
+            a,
+            b,
+        },
+        Task::RootSign(height, from) => Ended {
+            status: sign_statements(alloc, height, from, input, output),
+            a,
+            b,
+        },
         Task::Serve(_, _) => Ended {
             status: tell(output, b"usage\n", USAGE),
             a,
@@ -353,8 +363,11 @@ pub fn run_asked<R: Threads + Wait + Sync, I: Source, O: Sink, D: Disk>(
 /// `script --stored` over the one on the disks; with `init` a store is made on the first disk, and with `checkpoint` the state
 /// of the one on the disks is written as the image of a new area on the disk that does not count. With `audit` the history of
 /// the one on the disks is audited, with `audit --pieces N` in so many pieces; with `check` the inquiry in the input is
-/// answered; with `load N S` the script that so many rounds and that seed generate is run over a store in memory. Procaps are
-/// sealed under the key of the secrets, and statements are accepted whose signature their ring accepts.
+/// answered; with `load N S` the script that so many rounds and that seed generate is run over a store in memory; with
+/// `modes FROM TO` the lines are written that register the statements of the table of modes in the input from one second to
+/// another; with `rootsign H FROM` the root of the tree of height H of the seed in the input is written, and the lines that
+/// register the statements after it by its leaves from FROM on, each once. Procaps are sealed under the key of the secrets, and
+/// statements are accepted whose signature their ring accepts.
 ///
 /// Returns the disks and the status to end with: 0, all is done, and of `init` the last line is `ok`, of `checkpoint`
 /// `ok checkpoint`; 1, the words are
@@ -362,9 +375,11 @@ pub fn run_asked<R: Threads + Wait + Sync, I: Source, O: Sink, D: Disk>(
 /// the last line is `damaged` with the number of the record and the cause; 4, neither area is open: `nostore`; 5, a disk
 /// failed: `stopped`; 6, the input failed: `readfault`; 7, the output failed, and may lack any of its end; 9, memory ran out,
 /// without a last line; 10, an area is open already: `exists`; 11, the report of the audit has a row; 12, a line of the
-/// inquiry is wrong: `line` with its number, `bad`, and the fault; 13, the input has 1 GiB or more: `toolong`; 14, the image of a checkpoint does not fit into an area, or there is no next
-/// generation: `full`. At 2, 5, 6 and
-/// 13 the replies of a script to the lines before come before that line.
+/// inquiry or of `rootsign` is wrong: `line` with its number, `bad`, and the fault; 13, the input has 1 GiB or more: `toolong`;
+/// 14, the image of a checkpoint does not fit into an area, or there is no next generation: `full`; 15, a line of the table of
+/// modes is wrong: `line` with its number, and `mode 1` or `mode 2`, or its statements are more than 4,096: `mode 3`; 18, there
+/// is no leaf for a statement: `leaves` with their count. At 2, 5, 6 and 13 the replies of a script to the lines before come
+/// before that line, and at 12 and 18 what `rootsign` wrote of the lines before.
 pub fn run_alone<R: Threads + Wait + Sync, I: Source, O: Sink, D: Disk>(
     rt: &R,
     alloc: Global,

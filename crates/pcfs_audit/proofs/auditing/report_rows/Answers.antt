@@ -1,5 +1,5 @@
 -- The auditor follows the events up to the first that is wrong.
-use Rattle.std.proofs.Common.{Bool, List, [], ap, arith, length, refl, subst, sym, take, true, ◌++◌, ◌∙◌, ◌∷◌, ◌+◌, ◌≡◌, ℕ}
+use Rattle.std.proofs.Common.{Bool, List, [], arith, length, refl, subst, take, true, ◌++◌, ◌∷◌}
 use Rattle.std.proofs.lemmas.List.{take_all}
 use Rattle.std.proofs.lemmas.Option.{slice_get_read}
 use Rattle.access_history.specs.declared.event.Event.{Event}

@@ -1,5 +1,5 @@
 -- The place is entered unless one is.
-use Rattle.std.proofs.Common.{refl, sym, ◌∙◌}
+use Rattle.std.proofs.Common.{refl, ◌∙◌}
 use Rattle.pcfs_audit.specs.Firsts.{first_of}
 use Rattle.pcfs_audit.proofs.FirstsLemmas.{none_entered, not_at, some_kept}
 use Rattle.pcfs_audit.proofs.firsts.enter.Goals as goal

@@ -1,5 +1,4 @@
 -- A base has no events.
-use Rattle.std.proofs.Common.{refl}
 use Rattle.pcfs_audit.proofs.papers.base_papers.Goals as goal
 
 pub returns : goal.returns

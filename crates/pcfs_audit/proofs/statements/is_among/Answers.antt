@@ -1,5 +1,5 @@
 -- None so far is it, or this one is.
-use Rattle.std.proofs.Common.{◌≡◌, refl, subst, arith}
+use Rattle.std.proofs.Common.{refl, subst, arith}
 use Rattle.std.specs.Prelude.{Contains}
 use Rattle.op_gate.proofs.CheckLemmas.{is_so, is_not_so}
 use Rattle.pcfs_audit.specs.Papers.{shown}

@@ -6,7 +6,9 @@ use Rattle.line_text.specs.Lines.{lines_of}
 use Rattle.bl_syntax.specs.Statement.{StatementView}
 use Rattle.proof_verifier.specs.Cited.{AreCited, statements_of}
 use Rattle.proof_verifier.specs.Verdict.{verdict}
-use Rattle.pcfs_inquiry.specs.Answers.{HasLongLine, InquiryEnds, answered, bad_line, bad_line_text, long_line, read_fault, too_long, verdict_text}
+use Rattle.line_faults.specs.LongLines.{HasLongLine}
+use Rattle.line_faults.specs.Reports.{bad_line_text}
+use Rattle.pcfs_inquiry.specs.Answers.{InquiryEnds, answered, bad_line, long_line, read_fault, too_long, verdict_text}
 use Rattle.pcfs_inquiry.specs.Inquiry.{HasFirstFault, IsInquiry}
 use Rattle.pcfs_inquiry.proofs.InquiryLemmas.{AreCited-numbered, ends_with, statements_of-numbered}
 use Rattle.pcfs_inquiry.proofs.answering.answer_input.Goals as goal

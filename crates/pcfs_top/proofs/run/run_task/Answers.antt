@@ -33,5 +33,23 @@ load-requires g c = subst IsFit c.in-Load.is c.requires.fit
 pub returns-in-Load : goal.returns-in-Load
 returns-in-Load g c words asks = EndsWith-loaded words c.args.secrets.now _ _ _ _ _ _ (subst (AsksFor words) c.in-Load.is asks) refl refl c.load.ensures
 
+pub state_table-requires-clause-from : goal.state_table-requires-clause-from
+state_table-requires-clause-from g c = (subst IsFit c.in-Modes.is c.requires.fit).0
+
+pub state_table-requires-clause-to : goal.state_table-requires-clause-to
+state_table-requires-clause-to g c = (subst IsFit c.in-Modes.is c.requires.fit).1
+
+pub returns-in-Modes : goal.returns-in-Modes
+returns-in-Modes g c words asks = run.modes_told _ _ _ (subst (AsksFor words) c.in-Modes.is asks) refl c.state_table.ensures
+
+pub sign_statements-requires-clause-low : goal.sign_statements-requires-clause-low
+sign_statements-requires-clause-low g c = (subst IsFit c.in-RootSign.is c.requires.fit).0
+
+pub sign_statements-requires-clause-within : goal.sign_statements-requires-clause-within
+sign_statements-requires-clause-within g c = (subst IsFit c.in-RootSign.is c.requires.fit).1
+
+pub returns-in-RootSign : goal.returns-in-RootSign
+returns-in-RootSign g c words asks = run.signing_told _ _ _ (subst (AsksFor words) c.in-RootSign.is asks) refl c.sign_statements.ensures
+
 pub returns-in-Serve : goal.returns-in-Serve
 returns-in-Serve g c words asks = EndsWith-usage words c.args.secrets.now _ _ _ _ (serves_alone words _ _ (subst (AsksFor words) c.in-Serve.is asks)) refl refl c.tell.ensures

@@ -1,8 +1,8 @@
 -- The line is not too long, so the others decide.
 use Rattle.std.proofs.Common.{arith}
 use Rattle.line_text.specs.Lines.{lines_of}
-use Rattle.pcfs_inquiry.proofs.InquiryLemmas.{long_later, long_rest}
-use Rattle.pcfs_inquiry.proofs.answering.has_long_line.Goals as goal
+use Rattle.line_faults.proofs.LongLemmas.{long_later, long_rest}
+use Rattle.line_faults.proofs.long_lines.has_long_line.Goals as goal
 
 pub loop-line-preserved : goal.loop-line-preserved
 loop-line-preserved c = (

@@ -2,8 +2,8 @@
 use Rattle.std.proofs.Common.{length}
 use Rattle.std.specs.Prelude.{◌↔◌}
 use Rattle.line_text.specs.Lines.{lines_of}
-use Rattle.pcfs_inquiry.specs.Answers.{HasLongLine}
-use Rattle.pcfs_inquiry.proofs.answering.has_long_line.Given as goal
+use Rattle.line_faults.specs.LongLines.{HasLongLine}
+use Rattle.line_faults.proofs.long_lines.has_long_line.Given as goal
 
 abbrev pub invariant-loop-line : goal.invariant-loop-line
 invariant-loop-line l = HasLongLine (lines_of l.fn.input) ↔ HasLongLine (lines_of l.rest)

@@ -1,0 +1,5 @@
+use Rattle.pcfs_modes.proofs.LawLemmas.{an_end}
+use Rattle.pcfs_modes.proofs.laws.a_text_has_an_end.Goals as goal
+
+pub returns : goal.returns
+returns c = an_end

@@ -1,0 +1,4 @@
+pub mod EndLemmas
+pub mod LawLemmas
+pub mod LineLemmas
+pub mod SignLemmas
