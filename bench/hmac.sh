@@ -1,10 +1,10 @@
 #!/usr/bin/env bash
 # Times HMAC-SHA256 of a text of 41 bytes under a key of 32, beside the digests of sha2 that it is made
 # of and beside OpenSSL's, one after another in one run; and a tree of hashes of height 8: its making, a
-# signature and an acceptance, beside as many digests of one block as they have compressions. It makes its
-# own input, works in a folder of its own, prints nanoseconds and ratios, and decides nothing. OpenSSL is
-# timed where a C compiler and its headers are there, and takes the processor's own SHA instructions where
-# it has them; sha2 does not.
+# signature and an acceptance, beside as many digests of one block as they have compressions, and what the
+# tree takes of memory where the built program is there. It makes its own input, works in a folder of its
+# own, prints nanoseconds and ratios, and decides nothing. OpenSSL is timed where a C compiler and its
+# headers are there, and takes the processor's own SHA instructions where it has them; sha2 does not.
 set -euo pipefail
 here=$(cd "$(dirname "$0")" && pwd)
 parts="$here/hmac"
@@ -67,3 +67,7 @@ awk '
         line("a signature by it", least[3], 769)
         line("an acceptance", least[4], 530)
     }' "$work/trees"
+
+# heap and stack of rootsign by a tree of height 8, and of one that refuses its seed
+program="$here/../crates/pcfs/out/pcfs"
+[ ! -x "$program" ] || python3 "$parts/memory.py" "$(realpath "$program")" "$work"

@@ -8,12 +8,12 @@ import subprocess
 import sys
 
 
-def measured(program, source=subprocess.DEVNULL):
-    """The line that the program writes, and its peak in KiB."""
+def measured(program, source=subprocess.DEVNULL, words=()):
+    """The line that the program writes, and its peak in KiB; of more lines, the peak when it begins to write them."""
     read, write = os.pipe()
     fcntl.fcntl(write, fcntl.F_SETPIPE_SZ, 4096)
     os.write(write, bytes(4096))
-    process = subprocess.Popen([program], stdin=source, stdout=write)
+    process = subprocess.Popen([program, *words], stdin=source, stdout=write)
     os.close(write)
     status = {}
     while status.get("State", "R")[0] not in "SZ":
