@@ -1,9 +1,10 @@
 #!/usr/bin/env python3
-"""Signs statements and logins by the leaves of a tree of hashes (docs/PROTOCOL.md has the format), each leaf once.
+"""Signs statements, withdrawals and logins by the leaves of a tree of hashes (docs/PROTOCOL.md has the format), each leaf once.
 
     root_client.py new FOLDER H              makes a seed in FOLDER, for 2^H signatures, H from 0 to 8, and prints the root
     root_client.py root FOLDER NAME          prints the line of the server's secrets file that gives NAME the root
     root_client.py statement FOLDER TEXT     prints the line that registers the statement TEXT
+    root_client.py withdraw FOLDER N TEXT    prints the line that withdraws the statement TEXT, which has the number N
     root_client.py login FOLDER NAME NONCE   prints the line by which NAME logs in; NONCE is hexadecimal
     root_client.py left FOLDER               prints how many leaves are left
 
@@ -18,8 +19,10 @@ import hashlib
 import os
 import secrets
 import sys
+from pathlib import Path
 
-from pcfs_client import Text, short
+sys.path.append(str(Path(__file__).resolve().parents[1] / "client"))
+from pcfs_client import Text, number_of, short  # noqa: E402
 
 
 # ---- the tree ------------------------------------------------------------------------------------------------------
@@ -119,6 +122,12 @@ def main():
             except (ValueError, RecursionError) as fault:
                 sys.exit(f"no statement: {fault}")
             print("register", sign(folder, message), text)
+        case ["withdraw", folder, number, text]:
+            try:
+                number, message = number_of(number), b"W" + Text(text).statement()
+            except (ValueError, RecursionError) as fault:
+                sys.exit(f"no withdrawal: {fault}")
+            print("withdraw", number, sign(folder, message))
         case ["login", folder, name, nonce]:
             print("login", name, sign(folder, b"L" + short(name) + bytes.fromhex(nonce)))
         case ["left", folder]:

@@ -14,8 +14,8 @@ from pathlib import Path
 
 TOP = Path(__file__).resolve().parents[1]
 EXAMPLES = TOP / "examples"
-sys.path.append(str(EXAMPLES))
-sys.path.append(str(EXAMPLES.parent / "tests/model"))
+sys.path.append(str(TOP / "client"))
+sys.path.append(str(TOP / "tests/model"))
 
 from pcfs_client import Text, key_of, sign_login, sign_statement
 import root_model
@@ -137,11 +137,11 @@ def disk(run):
     """The areas after `init`, and after a checkpoint."""
     text = text_of("docs/DISK.md")
     run.script(words=("init",))
-    if run.held("pcfs.a") != hexadecimal(text, "`pcfs.a` has 90 bytes"):
+    if run.held("pcfs.a") != hexadecimal(text, "`pcfs.a` has 95 bytes"):
         yield "the area after init"
     run.script(*EXAMPLES.joinpath("first-file.pcfs").read_text().splitlines(), words=("script", "--stored"))
     run.script(words=("checkpoint",))
-    if run.held("pcfs.b") != hexadecimal(text, "`pcfs.b` has 265"):
+    if run.held("pcfs.b") != hexadecimal(text, "`pcfs.b` has 270"):
         yield "the area after a checkpoint"
 
 
@@ -154,16 +154,20 @@ def compared(found, wanted):
 
 
 def readme(run):
-    """The store that README serves, and the session over it, where what it takes is there."""
-    if not (shutil.which("openssl") and shutil.which("xxd")):
-        print("not run: the session of README, for want of openssl or xxd")
+    """The store that README serves, and what its first user does, where openssl is there."""
+    if not shutil.which("openssl"):
+        print("not run: the session of README, for want of openssl")
         return
-    serve, login = (block for block in blocks(text_of("README.md"), "sh") if "4040" in block)
+    prover = TOP / "crates/pcfs_prove/out/pcfs_prove"
+    (run.folder / "bin/pcfs-client").symlink_to(TOP / "client/pcfs-client")
+    (run.folder / "bin/pcfs-prove").symlink_to(prover if prover.exists() else TOP / "tests/plain_prover.py")
+    serve, user = (block for block in blocks(text_of("README.md"), "sh") if "4040" in block or "login alice" in block)
     with socket.create_server(("127.0.0.1", 0)) as free:
         port = str(free.getsockname()[1])
-    text = (serve + login).replace("4040", port)
-    wanted = [reply for reply in re.findall(r"(?m)  # (.*)$", text) if re.match("ok|served", reply)]
-    yield from compared(run.shell(text), wanted)
+    text = (serve + user).replace("4040", port).replace("sleep 1", "sleep 4").replace("login alice", f"login alice --server 127.0.0.1:{port}")
+    found = run.shell(f"export PCFS_CLIENT_HOME={run.folder}/home\ntrap 'kill $(jobs -p) 2> /dev/null' EXIT\n{text}")
+    wanted = ["ok", "ok statement 1", "ok statement 2", f"alice can log in at 127.0.0.1:{port}, and has 2 statements", (run.folder / "store/today").read_text().strip(), "#2 notes"]
+    yield from compared(found, [*wanted, *[f"alice at 127.0.0.1:{port}: .., without end.."] * 4])
 
 
 def running(run):

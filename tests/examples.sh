@@ -2,7 +2,7 @@
 # Runs each example by the built program, in a folder with the secrets of the examples beside it, and compares the replies
 # with those that are kept; so too three scripts over one store, and what the documents show (documents.py); then random
 # scripts, tables of modes and statements to be signed, whose replies are compared with those of the model; and sessions of
-# three users (sessions.sh). Exits 1 if some differ.
+# three users (sessions.sh), and what users do by the client (client.py). Exits 1 if some differ.
 # usage: tests/examples.sh [PROGRAM], by default crates/pcfs/out/pcfs
 set -euo pipefail
 tests=$(cd "$(dirname "$0")" && pwd)
@@ -12,7 +12,7 @@ export PYTHONDONTWRITEBYTECODE=1
 program=$(realpath "${1:-$top/crates/pcfs/out/pcfs}")
 work=$(mktemp -d)
 trap 'rm -rf "$work"' EXIT
-cp "$here/pcfs.secrets" "$work/"
+install -m 600 "$here/pcfs.secrets" "$work/"
 cd "$work"
 
 agree=0
@@ -107,7 +107,7 @@ fi
 
 # what the client signs is registered
 while read -r statement; do
-    python3 "$here/pcfs_client.py" statement pcfs.secrets "$statement"
+    "$top/client/pcfs-client" sign statement "$statement" --key pcfs.secrets
 done > signed.pcfs << 'END'
 admin says may(alice,#1,write) from 0 to 200
 hr says forall K:principal. (exists F:file. owner(F,K) & in_dir(F,#1)) | p @ [0,+inf] => K says q("a b",K) from -inf to 2026-12-31T23:59:59Z
@@ -239,6 +239,20 @@ elif bash "$tests/sessions.sh" "$program" "$port" > told 2>&1; then
 else
     cat told
     echo "differs sessions"
+    differ=$((differ + 1))
+fi
+
+# what users do by the client, with the built prover, or a plain one where that is not built
+prover=$top/crates/pcfs_prove/out/pcfs_prove
+[ -x "$prover" ] || prover=plain
+if ! port=$(free_port); then
+    echo "not run: the client, for want of a loopback address"
+elif python3 "$tests/client.py" "$program" "$prover" refusals drawn first modes withdrawals states signed wrong strangers documents > told 2>&1; then
+    echo "agrees client"
+    agree=$((agree + 1))
+else
+    cat told
+    echo "differs client"
     differ=$((differ + 1))
 fi
 echo "$agree passed, $differ failed"

@@ -16,7 +16,7 @@ import tempfile
 from itertools import combinations
 
 HERE = os.path.dirname(os.path.abspath(__file__))
-sys.path[:0] = [os.path.join(HERE, "model"), os.path.join(HERE, "..", "examples")]
+sys.path[:0] = [os.path.join(HERE, "model"), os.path.join(HERE, "..", "client")]
 import hash_trees  # noqa: E402
 import root_model  # noqa: E402
 from pcfs_client import Text  # noqa: E402

@@ -54,8 +54,12 @@ def tags(count):
 store(POLICY + ["do write #2 0 41 @2"] * OPERATIONS)
 mine, other = audits(f"{OPERATIONS:,} operations", OPERATIONS), min(tags(OPERATIONS) for _ in range(3))
 print(f"  at once {mine / other:.2f} of the Python loop's time ({other:.2f} s), which tests the tags alone")
-store(["at 100"] + [f"register - admin says may(user{i},#1,write) from 0 to 1000000" for i in range(STATEMENTS)]
-      + [f"verify user{i % STATEMENTS} #1 write {i % STATEMENTS + 1} saysR(claim(0,init(1)))" for i in range(PROOFS)])
+proofs = ["at 100"] + [f"register - admin says may(user{i},#1,write) from 0 to 1000000" for i in range(STATEMENTS)]
+proofs += [f"verify user{i % STATEMENTS} #1 write {i % STATEMENTS + 1} saysR(claim(0,init(1)))" for i in range(PROOFS)]
+store(proofs)
 audits(f"{STATEMENTS:,} statements and {PROOFS:,} proofs", STATEMENTS + PROOFS)
+withdrawals = [f"withdraw {number} -" for number in range(2, STATEMENTS, 2)]
+store(proofs + withdrawals + ["as user0"] + ['do setattr #1 color "blue" @1'] * OPERATIONS)
+audits(f"the same, then {len(withdrawals):,} withdrawals and {OPERATIONS:,} operations", STATEMENTS + PROOFS + len(withdrawals) + OPERATIONS)
 kib = resource.getrusage(resource.RUSAGE_CHILDREN).ru_maxrss
 print(f"{kib / 1024:.0f} MiB at most")

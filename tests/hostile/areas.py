@@ -1,14 +1,14 @@
 """What docs/DISK.md says of areas: their records, and what an opening of two of them finds."""
-from images import LAST_EVENT, state_of
+import switches
+from images import LAST_EVENT, VERSION, state_of
 from pcfs_model import Bad
 
 LIMIT = 67_108_864
 HEADER = bytes.fromhex("50434653000001")
-FRESH = bytes.fromhex(
+FRESH_TODAY = bytes.fromhex(
     "fffffff1886e0900" "0000000000000000" "0000000000000002" "00000000" "00000000" "00000001"
     "0000000000000001" "02" "0561646d696e" "0000000000000000" "00" "00" "00000000"
 )
-BEGIN = 24 + len(FRESH)  # of the first record
 
 
 class Damaged(Exception):
@@ -16,6 +16,11 @@ class Damaged(Exception):
 
     def __init__(self, record, cause):
         super().__init__(f"damaged {record} {cause}")
+
+
+def fresh():
+    """The image of a new store."""
+    return VERSION + FRESH_TODAY + bytes(4) if switches.withdrawals else FRESH_TODAY
 
 
 def generation(area):

@@ -2,15 +2,17 @@
 import time
 from collections import Counter
 
-from areas import FRESH, HEADER, begin_of, newest, opening, records
+import switches
+from areas import FRESH_TODAY, HEADER, begin_of, fresh, newest, opening, records
 from history import History
-from images import image_of, state_of
+from images import image_of, state_of, withdrawn_in_order
+from pcfs_audit_model import withdrawal_bytes
+from pcfs_client import tag_of
 from pcfs_model import Node
 from serving import free_port
 
 BASES = 12  # images of states between the first events, of which so many are taken at most
 BASE_EVENTS = 600
-MADE = b"\x01" + HEADER + (1).to_bytes(8, "big") + len(FRESH).to_bytes(8, "big") + FRESH + b"\0"
 
 
 def ends_of(area):
@@ -23,10 +25,15 @@ def area_of(generation, image, records):
     return b"\x01" + HEADER + generation.to_bytes(8, "big") + len(image).to_bytes(8, "big") + image + records + b"\0"
 
 
+def made():
+    """What `init` makes."""
+    return area_of(1, fresh(), b"")
+
+
 def images_between(draw, area, secrets, reader):
     """Images of states between the first events of an area, which begins with that of a new store, by how many are before them."""
     places = set(draw.choices(range(BASE_EVENTS), k=BASES))
-    images, history = {0: FRESH}, History(secrets, reader)
+    images, history = {0: fresh()}, History(secrets, reader)
     for payload, _ in records(area):
         if history.count == BASE_EVENTS:
             break
@@ -40,7 +47,7 @@ class Damages:
     """Draws damages of the first records of an area, and of images of states between them."""
 
     def __init__(self, draw, area, secrets, reader):
-        self.draw, self.area, self.ends, self.secrets = draw, area, ends_of(area), secrets
+        self.draw, self.area, self.ends, self.secrets, self.reader = draw, area, ends_of(area), secrets, reader
         self.images = images_between(draw, area, secrets, reader)
 
     def whole(self):
@@ -64,7 +71,8 @@ class Damages:
     def damaged(self):
         """An area with some damage, and its kind."""
         area, ends = self.whole()
-        kind = self.draw.choice(["flip", "flip", "byte", "byte", "cut", "longer", "insert", "zeros", "twice", "exchange", "without", "last", "many", "state", "state"])
+        kinds = ["flip", "flip", "byte", "byte", "cut", "longer", "insert", "zeros", "twice", "exchange", "without", "last", "many", "state", "state"]
+        kind = self.draw.choice(kinds + (["withdrawn", "withdrawn", "withdrawal", "old"] if switches.withdrawals else []))
         return kind, getattr(self, "with_" + kind)(area, ends)
 
     def with_flip(self, area, ends):
@@ -137,10 +145,52 @@ class Damages:
         Another(self.draw, state).make()
         return area_of(2, image_of(state), area[ends[0] : -1])
 
+    def with_withdrawn(self, area, ends):
+        """An image with other numbers of withdrawn statements, or with its end cut off."""
+        _, state = state_of(area[24 : ends[0]], self.secrets)
+        image = image_of(state, self.other_numbers(len(state.statements), withdrawn_in_order(state)))
+        cut = self.draw.choice([0, 0, 0, 0, 1, 3, 4, 5, 8])
+        return area_of(2, image[: len(image) - cut], area[ends[0] : -1] if cut == 0 else b"")
+
+    def other_numbers(self, count, numbers):
+        """Numbers that fall, repeat, pass the statements, or may all stand there."""
+        draw = self.draw
+        more = [*numbers, draw.choice([0, 1, count, count + 1, 2**32 - 1, *numbers])]
+        return draw.choice([more, sorted(more), sorted(set(more)), numbers[::-1], numbers[1:], [*numbers, *numbers], [count], list(range(1, count + 1)), [0], []])
+
+    def with_withdrawal(self, area, ends):
+        """One more record, which withdraws a statement of some number, mostly with the right signature; or one whose number changes."""
+        draw = self.draw
+        _, state = state_of(area[24 : ends[0]], self.secrets, self.reader)
+        begin = draw.choice(ends)
+        for payload, end in records(area):
+            if end <= begin:
+                state.add(state.reader.event(payload))
+        cited = [one for issue in state.grantings for one in issue.numbers]
+        numbers = [0, len(state.statements) + 1, 2**32 - 1, *range(1, len(state.statements) + 1), *state.withdrawn]
+        number = draw.choice(cited if cited and draw.random() < 0.6 else numbers)
+        other = draw.randint(1, max(1, len(state.statements)))
+        signed, kind = number if draw.random() < 0.8 else other, b"W" if draw.random() < 0.9 else b"S"
+        payload = withdrawal_bytes(number, signature_of(state, signed, kind))
+        return area[:begin] + b"\x01" + len(payload).to_bytes(4, "big") + payload + area[begin:]
+
+    def with_old(self, area, ends):
+        """The image of a version before withdrawals."""
+        image = area[24 : ends[0]]
+        return area_of(2, self.draw.choice([FRESH_TODAY, image[1:], image[1:-4], b"\0" + image[1:], b"\x03" + image[1:]]), area[ends[0] : -1])
+
     def with_many(self, area, ends):
         for _ in range(self.draw.randint(2, 6)):
             area = self.with_byte(area, ends)
         return area
+
+
+def signature_of(state, number, kind):
+    """The issuer's signature over that statement, of a withdrawal or of another kind; some bytes, if there is none."""
+    if not 1 <= number <= len(state.statements):
+        return bytes(32)
+    statement = state.statements[number - 1]
+    return tag_of(state.keys[statement.who], kind + statement.bytes)
 
 
 class Another:
@@ -223,7 +273,7 @@ def second_area(draw, area):
     if kind == 0:
         return area[:8] + draw.choice([0, 1, 2, 2**48 - 1, 2**48]).to_bytes(8, "big") + area[16:]
     if kind == 1:
-        return MADE
+        return made()
     return draw.choice([draw.randbytes(20), b"\x01", b"\0" + area[1:]]) if kind == 2 else b""
 
 
@@ -233,7 +283,7 @@ def try_init(store, first, second):
     if newest(first, second) is not None:
         wanted, after = (b"exists\n", 10), first
     else:
-        wanted, after = (b"ok\n", 0), MADE + first[len(MADE) :]
+        wanted, after = (b"ok\n", 0), made() + first[len(made()) :]
     if done != wanted:
         return f"init is told {done}, and not {wanted}"
     return None if (store.area(), store.area("pcfs.b")) == (after, second) else "init leaves other bytes"

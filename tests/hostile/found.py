@@ -2,7 +2,7 @@
 from array import array
 from collections import Counter
 
-ROW = 6  # numbers for each reply
+ROW = 8  # numbers for each reply
 EVENT_ROW = 5  # and for each event
 
 
@@ -13,7 +13,7 @@ def rows(numbers, size):
 
 class Found:
     """A session. `places` has of each reply between which places it stands, its event, the bytes of a record for which there is no
-    room, both 0 if there is none, and when its line was said and it came; `asks` has what is to be asked of the model."""
+    room, both 0 if there is none, when its line was said and it came, and from which place on up to which it cannot stand; `asks` has what is to be asked of the model."""
 
     __slots__ = ("nonce", "lines", "words", "places", "asks", "events", "replies", "unanswered", "faults")
 
@@ -26,7 +26,7 @@ class Found:
         """Puts the place of the next reply, or of a line without one, which was said and told at these moments."""
         if place.ask:
             self.asks[len(self.places) // ROW] = place.ask
-        self.places.extend((place.least, place.most, place.event or 0, place.size, sent, got))
+        self.places.extend((place.least, place.most, place.event or 0, place.size, sent, got, *place.gap))
 
     def own(self, event, moments, walls, reply):
         """Takes an event as one of this session."""

@@ -3,6 +3,7 @@ from bisect import bisect_left
 from collections import namedtuple
 
 import pcfs_model
+import switches
 from pcfs_audit_model import CODES, procap_at, proof_bytes, read_proof, read_word
 from pcfs_client import STATE, short, tag_of
 from pcfs_model import CTIME, FIRST, LAST, MOST_BYTES, MOST_PARTS, MOST_RULES, OPERATIONS, SORTS
@@ -15,6 +16,7 @@ Procap = namedtuple("Procap", "grant tag bytes genuine")
 Registered = namedtuple("Registered", "statement signature")
 Issued = namedtuple("Issued", "numbers proof proof_bytes grant")
 Acted = namedtuple("Acted", "caller operation words procaps moment")
+Withdrawn = namedtuple("Withdrawn", "number signature")
 
 FORMULAS = {"cons": 0x11, "and": 0x15, "or": 0x16, "imp": 0x17, "true": 0x18, "false": 0x19, "says": 0x1C, "at": 0x1D}
 BINDERS = {"forall": 0x1A, "exists": 0x1B}
@@ -127,8 +129,8 @@ class Reader:
         try:
             reading = Bytes(payload)
             kind = reading.number(1)
-            need(1 <= kind <= 3)
-            event = [self.registered, self.issued, self.acted][kind - 1](reading)
+            need(1 <= kind <= (4 if switches.withdrawals else 3))
+            event = [self.registered, self.issued, self.acted, self.withdrawn][kind - 1](reading)
             need(reading.at == len(payload))
             return event
         except (Undecided, ValueError, IndexError, RecursionError, OverflowError) as fault:
@@ -143,6 +145,9 @@ class Reader:
             need(statement_bytes(statement) == statement.bytes)
             self.canonical.add(statement.bytes)
         return Registered(statement, reading.take(reading.number(4)))
+
+    def withdrawn(self, reading):
+        return Withdrawn(reading.number(4), reading.take(reading.number(4)))
 
     def issued(self, reading):
         numbers = [reading.number(4) for _ in range(reading.number(1))]
@@ -227,9 +232,10 @@ class History(Server):
         self.said = {}  # the number of each statement, by its bytes
         self.registrations, self.grantings = [], []  # the events of the statements, and of the issues
 
-    def accepts(self, statement, signature):
+    def accepts(self, statement, signature, kind=b"S"):
+        """Whether this is the issuer's signature over the statement; of a withdrawal, if that is the kind."""
         key = self.keys.get(statement.who)
-        return key is not None and signature == tag_of(key, b"S" + statement.bytes)
+        return key is not None and signature == tag_of(key, kind + statement.bytes)
 
     def verdict(self, numbers, who, file, perm, proof, bytes_of_proof):
         """The grant of a proof from statements that are there, or the reply that tells its fault."""
@@ -252,7 +258,7 @@ class History(Server):
 
     def add(self, event):
         """Adds an event: the cause for which it is damage, or else none, and the reply to who asked for it."""
-        make = {Registered: self.add_registered, Issued: self.add_issued, Acted: self.add_acted}[type(event)]
+        make = {Registered: self.add_registered, Withdrawn: self.add_withdrawn, Issued: self.add_issued, Acted: self.add_acted}[type(event)]
         cause, reply = make(event)
         if cause is None:
             self.count += 1
@@ -268,6 +274,15 @@ class History(Server):
         self.said[event.statement.bytes] = len(self.statements)
         return None, f"ok statement {len(self.statements)}"
 
+    def add_withdrawn(self, event):
+        statement = self.live(event.number)
+        if statement is None:
+            return 2, None
+        if not self.accepts(statement, event.signature, b"W"):
+            return 3, None
+        self.withdrawn.add(event.number)
+        return None, "ok"
+
     def gives(self, event):
         """Whether the proof of an issue gives its grant from statements that are there."""
         numbers, grant = event.numbers, event.grant
@@ -278,11 +293,11 @@ class History(Server):
         return not isinstance(verdict, str) and is_same(verdict, grant)
 
     def add_issued(self, event):
-        if not self.gives(event):
+        if not self.gives(event) or None in map(self.live, event.numbers):
             return 4, None
         grant = event.grant
         self.grantings.append(event)
-        self.issues.append(grant)
+        self.keep_issue(grant, event.numbers)
         return None, f"ok issue {len(self.issues)} time {len(grant.times)} state {len(grant.states)}"
 
     def add_acted(self, event):
@@ -341,7 +356,8 @@ class History(Server):
         for place, condition in enumerate(grant.states, 1):
             if not self.is_fact(*condition[1:]):
                 return f"state {place} {condition_text(condition)}"
-        return None
+        number = self.gone(grant) if self.withdrawn else None
+        return None if number is None else f"withdrawn {number}"
 
     def would_answer(self, caller, operation, words, procaps, clock):
         """The reply that an operation would get now; nothing changes."""
@@ -378,6 +394,10 @@ def acted_bytes(caller, operation, words, procaps):
 
 def registered_bytes(statement, signature):
     return 1 + len(statement.bytes) + 4 + len(signature)
+
+
+def withdrawn_bytes(signature):
+    return 1 + 4 + 4 + len(signature)
 
 
 def issued_bytes(numbers, proof, grant):

@@ -1,6 +1,8 @@
 """Hostile use of the built program, compared with what the definitions promise.
 
     hostile.py PROGRAM FOLDER SECONDS SEED [PART..]     the parts are clients, strangers, damage and kills: all, if none is named
+
+With WITHDRAWALS=0 in the environment the program is one from before withdrawals.
 """
 import gc
 import multiprocessing
@@ -10,6 +12,7 @@ import time
 from collections import Counter
 from itertools import chain
 
+import switches
 from areas import LIMIT, image_in, records
 from checkpoints import AT_ONCE as OPERATORS
 from checkpoints import Generations, Operator, all_at_once
@@ -18,7 +21,7 @@ from damage import damage_until
 from history import Reader
 from images import image_of
 from kills import Kills, keeper
-from pcfs_model import Drawn
+from pcfs_model import DRAWN_SECRETS, drawn
 from placing import Placing
 from said import SHARED, secrets_of
 from serving import Running, Store
@@ -256,10 +259,10 @@ class Run:
 
     def draw_store(self):
         """A store by a random script, if no part before has left one."""
-        self.secrets = "seal 00\nkey admin 01\n"
+        self.secrets = DRAWN_SECRETS
         store = Store(self.program, f"{self.folder}/drawn", self.secrets)
         store.run("init")
-        lines = [line for line in Drawn(self.seed).lines(2000) if line != "checkpoint"]  # so the first area has all events
+        lines = [line for line in drawn(self.seed).lines(2000) if line != "checkpoint"]  # so the first area has all events
         store.run("script", "--stored", given="".join(line + "\n" for line in lines).encode("latin-1"))
         self.area = store.area()
 
@@ -278,7 +281,7 @@ class Run:
 
 def main():
     sys.setrecursionlimit(20_000)  # formulas and proofs may be deep
-    program, folder, seconds, seed, *parts = sys.argv[1:]
+    program, folder, seconds, seed, *parts = switches.taken(sys.argv[1:])
     run = Run(program, folder, float(seconds), int(seed), parts or list(SHARES))
     begin = time.monotonic()
     for part in run.shares:

@@ -1,6 +1,8 @@
-"""Images as docs/DISK.md writes them: the bytes of a state, and the state of such bytes, by the plain model."""
+"""Images as docs/DISK.md writes them: the bytes of a state, and the state of such bytes, by the plain model. With withdrawals they
+are of version 2, which has one byte more before all, and behind all the numbers of the statements that were withdrawn."""
 import re
 
+import switches
 from history import MOST_STATEMENTS, History
 from pcfs_audit_model import cited_bytes
 from pcfs_client import short
@@ -9,6 +11,7 @@ from pcfs_model import Bad, Bytes, Node, Undecided, grant_bytes, is_text, need
 
 LAST_EVENT = 2**48 - 1
 KINDS = ["file", "directory"]
+VERSION = b"\x02"
 NAME = re.compile("[A-Za-z0-9_.-]{1,64}")
 ATTRIBUTE = re.compile("[a-z][a-z0-9_.]{0,63}")
 
@@ -27,18 +30,27 @@ def node_bytes(number, node):
     return head + bytes([len(node.attributes)]) + attributes + long(node.contents)
 
 
-def image_of(state):
-    """The image of a state."""
+def withdrawn_in_order(state):
+    return sorted(state.withdrawn)
+
+
+def image_of(state, withdrawn=None):
+    """The image of a state, with these numbers of withdrawn statements if any are given."""
     statements = [one.statement.bytes + long(one.signature) for one in state.registrations]
     issues = [cited_bytes(one.numbers) + long(one.proof_bytes) + grant_bytes(one.grant) for one in state.grantings]
     nodes = [node_bytes(number, node) for number, node in sorted(state.nodes.items())]
     head = state.moment.to_bytes(8, "big", signed=True) + state.count.to_bytes(8, "big") + state.next.to_bytes(8, "big")
-    return head + counted(statements) + counted(issues) + counted(nodes)
+    image = head + counted(statements) + counted(issues) + counted(nodes)
+    if not switches.withdrawals:
+        return image
+    numbers = withdrawn_in_order(state) if withdrawn is None else withdrawn
+    return VERSION + image + counted([one.to_bytes(4, "big") for one in numbers])
 
 
 def count_in(image):
     """The number of the last event before the image."""
-    return int.from_bytes(image[8:16], "big")
+    begin = 8 + (len(VERSION) if switches.withdrawals else 0)
+    return int.from_bytes(image[begin : begin + 8], "big")
 
 
 def is_name(name):
@@ -55,18 +67,29 @@ class ImageReader:
         return [one(self.reading) for _ in range(self.reading.number(4))]
 
     def whole(self):
-        """The moment, the number of the last event, that of the next node, statements, issues and nodes."""
+        """The moment, the number of the last event, that of the next node, statements, issues, nodes, and the withdrawn numbers."""
         reading = self.reading
         try:
+            need(not switches.withdrawals or reading.take(1) == VERSION)
             moment = int.from_bytes(reading.take(8), "big", signed=True)
             need(FIRST <= moment <= LAST)
             count, following = reading.number(8), reading.number(8)
             statements, issues = self.many(self.reader.registered), self.many(self.reader.issued)
             nodes = self.nodes()
+            withdrawn = self.withdrawn(len(statements)) if switches.withdrawals else []
             need(is_tree(nodes, following) and reading.at == len(reading.data) and count <= LAST_EVENT)
         except (Undecided, ValueError, IndexError, RecursionError, OverflowError) as fault:
             raise Bad() from fault
-        return moment, count, following, statements, issues, nodes
+        return moment, count, following, statements, issues, nodes, withdrawn
+
+    def withdrawn(self, most):
+        """The numbers of withdrawn statements, which rise, and of which none is above that of the last statement."""
+        numbers = []
+        for _ in range(self.reading.number(4)):
+            number = self.reading.number(4)
+            need((numbers[-1] if numbers else 0) < number <= most)
+            numbers.append(number)
+        return numbers
 
     def nodes(self):
         nodes, last = {}, 0
@@ -128,14 +151,16 @@ def state_of(image, secrets, reader=None):
     """The cause for which the image is damage, or else none, and its state."""
     state = History(secrets, reader)
     try:
-        state.moment, state.count, state.next, statements, issues, state.nodes = ImageReader(state.reader, image).whole()
+        state.moment, state.count, state.next, statements, issues, state.nodes, withdrawn = ImageReader(state.reader, image).whole()
     except Bad:
         return 2, None
     state.together = sum(len(node.contents) for node in state.nodes.values())
     if not all(state.accepts(one.statement, one.signature) for one in statements):
         return 3, None
     state.registrations, state.statements = statements, [one.statement for one in statements]
-    state.grantings, state.issues = issues, [one.grant for one in issues]
+    state.grantings, state.withdrawn = issues, set(withdrawn)
+    for one in issues:
+        state.keep_issue(one.grant, one.numbers)
     if not all(state.gives(one) for one in issues):
         return 4, None
     state.said = {one.bytes: number for number, one in enumerate(state.statements, 1)}

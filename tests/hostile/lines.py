@@ -2,10 +2,11 @@
 import re
 from collections import namedtuple
 
+import switches
 from pcfs_audit_model import proof_bytes
 from pcfs_client import short, tag_of
 from pcfs_model import GOAL, OPERATIONS, Bad, ProofText, Reply, Undecided
-from pcfs_model import fault, first_word, hexadecimal, issue, need, principal, statement_of, written
+from pcfs_model import fault, first_word, hexadecimal, issue, need, principal, statement_number, statement_of, written
 from texts import fault_of
 
 LONGEST = 262_144
@@ -15,7 +16,7 @@ NUMBER = "(?:0|[1-9][0-9]*)"
 HEX = "(?:[0-9a-f]{2})+"
 ENTRY = f"[A-Za-z0-9_.-]{{1,64}}#{NUMBER}"
 CONDITION = r"(?:[ -~]+ <= [ -~]+|(?:owner|has_xattr|in_dir)\([ -~]+\))"
-CAUSE = f"(?:seal|principal|file|permission|(?:time|state) {NUMBER} {CONDITION})"
+CAUSE = f"(?:seal|principal|file|permission|(?:time|state) {NUMBER} {CONDITION}|withdrawn {NUMBER})"
 REPLIES = [
     "ok",
     "ok checkpoint",
@@ -50,8 +51,16 @@ def signature(word):
 
 
 FORMS = {"login": [principal, signature], "register": [signature], "procap": [issue], "verify": GOAL, "checkpoint": []}
+WITHDRAWAL = [statement_number, signature]
 WITH_TEXT = ("register", "verify")
 OF_ADMIN = ("checkpoint",)  # to others who are logged in they are no form
+
+
+def kinds_of(form, caller):
+    """The kinds of the words of a form; none if this caller has no such form."""
+    if form == "withdraw":
+        return WITHDRAWAL if switches.withdrawals else None
+    return FORMS.get(form) if form not in OF_ADMIN or caller in (None, "admin") else None
 
 
 class Lines:
@@ -70,8 +79,9 @@ class Lines:
     def head(self, form, behind, caller):
         """The form of a line, the kinds of its words, and what stands after those that name the form."""
         if form != "do":
-            need(form in FORMS and (form not in OF_ADMIN or caller in (None, "admin")), fault("bad 1 0"))
-            return form, FORMS[form], behind
+            kinds = kinds_of(form, caller)
+            need(kinds is not None, fault("bad 1 0"))
+            return form, kinds, behind
         need(behind, fault("bad 2"))
         operation, behind = first_word(behind[1:])
         need(operation in OPERATIONS, fault("bad 1 3"))

@@ -16,9 +16,10 @@ import time
 from collections import Counter
 from concurrent.futures import ThreadPoolExecutor
 
+import switches
 from areas import generation, is_open, records
 from placing import Placing
-from said import POLICY, login, registration, root_verify, secrets_of
+from said import POLICY, login, registration, root_verify, secrets_of, withdrawal
 from serving import AREAS, Store, free_port
 from talking import Session, Unanswered
 
@@ -30,6 +31,7 @@ MOST = 200_000  # growths of one run
 PATIENCE = 60  # seconds
 NAMES = ("keeper", "alice")
 ENOUGH = 20  # faults that are shown
+WITHDRAWING = [b"withdraw 1 -", b"as alice", b"do create #1 more @1", b"withdraw 1 -", b"checkpoint", b"do create #1 more @1"]  # after first-file
 SUMMARY = re.compile(rb"lines (\d+) ok (\d+) denied (\d+) refused (\d+) other (\d+) events \d+\n")
 
 
@@ -191,6 +193,8 @@ class Parts:
 
     def first(self):
         self.each("the first file, in memory", Script(self.refusing, self.empty, example("first-file"), ["script"]).check)
+        if switches.withdrawals:
+            self.each("a withdrawal, in memory", Script(self.refusing, self.empty, example("first-file") + WITHDRAWING, ["script"]).check)
 
     def public(self):
         self.each("a public class, in memory", Script(self.refusing, self.empty, example("public"), ["script"]).check)
@@ -204,6 +208,8 @@ class Parts:
             self.each(f"{name}, over a store", script.check)
             base = self.after(base, "script", "--stored", given=joined(example(name)))
             self.opens(base)
+        if switches.withdrawals:
+            self.each("a withdrawal, over a store", Script(self.refusing, base, WITHDRAWING, ["script", "--stored"]).check)
         lines = [b"checkpoint", *example("stored/read"), b"checkpoint", *example("stored/read"), b"checkpoint"]
         self.each("checkpoints in a script", Script(self.refusing, base, lines, ["script", "--stored"]).check)
         events = self.refusing.run(base, 0, "audit")[:2]
@@ -348,6 +354,10 @@ def keeper(session):
     session.ask(login("keeper", session.nonce).encode())
     for text in POLICY[:2]:
         session.ask(registration(text).encode())
+    if switches.withdrawals:
+        text = "admin says taken_back from 0 to 1"
+        session.ask(registration(text).encode())
+        session.ask(withdrawal(3, text).encode())
     session.log.generation = 1
     session.ask(login("admin", session.nonce).encode())
     session.ask(b"checkpoint")
@@ -428,4 +438,4 @@ def main(program, folder, *named):
 
 
 if __name__ == "__main__":
-    sys.exit(main(*sys.argv[1:]))
+    sys.exit(main(*switches.taken(sys.argv[1:])))

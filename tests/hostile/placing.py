@@ -15,7 +15,8 @@ from itertools import islice
 
 from areas import LIMIT, Damaged, generation, image_in, records
 from found import ROW, Found
-from history import MOST_STATEMENTS, Acted, History, Issued, Registered, acted_bytes, is_same, issued_bytes, registered_bytes
+from history import MOST_STATEMENTS, Acted, History, Issued, Registered, Withdrawn
+from history import acted_bytes, is_same, issued_bytes, registered_bytes, withdrawn_bytes
 from images import count_in, image_of
 from lines import LONGEST, Lines, is_accepted, is_in_table
 from pcfs_client import tag_of
@@ -23,9 +24,9 @@ from pcfs_model import OPERATIONS, Bad, Reply, Server, Undecided, grant_bytes, n
 from several import Readers
 from talking import LONG, is_shortened, shortened
 
-# Between which places a reply stands, its event, what is to be asked of the model there, and of how many bytes a record has no room
-# in the area, 0 if that is not said.
-Place = namedtuple("Place", "least most event ask size", defaults=(0, None, 0))
+# Between which places a reply stands, its event, what is to be asked of the model there, of how many bytes a record has no room
+# in the area, 0 if that is not said, and from which place on, up to which, it cannot stand.
+Place = namedtuple("Place", "least most event ask size gap", defaults=(0, None, 0, (0, 0)))
 # The image with which an area begins: how many events are before it, and its length and digest.
 Image = namedtuple("Image", "events length digest")
 Ask = namedtuple("Ask", "caller form words procaps first last reply")
@@ -67,6 +68,8 @@ def key_of(event):
     """All that a line says of its event."""
     if isinstance(event, Registered):
         return event.statement.bytes, event.signature
+    if isinstance(event, Withdrawn):
+        return "withdraw", event.number, event.signature
     if isinstance(event, Issued):
         return event.grant.who, event.grant.file, event.grant.perm, tuple(event.numbers), event.proof_bytes
     return event.caller, event.operation, tuple(event.words), tuple(procap.bytes for procap in event.procaps)
@@ -76,6 +79,8 @@ def key_asked(asked, caller):
     """The same of the event that a line asks for."""
     if asked.form == "register":
         return asked.text.bytes, asked.words[0]
+    if asked.form == "withdraw":
+        return "withdraw", *asked.words
     if asked.form == "verify":
         return *asked.words[:3], tuple(asked.words[3]), asked.text[1]
     slots = OPERATIONS[asked.form][1]
@@ -109,6 +114,7 @@ class Placing:
         self.events = [None]
         self.images, self.ends, self.makers = [None], [None], {1: None}  # by the generations of their areas; who made them
         self.statement_events, self.issue_events, self.issues = [0], [0], [None]
+        self.withdrawal_events = {}  # by the number of the statement
         self.acted = defaultdict(deque)
         with Readers(self.known.reader) as readers:
             for area in areas:
@@ -156,6 +162,8 @@ class Placing:
             self.statement_events.append(number)
             self.known.statements.append(event.statement)
             self.known.said[event.statement.bytes] = len(self.known.statements)
+        elif isinstance(event, Withdrawn):
+            self.withdrawal_events.setdefault(event.number, number)
         elif isinstance(event, Issued):
             self.issue_events.append(number)
             self.issues.append(event.grant)
@@ -176,6 +184,18 @@ class Placing:
     def statement_event(self, number):
         """The event that has that number of a statement; none if there is none."""
         return self.statement_events[number] if 1 <= number < len(self.statement_events) else None
+
+    def live(self, number):
+        """The first and the last place at which that statement is live; none if it never is."""
+        event = self.statement_event(number)
+        return None if event is None else (event, self.withdrawal_events.get(number, self.last + 1) - 1)
+
+    def all_live(self, numbers):
+        """The first and the last place at which all these statements are live; the first is behind the last if there is none."""
+        spans = [self.live(number) for number in numbers]
+        if None in spans:
+            return self.last + 1, self.last
+        return max((first for first, _ in spans), default=0), min((last for _, last in spans), default=self.last)
 
     # ---- what one session was told ----
 
@@ -259,7 +279,10 @@ class Placing:
             return self.place_of_checkpoint(reply)
         if asked.form in OPERATIONS:
             return self.place_of_operation(asked, reply, caller, sent, got)
-        find = {"register": self.place_of_statement, "verify": self.place_of_proof, "procap": self.place_of_procap}[asked.form]
+        find = {
+            "register": self.place_of_statement, "withdraw": self.place_of_withdrawal,
+            "verify": self.place_of_proof, "procap": self.place_of_procap,
+        }[asked.form]
         return find(asked, reply, caller)
 
     def place_when_full(self, size, least, most, ask=None):
@@ -312,19 +335,50 @@ class Placing:
         want(reply, f"ok statement {number}")
         return Place(event - 1, event - 1, event)
 
+    def place_of_withdrawal(self, asked, reply, caller):
+        number, given = asked.words
+        span = self.live(number)
+        if reply == b"absent %d" % number:
+            return self.place_without(span, 0, self.last)
+        if span is None:
+            raise Wrong("and there is never such a statement")
+        first, last = span
+        statement = self.known.statements[number - 1]
+        if not self.known.accepts(statement, given, b"W"):
+            want(reply, "rejected 1")
+            return Place(first, last)
+        if reply == b"full":
+            return self.place_when_full(withdrawn_bytes(given), first, last)
+        want(reply, "ok")
+        event = self.withdrawal_events.get(number)
+        if event is None or key_of(self.events[event]) != key_asked(asked, caller):
+            raise Wrong("and the history has no such withdrawal")
+        return Place(event - 1, event - 1, event)
+
+    def place_without(self, span, least, most):
+        """Between these places, but not where a statement is live, which it is between the places of the span, if ever."""
+        if span is None:
+            return Place(least, most)
+        first, last = span
+        if last >= most:
+            return Place(least, min(most, first - 1))
+        return Place(least, most, gap=(first, last + 1))
+
     def place_of_proof(self, asked, reply, caller):
         (who, file, perm, numbers), (proof, bytes_of_proof) = asked.words, asked.text
         if reply.startswith(b"absent "):
             return self.place_of_absent(numbers, int(reply[7:]))
         if numbers[0] == 0 or self.statement_event(numbers[-1]) is None:
             raise Wrong("and cites what is never there")
-        least = self.statement_event(numbers[-1])
+        least, most = self.all_live(numbers)
+        if least > most:
+            raise Wrong("and what it cites is never live at once")
         verdict = self.known.verdict(numbers, who, file, perm, proof, bytes_of_proof)
         if isinstance(verdict, str):
             want(reply, verdict)
-            return Place(least, self.last)
+            return Place(least, most)
         if reply == b"full":
-            return self.place_when_full(issued_bytes(numbers, proof, verdict), least, self.last)
+            return self.place_when_full(issued_bytes(numbers, proof, verdict), least, most)
         found = ISSUE.fullmatch(reply)
         if not found or int(found[1]) >= len(self.issue_events):
             raise Wrong("and the proof gives a grant")
@@ -335,14 +389,14 @@ class Placing:
         return Place(event - 1, event - 1, event)
 
     def place_of_absent(self, numbers, number):
-        """Where the statements that are cited before that number are there, and it is not."""
+        """Where the statements that are cited before that number are live, and it is not. That is so when the proof was found to be
+        right too, and a statement was withdrawn in the meantime."""
         if number not in numbers:
             raise Wrong("which was not cited")
-        before = [self.statement_event(one) for one in numbers[: numbers.index(number)]]
-        if None in before:
+        least, most = self.all_live(numbers[: numbers.index(number)])
+        if least > most:
             raise Wrong("and one cited before it is absent too")
-        event = self.statement_event(number)
-        return Place(max(before, default=0), self.last if event is None else event - 1)
+        return self.place_without(self.live(number), least, most)
 
     def place_of_procap(self, asked, reply, caller):
         (number,) = asked.words
@@ -458,23 +512,25 @@ class Placing:
         place = bisect_right(self.said_at, moment)
         return self.said_least[place] - 1 if place < len(self.said_at) else self.last
 
-    def earliest(self, low, least, size, sent):
+    def earliest(self, low, least, size, sent, gap):
         """The first place where a reply may stand, after that of the one before it."""
         place = max(low, least, self.told_before(sent))
+        if gap[0] <= place < gap[1]:
+            place = gap[1]
         return self.without_room(place, size) if size else place
 
     def reached(self, found):
         """The place that a session had surely come to with its last reply."""
         low = 0
-        for _, (least, _, event, size, sent, _), _ in found.placed():
-            low = event or self.earliest(low, least, size, sent)
+        for _, (least, _, event, size, sent, _, *gap), _ in found.placed():
+            low = event or self.earliest(low, least, size, sent, gap)
         return low
 
     def walk(self, session):
         """Places the replies of a session, each as early as it may stand."""
         low = 0
-        for number, (least, most, event, size, sent, got), ask in self.sessions[session].placed():
-            place = self.earliest(low, least, size, sent)
+        for number, (least, most, event, size, sent, got, *gap), ask in self.sessions[session].placed():
+            place = self.earliest(low, least, size, sent, gap)
             most = min(most, self.said_before(got))
             if place > most:
                 self.fault(f"session {session}, reply {number} has no place: not before {place} by {low}, {least} and what was told, nor after {most}")

@@ -12,13 +12,13 @@ import threading
 import time
 
 from areas import HEADER, LIMIT, Damaged, begin_of, bytes_of, generation, newest, opened, records
-from damage import MADE
-from history import Acted, Issued, Registered
+from damage import made
+from history import Acted, History, Issued, Registered, Withdrawn
 from images import image_of
 from lines import LONGEST, Lines, is_accepted
-from pcfs_audit_model import CODES, cited_bytes, word_bytes
+from pcfs_audit_model import CODES, cited_bytes, signature_bytes, withdrawal_bytes, word_bytes
 from pcfs_client import short, tag_of
-from pcfs_model import OPERATIONS, Bad, Reply, Undecided, grant_bytes
+from pcfs_model import OPERATIONS, Reply, Undecided, grant_bytes
 from talking import LONG
 
 WRONG = os.environ.get("WRONG", "")
@@ -28,7 +28,9 @@ AT_ONCE = 65 if WRONG == "too-many" else 64
 def payload(event):
     """The bytes of an event."""
     if isinstance(event, Registered):
-        return b"\x01" + event.statement.bytes + len(event.signature).to_bytes(4, "big") + event.signature
+        return b"\x01" + event.statement.bytes + signature_bytes(event.signature)
+    if isinstance(event, Withdrawn):
+        return withdrawal_bytes(event.number, event.signature)
     if isinstance(event, Issued):
         proof = len(event.proof_bytes).to_bytes(4, "big") + event.proof_bytes
         return b"\x02" + cited_bytes(event.numbers) + proof + grant_bytes(event.grant)
@@ -46,10 +48,51 @@ def wrong_list(reply):
     return " ".join([*before, *after])
 
 
+class WrongHistory(History):
+    """A history that is wrong in one thing about withdrawals."""
+
+    stayed = {}
+
+    def accepts(self, statement, signature, kind=b"S"):
+        also = WRONG == "withdrawn-anybody" or WRONG == "withdrawn-registration" and super().accepts(statement, signature)
+        return super().accepts(statement, signature, kind) or kind == b"W" and also
+
+    def add_issued(self, event):
+        withdrawn = self.withdrawn
+        if WRONG in ("withdrawn-cited", "withdrawn-held"):
+            self.withdrawn = set()
+        found = super().add_issued(event)
+        self.withdrawn = withdrawn
+        return found
+
+    def gone(self, grant):
+        if WRONG == "withdrawn-untested":
+            return None
+        data = grant_bytes(grant)
+        if WRONG == "withdrawn-stays":
+            return self.stayed.setdefault(data, super().gone(grant))
+        found = [[one for one in numbers if one in self.withdrawn] for numbers in self.bearers.get(data, ())]
+        if WRONG == "withdrawn-one" and any(found):
+            return next(numbers[0] for numbers in found[::-1] if numbers)
+        if WRONG == "withdrawn-last" and found and found[-1]:
+            return found[-1][0]
+        if WRONG == "withdrawn-oldest" and found and all(found):
+            return found[0][0]
+        return super().gone(grant)
+
+    def why_denied(self, procap, file, perm, moment):
+        cause = super().why_denied(procap, file, perm, moment)
+        number = self.gone(procap.grant) if WRONG == "withdrawn-before" and procap.genuine else None
+        is_later = cause is not None and cause.startswith(("time", "state"))
+        return f"withdrawn {number}" if is_later and number is not None else cause
+
+
 class Kept:
     """The store, and its lock."""
 
     def __init__(self, history, area, is_second):
+        if WRONG.startswith("withdrawn"):
+            history.__class__ = WrongHistory
         self.history, self.lines, self.lock = history, Lines(history.reader), threading.Lock()
         self.file, self.other = (os.open(name, os.O_RDWR | os.O_CREAT) for name in (("pcfs.b", "pcfs.a") if is_second else ("pcfs.a", "pcfs.b")))
         self.end, self.generation = max((end for _, end in records(area)), default=begin_of(area)), generation(area)
@@ -71,7 +114,7 @@ class Kept:
         """Writes the image of the state into the other area, which counts from then on."""
         if WRONG == "image":
             self.history.nodes[1].owner = "alice" if random.random() < 0.5 else "admin"
-        image = image_of(self.history)
+        image = image_of(self.history, [] if WRONG == "withdrawn-image" else None)
         if len(image) + 25 > LIMIT:
             return "full"
         if WRONG == "no-checkpoint":
@@ -88,17 +131,38 @@ class Kept:
         (given,), statement, history = asked.words, asked.text, self.history
         if not history.accepts(statement, given):
             return "rejected 1"
-        if statement.bytes in history.said and WRONG != "twice":
+        is_again = WRONG == "twice" or WRONG == "withdrawn-again" and history.said.get(statement.bytes) in history.withdrawn
+        if statement.bytes in history.said and not is_again:
             return f"rejected 3 {history.said[statement.bytes]}"
         return "rejected 2" if len(history.statements) == 4096 else self.keep(Registered(statement, given))
 
-    def verify(self, asked, caller):
+    def withdraw(self, asked, caller):
+        (number, given), history = asked.words, self.history
+        statement = history.live(number)
+        if statement is None:
+            return f"absent {number}"
+        return self.keep(Withdrawn(number, given)) if history.accepts(statement, given, b"W") else "rejected 1"
+
+    def absent(self, numbers):
+        """The first of these numbers that has no live statement."""
+        count = len(self.history.statements)
+        is_there = (lambda one: 1 <= one <= count) if WRONG == "withdrawn-cited" else self.history.live
+        return next((f"absent {one}" for one in numbers if not is_there(one)), None)
+
+    def verify(self, asked):
+        """Two turns, between which the proof is looked at while others have theirs."""
         (who, file, perm, numbers), (proof, proof_bytes) = asked.words, asked.text
-        for one in numbers:
-            if not 1 <= one <= len(self.history.statements):
-                return f"absent {one}"
+        with self.lock:
+            absent = self.absent(numbers)
+        if absent:
+            return absent
         verdict = self.history.verdict(numbers, who, file, perm, proof, proof_bytes)
-        return verdict if isinstance(verdict, str) else self.keep(Issued(numbers, proof, proof_bytes, verdict))
+        if isinstance(verdict, str):
+            return verdict
+        if WRONG == "withdrawn-held":
+            time.sleep(0.2)
+        with self.lock:
+            return (None if WRONG == "withdrawn-held" else self.absent(numbers)) or self.keep(Issued(numbers, proof, proof_bytes, verdict))
 
     def procap(self, asked, caller):
         (number,) = asked.words
@@ -164,8 +228,10 @@ class Session:
             return "ok" if accepted else "rejected 1"
         if self.caller is None:
             return "rejected 4"
+        if asked.form == "verify":
+            return self.kept.verify(asked)
         with self.kept.lock:
-            return getattr(self.kept, asked.form if asked.form in ("register", "verify", "procap", "checkpoint") else "do")(asked, self.caller)
+            return getattr(self.kept, asked.form if asked.form in ("register", "withdraw", "procap", "checkpoint") else "do")(asked, self.caller)
 
 
 def attend(kept, connection, room):
@@ -237,7 +303,7 @@ def init():
         return 10
     old = bytes_of("pcfs.a")
     with open("pcfs.a", "wb") as file:
-        file.write(MADE + old[len(MADE) :])
+        file.write(made() + old[len(made()) :])
     print("ok")
     return 0
 

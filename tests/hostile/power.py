@@ -15,6 +15,7 @@ import threading
 import time
 from collections import Counter
 
+import switches
 from areas import Damaged, generation, image_in, newest, records
 from images import count_in
 from said import login, owner_verify, root_verify, secrets_of
@@ -168,7 +169,7 @@ class Telling:
         if not state[2]:
             kind = "made" if state[0] == 1 else "checkpoint"
         else:
-            kind = {1: "statement", 2: "issue", 3: "acted"}.get(state[2][-1][0], "?")
+            kind = {1: "statement", 2: "issue", 3: "acted", 4: "withdrawn"}.get(state[2][-1][0], "?")
         self.places.setdefault(kind, []).append(len(self.states) - 1)
         if kind == "acted" and state[2][-1][1 + 1 + state[2][-1][1]] == 6:
             self.places.setdefault("node", []).append(len(self.states) - 1)
@@ -199,6 +200,9 @@ class Telling:
         elif asked.startswith(b"do "):
             self.lines["acted"] += 1
             self.know("acted", self.lines["acted"])
+        elif asked.startswith(b"withdraw "):
+            self.lines["withdrawn"] += 1
+            self.know("withdrawn", self.lines["withdrawn"])
         elif len(words) == 3 and words[1] == b"node":
             self.know("node", int(words[2][1:]) - 2)
 
@@ -379,10 +383,13 @@ class Trial:
     def work(self, size):
         """What is done to a store, as steps: each a command, lines, or speakers."""
         draw, steps = self.draw, [("init",)]
-        files, at = 0, 100
+        files, at, taken = 0, 100, 0
         lines = [b"at 100", *(b"register - " + text.encode() for text in STATEMENTS), *(root_verify(who, "write").encode() for who in ("alice", "bob"))]
         lines += [b"as alice"]
         for _ in range(size):
+            if switches.withdrawals and draw.random() < 0.15:
+                taken += 1
+                lines += [b"register - admin says taken%d from 0 to 1" % taken, b"withdraw %d -" % (len(STATEMENTS) + taken)]
             kind = draw.randrange(8)
             if kind < 4 or files == 0:
                 lines.append(b"do create #1 f%d @1" % (self.numbers * 1000 + files))
@@ -594,4 +601,4 @@ def main(program, folder, seconds, seed, kind=""):
 
 
 if __name__ == "__main__":
-    sys.exit(main(*sys.argv[1:]))
+    sys.exit(main(*switches.taken(sys.argv[1:])))

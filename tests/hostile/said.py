@@ -3,7 +3,8 @@ import hashlib
 import re
 import time
 
-from pcfs_client import PERMISSIONS, grant_bytes, sign_login, sign_statement
+import switches
+from pcfs_client import PERMISSIONS, grant_bytes, sign_login, sign_statement, sign_withdrawal
 
 SEAL = "6f6e65206b657920666f7220746865207365616c"
 SHARED = "office"
@@ -19,7 +20,7 @@ POLICY = [
     "admin says forall K:principal. forall F:file. hr says employee(K) => may(K,F,read) from 0 to +inf",
 ]
 PUBLIC, BELOW, EMPLOYEES = len(ROOT) + len(PERMISSIONS) + 1, len(ROOT) + len(PERMISSIONS) + 2, len(ROOT) + len(PERMISSIONS) + 3
-OWN = "saysR(claim(0,init(1)))"
+OWN, HALF = "saysR(claim(0,init(1)))", "saysR(claim(0,andL(1,init(2))))"
 
 
 def key_of(name):
@@ -38,6 +39,11 @@ def login(name, nonce):
 
 def registration(text):
     return f"register {sign_statement(key_of(text.split(' ')[0]), text).hex()} {text}"
+
+
+def withdrawal(number, text, who=None):
+    """The withdrawal of the statement of that number, signed by who says it, or by somebody."""
+    return f"withdraw {number} {sign_withdrawal(key_of(who or text.split(' ')[0]), text).hex()}"
 
 
 def root_verify(who, perm):
@@ -130,7 +136,8 @@ WORDS = (
 def junk(draw):
     """Bytes without an end of a line that ask for nothing, mostly."""
     if draw.random() < 0.5:
-        return " ".join(draw.choice(WORDS) for _ in range(draw.randint(0, 7))).encode()
+        words = [*WORDS, "withdraw", "withdraw", "4294967296"] if switches.withdrawals else WORDS
+        return " ".join(draw.choice(words) for _ in range(draw.randint(0, 7))).encode()
     return draw.randbytes(draw.randint(0, 80)).replace(b"\n", b"\r")
 
 
@@ -142,6 +149,7 @@ class Board:
 
     def __init__(self):
         self.procaps, self.nodes, self.statements, self.issues, self.turn = [], [1], [], 1, 0
+        self.numbered, self.withdrawn = [], []  # statements and their numbers
 
     def note(self, kept, one):
         if len(kept) >= 2000:
@@ -156,6 +164,7 @@ TAME = {
     "forged_statement": 1, "other_login": 1, "broken_line": 10, "junk_line": 4, "operator_line": 1, "odd_statement": 1,
 }
 WILD = {**TAME, "fitting": 12, "broken_line": 45, "junk_line": 25, "odd_verify": 8, "odd_statement": 8, "operator_line": 4}
+WITHDRAWING = {"withdrawal": 2, "odd_withdrawal": 4, "other_statement": 4, "statement": 3}
 
 
 class Speaker:
@@ -163,7 +172,9 @@ class Speaker:
 
     def __init__(self, draw, name, nonce, board, wild=False, more=None):
         self.draw, self.name, self.nonce, self.board, self.more = draw, name, nonce, board, more
-        self.kinds, self.weights = zip(*(WILD if wild else TAME).items())
+        weights = {**(WILD if wild else TAME), **(WITHDRAWING if switches.withdrawals else {})}
+        self.kinds, self.weights = zip(*weights.items())
+        self.own = []  # the intervals of statements that give one a right, and which
         self.caller, self.number, self.attributes = None, 0, 0
         self.held, self.places, self.directories = {}, {}, [1]
         self.next = [(root_verify(name, perm), ("issue", name, 1, perm)) for perm in ROOT]
@@ -180,9 +191,14 @@ class Speaker:
 
     def learn_statement(self, words, text, line):
         self.board.note(self.board.statements, text)
+        if switches.withdrawals:
+            self.board.note(self.board.numbered, (int(words[2]), text))
         if line:
             who, file, perm, verify = line
             self.next.append((verify.replace("NUMBER", words[2].decode()), ("issue", who, file, perm)))
+
+    def learn_withdrawn(self, words, number, text):
+        self.board.note(self.board.withdrawn, (number, text))
 
     def learn_issue(self, words, who, file, perm):
         self.board.issues = max(self.board.issues, int(words[2]))
@@ -223,6 +239,8 @@ class Speaker:
         return (line if isinstance(line, bytes) else line.encode()), note
 
     def as_guest(self):
+        if switches.withdrawals and self.draw.random() < 0.1:
+            return self.odd_withdrawal()
         kind = self.draw.randrange(10)
         if kind == 0:
             return "procap 1", None
@@ -427,12 +445,56 @@ class Speaker:
         kind, end = draw.randrange(3), now + draw.choice([1, 3, 10, 60])
         if kind == 0:
             text, perm = f"admin says may({self.name},#1,write) from {draw.choice([0, now - 1, now])} to {end}", "write"
+            self.own.append(text.split(" from ")[1])
             return registration(text), ("statement", text, (self.name, 1, perm, f"verify {self.name} #1 write NUMBER {OWN}"))
         if kind == 1:
             text, file = f"hr says employee({self.name}) from {draw.choice([0, now, now + 1])} to {end}", self.any_node()
             return registration(text), ("statement", text, (self.name, file, "read", employee_verify(self.name, file, "NUMBER")))
         text = f"{draw.choice(ISSUERS)} says {formula(draw, draw.randint(0, 4))} from 0 to {draw.choice(['+inf', end, '2030-01-01'])}"
         return registration(text), ("statement", text, None)
+
+    def other_statement(self):
+        """One that gives the same right as another did, under the same conditions."""
+        draw = self.draw
+        if not self.own:
+            return self.statement()
+        who, interval, half = draw.choice(["admin", "loc"]), draw.choice(self.own[-3:]), draw.random() < 0.7
+        self.number += 1
+        text = f"{who} says may({self.name},#1,write){f' & again{self.number}' if half else ''} from {interval}"
+        return registration(text), ("statement", text, (self.name, 1, "write", f"verify {self.name} #1 write NUMBER {HALF if half else OWN}"))
+
+    def withdrawal(self):
+        """A right one, seldom of a statement of the policy; others may have withdrawn it before."""
+        draw, board = self.draw, self.board
+        if draw.random() < 0.005 or not board.numbered:
+            number = draw.choice([PUBLIC, BELOW, EMPLOYEES])
+            text = POLICY[number - 1]
+        else:
+            number, text = draw.choice(board.numbered[-20:] if draw.random() < 0.7 else board.numbered)
+        return withdrawal(number, text), ("withdrawn", number, text)
+
+    def odd_withdrawal(self):
+        """One of no statement, of one that was withdrawn before, or under another signature."""
+        draw, board = self.draw, self.board
+        policy = [(number, text) for number, text in enumerate(POLICY, 1)]
+        number, text = draw.choice(board.numbered if board.numbered and draw.random() < 0.7 else policy)
+        kind = draw.randrange(8)
+        if kind == 0:
+            return withdrawal(draw.choice([0, 4096, 4097, 2**32 - 1, 2**32, 2**64]), text), None
+        if kind == 1:
+            return withdrawal(*draw.choice(board.withdrawn or policy[:1]), who=None if board.withdrawn else SHARED), None
+        if kind == 2:
+            return withdrawal(number, text, who=draw.choice([self.name, SHARED, *(one for one in ISSUERS if not text.startswith(f"{one} "))])), None
+        if kind == 3:
+            return f"withdraw {number} {registration(text).split(' ')[1]}", None
+        if kind == 4:
+            other = draw.choice([one for _, one in (board.numbered or policy)[-30:] + policy[:2] if one != text])
+            return withdrawal(number, other), None
+        if kind == 5:
+            return f"withdraw {number} {draw.choice(['-', '00', draw.randbytes(32).hex(), withdrawal(number, text).split(' ')[2] + '00'])}", None
+        if kind == 6:
+            return f"withdraw {draw.choice(['-', '01', '#1', '@1', ''])} {withdrawal(number, text).split(' ')[2]}", None
+        return broken(draw, withdrawal(number, text, who=SHARED).encode()), None
 
     def statement_again(self):
         text = self.draw.choice(self.board.statements) if self.board.statements and self.draw.random() < 0.6 else self.draw.choice(POLICY)
@@ -460,7 +522,8 @@ class Speaker:
         return login(self.name, bytes(16)) if kind == 2 else "login admin -", None
 
     def broken_line(self):
-        line, _ = getattr(self, self.draw.choice(["fitting", "fitting", "verify", "statement", "any_procap"]))()
+        kinds = ["fitting", "fitting", "verify", "statement", "any_procap"] + (["withdrawal"] if switches.withdrawals else [])
+        line, _ = getattr(self, self.draw.choice(kinds))()
         return broken(self.draw, line.encode()), None
 
     def junk_line(self):

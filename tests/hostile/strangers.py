@@ -2,8 +2,9 @@
 import itertools
 import time
 
+import switches
 from lines import LONGEST
-from said import forged, login, owner_verify, registration, root_verify, secrets_of
+from said import forged, login, owner_verify, registration, root_verify, secrets_of, withdrawal
 from serving import Running, Store, free_port
 from talking import Session, Unanswered, connected, moment, reset
 
@@ -61,6 +62,13 @@ def a_registration(scene):
     return session, registration(f"admin says gone({name}) from 0 to 1")
 
 
+def a_withdrawal(scene):
+    session, name = scene.logged_in()
+    text = f"admin says taken_back({name}) from 0 to 1"
+    number = session.ask(registration(text).encode()).split(b" ")[2].decode()
+    return session, withdrawal(number, text)
+
+
 def a_proof(scene):
     session, name = scene.logged_in()
     return session, root_verify(name, "write")
@@ -75,7 +83,7 @@ def an_operation(scene):
 def gone_at_each_byte(scene):
     """Says the first bytes of a line, each number of them, and leaves, breaks off or closes."""
     count = 0
-    for begin in (a_login, a_registration, a_proof, an_operation):
+    for begin in (a_login, a_registration, a_proof, an_operation, *([a_withdrawal] if switches.withdrawals else [])):
         for cut in itertools.count():
             session, line = begin(scene)
             if cut > len(line):

@@ -1,17 +1,25 @@
 #!/usr/bin/env python3
 """Makes histories with one changed byte, each with the report that an audit owes it, by the plain model of pcfs_model.py.
 
-    pcfs_audit_model.py changes COUNT SEED < SCRIPT    prints rows for crates/audit_rows: the history that the script makes under
-                                                      the secrets of `load`, and COUNT cases, each with one byte of it changed
+    pcfs_audit_model.py changes COUNT SEED [SECRETS] < SCRIPT
+                                                      prints rows for crates/audit_rows: the history that the script makes under
+                                                      the secrets of `load`, or under these, and COUNT cases, each with one byte
+                                                      of it changed
+    pcfs_audit_model.py moved SEED [SECRETS] < SCRIPT
+                                                      prints such rows for one case: some events of the history moved, repeated or
+                                                      left out
 
+The script may have withdrawals, unless WITHDRAWALS=0 (switches.py).
 A change counts if the event is still one that a journal could hold. Where it is found wrong the report ends there; where not,
 the events after it are replayed over the changed world.
 """
 import copy
 import random
 import sys
+from pathlib import Path
 
 import pcfs_model
+import switches
 from pcfs_model import Bad, Bytes, FIELDS, LAST, LOAD_SECRETS, OPERATIONS, Proof, Reply, Server, Undecided
 from pcfs_model import data, grant_bytes, grant_of, is_stated, is_text, most, name, need, node, nodes_of, offset, principal, read_line, read_procap, term_bytes, value
 from pcfs_client import short, tag_of
@@ -68,6 +76,15 @@ def cited_bytes(numbers):
     return bytes([len(numbers)]) + b"".join(one.to_bytes(4, "big") for one in numbers)
 
 
+def signature_bytes(signature):
+    return len(signature).to_bytes(4, "big") + signature
+
+
+def withdrawal_bytes(number, signature):
+    """The payload of a withdrawal."""
+    return b"\x04" + number.to_bytes(4, "big") + signature_bytes(signature)
+
+
 class Recorder(Server):
     """The model, which keeps the bytes of its events."""
 
@@ -80,7 +97,14 @@ class Recorder(Server):
         if reply.startswith("ok"):
             said = self.statements[-1]
             tag = tag_of(self.keys[said.who], b"S" + said.bytes)
-            self.events.append(b"\x01" + said.bytes + len(tag).to_bytes(4, "big") + tag)
+            self.events.append(b"\x01" + said.bytes + signature_bytes(tag))
+        return reply
+
+    def withdraw(self, number, given):
+        reply = super().withdraw(number, given)
+        if reply == "ok":
+            said = self.statements[number - 1]
+            self.events.append(withdrawal_bytes(number, tag_of(self.keys[said.who], b"W" + said.bytes)))
         return reply
 
     def verify(self, who, file, perm, numbers, text):
@@ -122,6 +146,9 @@ def read_event(payload):
         grant, _ = read_procap(payload[reading.at :] + bytes(32))
         reading.at = len(payload)
         event = ("issued", numbers, proof, proof_data, grant)
+    elif kind == 4:
+        need(switches.withdrawals)
+        event = ("withdrawn", reading.number(4), reading.take(reading.number(4)))
     else:
         need(kind == 3)
         caller = reading.name()
@@ -164,7 +191,7 @@ class Auditor(Server):
     def __init__(self, secrets):
         super().__init__(secrets)
         self.rows, self.number = [], 0
-        self.said, self.granted_before = set(), set()
+        self.said = set()
 
     def find(self, event):
         """What is found with the event; if it is nothing wrong, its change is made."""
@@ -178,10 +205,18 @@ class Auditor(Server):
         self.said.add(statement.bytes)
         return None
 
+    def find_withdrawn(self, number, signature):
+        statement = self.live(number)
+        key = self.keys.get(statement.who) if statement else None
+        if key is None or signature != tag_of(key, b"W" + statement.bytes):
+            return "unsigned"
+        self.withdrawn.add(number)
+        return None
+
     def find_issued(self, numbers, proof, proof_data, grant):
-        if not 1 <= len(numbers) <= 64 or numbers[0] < 1 or numbers[-1] > len(self.statements) or any(a >= b for a, b in zip(numbers, numbers[1:])):
+        if not 1 <= len(numbers) <= 64 or any(a >= b for a, b in zip(numbers, numbers[1:])) or None in map(self.live, numbers):
             return "unproved"
-        cited = [self.statements[one - 1] for one in numbers]
+        cited = [self.live(one) for one in numbers]
         case = (tuple(one.bytes for one in cited), proof_data, grant.who, grant.file, grant.perm)
         if case not in self.verdicts:
             try:
@@ -190,8 +225,7 @@ class Auditor(Server):
                 self.verdicts[case] = None
         if self.verdicts[case] != grant_bytes(grant):
             return "unproved"
-        self.issues.append(grant)
-        self.granted_before.add(grant_bytes(grant))
+        self.keep_issue(grant, numbers)
         return None
 
     def find_acted(self, caller, operation, words, procaps, moment):
@@ -210,7 +244,7 @@ class Auditor(Server):
         except Reply:
             pass
         self.moment = moment
-        return None if all(grant_bytes(grant) in self.granted_before for grant, _ in procaps) else "unissued"
+        return None if all(grant_bytes(grant) in self.bearers for grant, _ in procaps) else "unissued"
 
     def go_on(self, event):
         """Whether nothing is wrong with one more event."""
@@ -239,19 +273,19 @@ def changed_at(payload, draw):
     return None
 
 
-def changes(script, count, seed):
-    recorder = Recorder(LOAD_SECRETS)
+def changes(script, count, seed, secrets):
+    recorder = Recorder(secrets)
     for line in script:
         recorder.answer(line)
     payloads = recorder.events
     events = [read_event(payload) for payload in payloads]
     draw = random.Random(seed)
     print(f"# A history of {len(events)} events, with one byte changed in each case.\n")
-    print("seal 02\nkey admin 01")
+    print(secrets.rstrip("\n"))
     for payload in payloads:
         print(f"event {payload.hex()}")
     at = sorted(draw.randrange(len(events)) for _ in range(count))
-    auditor = Auditor(LOAD_SECRETS)
+    auditor = Auditor(secrets)
     for place, event in enumerate(events):
         for number in range(at.count(place)):
             case = changed_at(payloads[place], draw)
@@ -270,11 +304,45 @@ def changes(script, count, seed):
     print("\n= as it is\n" + "< " + first_line(events, auditor.rows))
 
 
+def moved_events(payloads, draw):
+    """The payloads with some moved, repeated or left out, more often those of which there are few of a kind."""
+    payloads = list(payloads)
+    for _ in range(draw.randint(1, 3)):
+        kind = draw.choice([payload[0] for payload in payloads] + list({payload[0] for payload in payloads}) * len(payloads))
+        place = draw.choice([place for place, payload in enumerate(payloads) if payload[0] == kind])
+        what, other = draw.choice(["moved", "moved", "repeated", "left out"]), draw.randrange(len(payloads))
+        payload = payloads[place] if what == "repeated" else payloads.pop(place)
+        if what != "left out":
+            payloads.insert(other, payload)
+    return payloads
+
+
+def moved(script, seed, secrets):
+    recorder = Recorder(secrets)
+    for line in script:
+        recorder.answer(line)
+    payloads = moved_events(recorder.events, random.Random(seed))
+    events, auditor = [read_event(payload) for payload in payloads], Auditor(secrets)
+    print(f"# A history of {len(events)} events, some moved, repeated or left out.\n")
+    print(secrets.rstrip("\n"))
+    for payload in payloads:
+        print(f"event {payload.hex()}")
+    for event in events:
+        if not auditor.go_on(event):
+            break
+    print("\n= as it is")
+    print("\n".join("< " + row for row in [first_line(events, auditor.rows), *auditor.rows]))
+
+
 def main():
     sys.setrecursionlimit(20_000)
-    match sys.argv[1:]:
-        case ["changes", count, seed]:
-            changes(sys.stdin.read().splitlines(), int(count), int(seed))
+    match switches.taken(sys.argv[1:]):
+        case ["changes", count, seed, *path] if len(path) <= 1:
+            secrets = Path(path[0]).read_text(encoding="ascii") if path else LOAD_SECRETS
+            changes(sys.stdin.read().splitlines(), int(count), int(seed), secrets)
+        case ["moved", seed, *path] if len(path) <= 1:
+            secrets = Path(path[0]).read_text(encoding="ascii") if path else LOAD_SECRETS
+            moved(sys.stdin.read().splitlines(), int(seed), secrets)
         case _:
             sys.exit(__doc__)
 

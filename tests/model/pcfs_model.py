@@ -1,12 +1,15 @@
 #!/usr/bin/env python3
 """Answers a script by a slow and plain model of PCFS, which shares nothing with the server but docs/PROTOCOL.md, docs/GENERATED.md
-and docs/LOGIC.md, and with the client in examples/ the texts and bytes of statements.
+and docs/LOGIC.md, and with client/ the texts and bytes of statements.
 
     pcfs_model.py script SECRETS < SCRIPT       prints the reply to each line
     pcfs_model.py rows FILE..                   compares the replies that files of rows want (crates/pcfs_rows) with its own
-    pcfs_model.py random SEED COUNT             prints a script with COUNT random lines, most of them operations
+    pcfs_model.py random SEED COUNT [SECRETS]   prints a script with COUNT random lines, most of them operations; what is signed in
+                                                them is signed by the keys of SECRETS
     pcfs_model.py generated ROUNDS SEED         prints the script that `load ROUNDS SEED` runs
     pcfs_model.py load ROUNDS SEED              prints the line that `load ROUNDS SEED` writes
+
+There are withdrawals, unless WITHDRAWALS=0 in the environment says that the program is one from before them (switches.py).
 
 It reads right texts alone: a line whose statement or proof has a fault, one of its limits included, is answered `?`.
 """
@@ -21,8 +24,9 @@ import hash_trees
 import modes_model
 import root_model
 
-sys.path.append(str(Path(__file__).resolve().parents[2] / "examples"))
+sys.path.append(str(Path(__file__).resolve().parents[2] / "client"))
 
+import switches
 from pcfs_client import PERMISSIONS, STATE, Text, short, tag_of
 
 INF = float("inf")
@@ -543,9 +547,13 @@ def issue(word):
 
 
 def cited(word):
-    numbers = [number(one, 2**32) for one in word.split(",")]
+    numbers = [statement_number(one) for one in word.split(",")]
     need(len(numbers) <= 64 and all(a < b for a, b in zip(numbers, numbers[1:])))
     return numbers
+
+
+def statement_number(word):
+    return number(word, 2**32)
 
 
 def signature(word):
@@ -574,6 +582,12 @@ OPERATIONS = {
 }
 GOAL = [principal, node, permission, cited]
 FORMS = {"at": [second], "as": [principal], "register": [signature], "procap": [issue], "checkpoint": [], "verify": GOAL, "check": GOAL}
+WITHDRAWAL = [statement_number, signature]
+
+
+def kinds_of(form):
+    """The kinds of the words of a form; none if there is no such form."""
+    return WITHDRAWAL if form == "withdraw" and switches.withdrawals else FORMS.get(form)
 
 
 def fault(text):
@@ -585,7 +599,7 @@ def read_line(line):
     """The form of a line, what its words write, and its text; for `do` the operation is its form. First its form is known,
     then the number of its words is right, then each word is of its kind; a fault of the text comes after these."""
     form, behind = first_word(line)
-    kinds = FORMS.get(form)
+    kinds = kinds_of(form)
     if form == "do":
         need(behind, fault("bad 2"))
         form, behind = first_word(behind[1:])
@@ -658,6 +672,8 @@ class Server:
         self.roots = {words[1]: (int(words[2]), bytes.fromhex(words[3])) for words in lines[1:] if words[0] == "root"}
         self.clock, self.moment, self.caller, self.count = 0, FIRST, "admin", 0
         self.statements, self.issues = [], []
+        self.withdrawn = set()  # the numbers of statements that their issuers took back
+        self.bearers = {}  # by the bytes of a grant, the numbers that each issue of it cites, in the order of the issues
         self.nodes, self.next, self.together = {1: Node("directory", "admin", 0, "")}, 2, 0
 
     def answer(self, line):
@@ -696,23 +712,57 @@ class Server:
         self.count += 1
         return f"ok statement {len(self.statements)}"
 
-    def granted(self, who, file, perm, numbers, text):
-        proof = ProofText(text).whole()
-        for one in numbers:
-            if not 1 <= one <= len(self.statements):
-                raise Reply(f"absent {one}")
-        return grant_of([self.statements[one - 1] for one in numbers], who, file, perm, proof)
+    def live(self, number):
+        """The statement of that number, if it is there and was not withdrawn."""
+        is_live = 1 <= number <= len(self.statements) and number not in self.withdrawn
+        return self.statements[number - 1] if is_live else None
 
-    def check(self, *words):
-        grant = self.granted(*words)
+    def withdraw(self, number, given):
+        statement = self.live(number)
+        if statement is None:
+            return f"absent {number}"
+        if not self.accepts(statement.who, b"W" + statement.bytes, given):
+            return "rejected 1"
+        self.withdrawn.add(number)
+        self.count += 1
+        return "ok"
+
+    def cite(self, numbers):
+        """The statements of these numbers, which are all live."""
+        for one in numbers:
+            if self.live(one) is None:
+                raise Reply(f"absent {one}")
+        return [self.live(one) for one in numbers]
+
+    def check(self, who, file, perm, numbers, text):
+        proof = ProofText(text).whole()
+        grant = grant_of(self.cite(numbers), who, file, perm, proof)
         conditions = "; ".join(map(condition_text, grant.times + grant.states))
         return f"ok checked time {len(grant.times)} state {len(grant.states)} {conditions}".rstrip(" ")
 
-    def verify(self, *words):
-        grant = self.granted(*words)
-        self.issues.append(grant)
+    def verify(self, who, file, perm, numbers, text):
+        proof = ProofText(text).whole()
+        statements = self.cite(numbers)
+        return self.issue(numbers, statements, grant_of(statements, who, file, perm, proof))
+
+    def issue(self, numbers, statements, grant):
+        """Issues the grant of a proof from these statements, which had these numbers before the proof was looked at, and must still."""
+        for number, statement in zip(numbers, statements):
+            if self.live(number) != statement:
+                raise Reply(f"absent {number}")
+        self.keep_issue(grant, numbers)
         self.count += 1
         return f"ok issue {len(self.issues)} time {len(grant.times)} state {len(grant.states)}"
+
+    def keep_issue(self, grant, numbers):
+        self.issues.append(grant)
+        self.bearers.setdefault(grant_bytes(grant), []).append(numbers)
+
+    def gone(self, grant):
+        """The number for which the grant is gone: it was issued, and each issue of it cites a withdrawn statement; then it is the first
+        of these that the last issue cites. None if it is not gone."""
+        found = [[one for one in numbers if one in self.withdrawn] for numbers in self.bearers.get(grant_bytes(grant), ())]
+        return found[-1][0] if found and all(found) else None
 
     def issued(self, number):
         if not 1 <= number <= len(self.issues):
@@ -774,7 +824,8 @@ class Server:
         for place, condition in enumerate(grant.states):
             if not self.is_fact(*condition[1:]):
                 return f"state {place + 1} {condition_text(condition)}"
-        return None
+        number = self.gone(grant)
+        return None if number is None else f"withdrawn {number}"
 
     def is_fact(self, name, file, *terms):
         found = self.nodes.get(file[1]) if file[0] == "file" else None
@@ -1021,12 +1072,17 @@ NAMES = ["a", "b", "c", "d.e", "F-1", "..", "x" * 64, "y" * 65, "q/r"]
 ATTRIBUTES = ["pcfs.class", "pcfs.ti", "color", "b.c", "A", "pcfs.X", "z" * 64, "z" * 65]
 
 
+DRAWN_SECRETS = "seal 00\nkey admin 01\n"
+
+
 class Drawn:
     """Draws lines, and has the model answer them, so that most name nodes that are there."""
 
-    def __init__(self, seed):
+    KINDS = ["operation"] * 12 + ["as", "at", "broken", "checkpoint"]
+
+    def __init__(self, seed, secrets=DRAWN_SECRETS):
         self.draw = random.Random(seed)
-        self.server = Server("seal 00\nkey admin 01")
+        self.server = Server(secrets)
         self.issues = {}
 
     def tell(self, line):
@@ -1069,6 +1125,9 @@ class Drawn:
             principal: lambda: draw.choice(["alice", "bob", "carol"]),
         }[kind]()
 
+    def issue_for(self, who, file, perm):
+        return self.issues.get((who, file, perm), 1)
+
     def operation(self):
         draw, server = self.draw, self.server
         operation = draw.choice([*OPERATIONS, "create", "create", "mkdir", "rename", "setattr"])
@@ -1078,7 +1137,7 @@ class Drawn:
         read = [kind(word) for kind, word in zip(OPERATIONS[operation][0], words)]
         needs = server.needs(operation, *read)
         needs += [(0, self.node(), "identity")] * (OPERATIONS[operation][1] - len(needs))
-        procaps = [self.issues.get((server.caller, file, perm), 1) for _, file, perm in needs]
+        procaps = [self.issue_for(server.caller, file, perm) for _, file, perm in needs]
         if draw.random() < 0.05:
             procaps[draw.randrange(len(procaps))] = draw.randint(0, len(self.issues) + 1)
         return " ".join(["do", operation, *words, *(f"@{one}" for one in procaps)])
@@ -1102,18 +1161,212 @@ class Drawn:
             yield self.tell(line)
         yield self.tell("as alice")
         for _ in range(count):
-            kind = self.draw.choice(["operation"] * 12 + ["as", "at", "broken", "checkpoint"])
-            if kind == "as":
-                yield self.tell(f"as {self.draw.choice(['alice', 'bob'])}")
-            elif kind == "broken":
-                yield self.tell(self.broken(self.draw.choice([self.operation(), "as alice", "at 150", "checkpoint"])))
-            elif kind == "checkpoint":
-                yield self.tell("checkpoint")
-            elif kind == "at":
-                seldom = [0, 100, 150, 290, 301, "1970-01-01T00:01:40Z", "1970-01-01", "1970-02-30"]
-                yield self.tell(f"at {self.draw.choice(seldom if self.draw.random() < 0.2 else [100, 150, 200])}")
-            else:
-                yield self.tell(self.operation())
+            yield self.tell(getattr(self, "line_" + self.draw.choice(self.KINDS))())
+
+    def line_as(self):
+        return f"as {self.draw.choice(['alice', 'bob'])}"
+
+    def line_broken(self):
+        return self.broken(self.draw.choice([self.operation(), "as alice", "at 150", "checkpoint"]))
+
+    def line_checkpoint(self):
+        return "checkpoint"
+
+    def line_at(self):
+        seldom = [0, 100, 150, 290, 301, "1970-01-01T00:01:40Z", "1970-01-01", "1970-02-30"]
+        return f"at {self.draw.choice(seldom if self.draw.random() < 0.2 else [100, 150, 200])}"
+
+    def line_operation(self):
+        return self.operation()
+
+
+RIGHT_TEXT = re.compile(r"\w+ says (.* => )?may\(([a-z]+),(#\d+),(\w+)\)( & \w+)? from .*")
+RULE_TEXT = re.compile(r"\w+ says forall K:principal\. hr says employee\(K\) => may\(K,(#\d+),(\w+)\) from .*")
+EMPLOYEE_TEXT = re.compile(r"\w+ says employee\((\w+)\) from .*")
+TO_ALL = ("alice", "bob")
+
+# A statement that gives a right: its number, and how a proof from it goes on.
+Source = namedtuple("Source", "number shape")
+
+
+class DrawnWithdrawals(Drawn):
+    """Draws withdrawals too, right ones and wrong ones of each kind, and what makes them matter: grants that several statements give,
+    issues that cite others besides, statements that come in the place of withdrawn ones, and procaps that were never issued."""
+
+    KINDS = Drawn.KINDS + ["withdrawal"] * 2 + ["wrong_withdrawal", "statement", "statement", "issue", "issue", "issue", "check", "again", "procap", "held"]
+
+    def __init__(self, seed, secrets=DRAWN_SECRETS):
+        super().__init__(seed, secrets)
+        self.signers = [who for who in ("admin", "loc") if who in self.server.keys]
+        self.sources, self.employees, self.issued, self.texts = {}, {}, {}, []
+
+    def tell(self, line):
+        """Takes note of what the line comes to."""
+        reply, words = self.server.answer(line), line.split(" ")
+        if reply.startswith("ok issue "):
+            self.issued.setdefault(tuple(words[1:4]), []).append(int(reply.split(" ")[2]))
+        elif reply.startswith("ok statement "):
+            self.learn(line.split(" ", 2)[2], int(reply.split(" ")[2]))
+        return line
+
+    def learn(self, text, number):
+        self.texts.append(text)
+        right, rule, employee = (form.fullmatch(text) for form in (RIGHT_TEXT, RULE_TEXT, EMPLOYEE_TEXT))
+        if right:
+            shape = "fact" if right[1] else "half" if right[5] else "whole"
+            self.sources.setdefault(right.groups()[1:4], []).append(Source(number, shape))
+        elif rule:
+            for who in TO_ALL:
+                self.sources.setdefault((who, *rule.groups()), []).append(Source(number, "rule"))
+        elif employee:
+            self.employees.setdefault(employee[1], []).append(number)
+
+    def policies(self):
+        yield from super().policies()
+        yield from (f"register - {self.rule()}" for _ in range(20))
+        yield from (f"register - {self.employee(who)}" for who in TO_ALL for _ in range(2))
+
+    # -- statements
+
+    def end(self):
+        return self.draw.choice(["+inf", "+inf", "+inf", "300"])
+
+    def any_right(self):
+        """A right that matters: of somebody, in a node that is there."""
+        return self.draw.choice(TO_ALL), f"#{self.node(self.draw.choice(list(OPERATIONS)))}", self.draw.choice(PERMISSIONS)
+
+    def rule(self):
+        _, file, perm = self.any_right()
+        return f"{self.draw.choice(self.signers)} says forall K:principal. hr says employee(K) => may(K,{file},{perm}) from 0 to {self.end()}"
+
+    def employee(self, who):
+        begin = self.draw.choice([0, 0, 0, self.draw.randint(1, 100)])
+        return f"{self.draw.choice(['hr', *self.signers[1:]])} says employee({who}) from {begin} to {self.end()}"
+
+    def right(self):
+        """One that gives a right which others may give too, mostly under the same conditions."""
+        who, file, perm = self.any_right()
+        more = f" & again{len(self.texts)}" if self.draw.random() < 0.7 else ""
+        return f"{self.draw.choice(self.signers)} says may({who},{file},{perm}){more} from 0 to {self.end()}"
+
+    def line_statement(self):
+        draw = self.draw
+        kind = draw.random()
+        return f"register - {self.right() if kind < 0.7 else self.rule() if kind < 0.9 else self.employee(draw.choice(TO_ALL))}"
+
+    def line_again(self):
+        """One that is there, whether it was withdrawn or not."""
+        withdrawn = sorted(self.server.withdrawn)
+        number = self.draw.choice(withdrawn) if withdrawn and self.draw.random() < 0.6 else self.draw.randint(1, len(self.texts))
+        return f"register {self.draw.choice(['-', '-', '00'])} {self.texts[number - 1]}"
+
+    # -- issues
+
+    def one_of(self, numbers):
+        """One of the statements of these numbers, mostly one that is live."""
+        live = [one for one in numbers if self.server.live(one)]
+        return self.draw.choice(live if live and self.draw.random() < 0.9 else numbers)
+
+    def proof(self):
+        """The words of `verify` for a right that some statement gives, and maybe others are cited besides."""
+        draw = self.draw
+        who, file, perm = self.any_right() if draw.random() < 0.5 else draw.choice(list(self.sources))
+        sources = {source.number: source.shape for source in self.sources.get((who, file, perm), [Source(1, "whole")])}
+        number = self.one_of(list(sources))
+        needed = [number]
+        if sources[number] == "rule":
+            needed.append(self.one_of(self.employees.get(who, [1])))
+        others = [draw.randint(1, len(self.texts)) for _ in range(draw.choice([0, 0, 0, 0, 1, 1, 2, 3]))]
+        cited = sorted({*needed, *(one for one in others if draw.random() < 0.2 or self.server.live(one))})
+        text = self.proof_text(sources[number], who, len(cited), *map(cited.index, needed))
+        return f"{who} {file} {perm} {','.join(map(str, cited))} {text if draw.random() < 0.93 else draw.choice(['trueR', 'saysR(trueR)'])}"
+
+    def proof_text(self, shape, who, count, place, other=0):
+        """A proof from the statement at that place among so many, of which a rule needs one other."""
+        employed = f"saysR(claim({other},init({count + 2})))"
+        goes_on = {
+            "whole": f"init({count})",
+            "half": f"andL({count},init({count + 1}))",
+            "fact": f"impL({count},ctime,ctime,interR,init({count + 1}))",
+            "rule": f"forallL({count},{who},impL({count + 1},ctime,ctime,{employed},init({count + 2})))",
+        }
+        return f"saysR(claim({place},{goes_on[shape]}))"
+
+    def line_issue(self):
+        return f"verify {self.proof()}"
+
+    def line_check(self):
+        return f"check {self.proof()}"
+
+    def line_procap(self):
+        return f"procap {self.draw.randint(1, len(self.server.issues) + 2)}"
+
+    # -- procaps
+
+    def issue_for(self, who, file, perm):
+        """An issue of that right, mostly the last, or one whose grant is not gone."""
+        numbers, kind = self.issued.get((who, f"#{file}", perm), [1]), self.draw.random()
+        living = [one for one in numbers if self.server.gone(self.server.issues[one - 1]) is None]
+        return self.draw.choice(living) if kind < 0.5 and living else numbers[-1] if kind < 0.8 else self.draw.choice(numbers)
+
+    def line_held(self):
+        """An operation under the bytes of procaps, of which some were sealed and never issued."""
+        words = []
+        for word in self.operation().split(" "):
+            number = int(word[1:]) if word[0] == "@" else 0
+            if 1 <= number <= len(self.server.issues):
+                grant, _ = self.server.issued(number)
+                if self.draw.random() < 0.3:
+                    grant = grant._replace(times=[*grant.times, ("cons", CTIME, ("time", 250 + self.draw.randrange(3)))])
+                word = (grant_bytes(grant) + tag_of(self.server.seal, grant_bytes(grant))).hex()
+            words.append(word)
+        return " ".join(words)
+
+    # -- withdrawals
+
+    def signed(self, number, kind=b"W", who=None):
+        """The signature of a withdrawal of that statement by its issuer, or another signature over it; in hexadecimal."""
+        statement = self.server.statements[number - 1]
+        return tag_of(self.server.keys.get(who or statement.who, b""), kind + statement.bytes).hex()
+
+    def line_withdrawal(self):
+        """A right one, mostly of a statement on which issues rest."""
+        live = [one for one in range(1, len(self.texts) + 1) if self.server.live(one)]
+        cited = {one for lists in self.server.bearers.values() for numbers in lists for one in numbers}
+        resting = [one for one in live if one in cited]
+        number = self.draw.choice(resting if resting and self.draw.random() < 0.8 else live or [1])
+        return f"withdraw {number} {self.draw.choice(['-', self.signed(number)])}"
+
+    def line_wrong_withdrawal(self):
+        """One that is not accepted, of each kind in turn by chance."""
+        draw, count = self.draw, len(self.texts)
+        number, other = draw.randint(1, count), draw.randint(1, count)
+        before = draw.choice(sorted(self.server.withdrawn) or [count + 1])
+        right = self.signed(number)
+        somebody = draw.choice([who for who in [*self.server.keys, "nobody"] if who != self.server.statements[number - 1].who])
+        numbers = [0, count + 1, count + draw.randint(2, 99), 2**32 - 1, 2**32, 2**64, "01", f"#{number}", f"@{number}", "-1", ""]
+        line = draw.choice([
+            lambda: f"withdraw {draw.choice(numbers)} {draw.choice(['-', '00', right])}",
+            lambda: f"withdraw {before} -",
+            lambda: f"withdraw {before} {self.signed(before) if before <= count else '00'}",
+            lambda: f"withdraw {number} {self.signed(number, who=somebody)}",
+            lambda: f"withdraw {number} {self.signed(number, b'S')}",
+            lambda: f"withdraw {number} {self.signed(number, b'L')}",
+            lambda: f"withdraw {number} {self.signed(other) if other != number else '00'}",
+            lambda: f"withdraw {number} {right[:-1]}{'0' if right[-1] == '1' else '1'}",
+            lambda: f"withdraw {number} {draw.choice([right[:-2], right + '00', right[:-1], right.upper(), '00', 'ff' * 32])}",
+            lambda: f"withdraw {number} {draw.choice(['00' * 32768, '00' * 32769]) if draw.random() < 0.05 else '00' * 33}",
+            lambda: draw.choice(["withdraw", "withdraw ", f"withdraw {number}", f"withdraw {number} ", f"withdraw {number} {right} -", f"withdraw - {number}"]),
+        ])
+        return line()
+
+    def line_broken(self):
+        return super().line_broken() if self.draw.random() < 0.6 else self.broken(self.line_withdrawal())
+
+
+def drawn(seed, secrets=DRAWN_SECRETS):
+    """Draws the lines that the program knows."""
+    return (DrawnWithdrawals if switches.withdrawals else Drawn)(seed, secrets)
 
 
 # ---- generated scripts ---------------------------------------------------------------------------------------------
@@ -1167,7 +1420,7 @@ def load(rounds, seed):
 
 def main():
     sys.setrecursionlimit(20_000)  # formulas and proofs may be deep
-    match sys.argv[1:]:
+    match switches.taken(sys.argv[1:]):
         case ["script", path]:
             with open(path, encoding="ascii") as file:
                 server = Server(file.read())
@@ -1177,8 +1430,9 @@ def main():
         case ["rows", *paths]:
             agree = [compare_rows(path) for path in paths]
             sys.exit(0 if all(agree) else 1)
-        case ["random", seed, count]:
-            for line in Drawn(int(seed)).lines(int(count)):
+        case ["random", seed, count, *path] if len(path) <= 1:
+            secrets = Path(path[0]).read_text(encoding="ascii") if path else DRAWN_SECRETS
+            for line in drawn(int(seed), secrets).lines(int(count)):
                 print(line)
         case ["generated", rounds, seed]:
             for line in generated(int(rounds), int(seed)):

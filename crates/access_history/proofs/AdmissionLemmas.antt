@@ -1,6 +1,6 @@
 -- What a procap that passes all tests gives, and that there is one first test that it does not pass.
-use Rattle.std.proofs.Common.{◌≡◌, ◌∙◌, ◌+◌, ℕ, List, [], ◌∷◌, ap, sym, subst}
-use Rattle.std.specs.Prelude.{ℤ, Contains}
+use Rattle.std.proofs.Common.{◌≡◌, ◌∙◌, ◌+◌, ℕ, List, [], ◌∷◌, Option, Some, None, ap, sym, subst, refl}
+use Rattle.std.specs.Prelude.{ℤ, Contains, find}
 use Rattle.std.specs.List.{AllByRecursion}
 use Rattle.bl_syntax.specs.declared.terms.Constraint.{Constraint}
 use Rattle.bl_syntax.specs.declared.terms.StatePred.{StatePred}
@@ -12,22 +12,27 @@ use Rattle.bl_syntax.specs.Grant.{GrantView, HoldsAt, Holds}
 use Rattle.bl_rules.specs.Allowed.{Allows, SoundGrant}
 use Rattle.bl_rules.proofs.SoundGrantLemmas.{SoundGrant-more}
 use Rattle.procap.specs.declared.procap.Procap.{Procap}
+use Rattle.policy_statement.specs.Withdrawal.{is_withdrawn}
+use Rattle.issue_standings.specs.Bearing.{BearingView}
+use Rattle.issue_standings.proofs.StandingLemmas.{IsLive, live_issue}
 use Rattle.proof_verifier.specs.Cited.{statements_of}
 use Rattle.file_world.specs.declared.operation.Op.{Op}
 use Rattle.file_world.specs.Facts.{facts}
 use Rattle.file_world.specs.Needs.{Need, needs}
 use Rattle.access_history.specs.declared.reply.DenialCause.{DenialCause}
 use Rattle.access_history.specs.declared.reply.DenialCause.TheVariants as causes
+use Rattle.access_history.specs.declared.event.Issue.{Issue}
 use Rattle.access_history.specs.Base.{BaseView}
+use Rattle.access_history.specs.Gone.{bearing, bearings, gone}
 use Rattle.access_history.specs.Numbered.{IsNumbered}
 use Rattle.access_history.specs.Authority.{sayings}
 use Rattle.access_history.specs.Books.{book_of, statements_in}
 use Rattle.access_history.specs.Citing.{IsGoodIssue}
-use Rattle.access_history.specs.Admission.{wanted_goal, causes_from, denial_causes, Passes, Admits, Denies, IsNeedMet, IsAdmitted, IsDenied}
-use Rattle.access_history.specs.Lawful.{IsDerived, AreDerived}
-use Rattle.access_history.proofs.ListLemmas.{AllByRecursion-parts, AllByRecursion-weaker, AllByRecursion-contains}
+use Rattle.access_history.specs.Admission.{wanted_goal, causes_from, condition_causes, withdrawal_causes, denial_causes, Passes, Admits, Denies, IsNeedMet, IsAdmitted, IsDenied}
+use Rattle.access_history.specs.Lawful.{IsDerived, AreDerived, WasIssued}
+use Rattle.access_history.proofs.ListLemmas.{AllByRecursion-parts, AllByRecursion-weaker, AllByRecursion-contains, Contains-image, IsImage, IsImage-from_map}
 use Rattle.access_history.proofs.NumberedLemmas.{numbered_item, none_fails, first_failing}
-use Rattle.access_history.proofs.CitingLemmas.{Includes-cited, SoundGrant-granted}
+use Rattle.access_history.proofs.CitingLemmas.{Includes-cited, SoundGrant-granted, stand_if_none}
 
 module _ (key : List ℕ) (state : BaseView) (moment : ℤ) (goal : Goal) (p : Procap) where
   times_hold : (place : ℕ) (times : List Constraint) → AllByRecursion (Passes key state moment goal p) (causes_from causes.Time place times) → AllByRecursion (HoldsAt moment) times
@@ -38,15 +43,27 @@ module _ (key : List ℕ) (state : BaseView) (moment : ℤ) (goal : Goal) (p : P
   states_hold place [] all = tt
   states_hold place (s ∷ states) all = (all.0, states_hold (place + 1) states all.1)
 
+  -- the tests of the conditions, and of what was withdrawn
+  last_tests : Admits key state moment goal p → AllByRecursion (Passes key state moment goal p) (condition_causes p.grant) × AllByRecursion (Passes key state moment goal p) (withdrawal_causes (gone state p.grant))
+  last_tests admits = AllByRecursion-parts (Passes key state moment goal p) (condition_causes p.grant) (withdrawal_causes (gone state p.grant)) admits.1.1.1.1
+
   -- the conditions of the grant hold
   pub Holds-admits : Admits key state moment goal p → Holds p.grant moment (facts state.world)
   Holds-admits admits =
-      let parts = AllByRecursion-parts (Passes key state moment goal p) (causes_from causes.Time 1 p.grant.times) (causes_from causes.State 1 p.grant.states) admits.1.1.1.1 in
+      let parts = AllByRecursion-parts (Passes key state moment goal p) (causes_from causes.Time 1 p.grant.times) (causes_from causes.State 1 p.grant.states) (last_tests admits).0 in
       record { times = times_hold 1 p.grant.times parts.0; states = states_hold 1 p.grant.states parts.1 }
+
+  not_gone_by : (found : Option ℕ) → gone state p.grant ≡ found → AllByRecursion (Passes key state moment goal p) (withdrawal_causes found) → gone state p.grant ≡ None
+  not_gone_by None is all = is
+  not_gone_by (Some number) is all = all.0
+
+  -- and it is not gone
+  pub not_gone-admits : Admits key state moment goal p → gone state p.grant ≡ None
+  not_gone-admits admits = not_gone_by (gone state p.grant) refl (last_tests admits).1
 
   -- there is one first test that the procap does not pass
   one_cause : (cause other : DenialCause) → Denies key state moment goal p cause → Denies key state moment goal p other → cause ≡ other
-  one_cause cause other first second = (first_failing (Passes key state moment goal p) (denial_causes p.grant) first.place second.place cause other first.first second.first).1
+  one_cause cause other first second = (first_failing (Passes key state moment goal p) (denial_causes state p.grant) first.place second.place cause other first.first second.first).1
 
 module _ (key : List ℕ) (state : BaseView) (caller : List ℕ) (procaps : List Procap) (moment : ℤ) where
   -- what is admitted is not denied
@@ -71,16 +88,39 @@ Allows-named statements state moment goal g sound who file perm holds =
     (subst (λ (permission : Permission). Allows statements (facts state.world) moment g.goal.who g.goal.file permission) perm
     (sound.allows moment (facts state.world) holds)))
 
+-- an issue with the grant, of whose statements none was withdrawn
+record IsLiveIssue (state : BaseView) (g : GrantView) : Type 0 where
+  pub issue : Issue
+  pub among : Contains state.issues issue
+  pub grant_is : issue.grant ≡ g
+  pub none_withdrawn : find (is_withdrawn state.statements) issue.cited ≡ None
+
+live_by : (state : BaseView) (g : GrantView) (live : IsLive (is_withdrawn state.statements) g (bearings state.issues)) → IsImage bearing state.issues live.bearing → IsLiveIssue state g
+live_by state g live image = record {
+  issue = image.item;
+  among = image.contained;
+  grant_is = ap (λ (b : BearingView). b.grant) image.same ∙ live.grant_is;
+  none_withdrawn = ap (λ (b : BearingView). find (is_withdrawn state.statements) b.cited) image.same ∙ live.none_withdrawn;
+}
+
+-- a grant that was issued and is not gone has one
+live_of : (state : BaseView) (g : GrantView) → WasIssued state.issues g → gone state g ≡ None → IsLiveIssue state g
+live_of state g was not_gone =
+    let live = live_issue (is_withdrawn state.statements) g (bearings state.issues) (bearing was.issue) (Contains-image bearing state.issues was.issue was.among) was.grant_is not_gone in
+    live_by state g live (IsImage-from_map bearing state.issues live.bearing live.among)
+
 IsDerived-met : (key : List ℕ) (state : BaseView) (caller : List ℕ) (procaps : List Procap) (moment : ℤ) → AllByRecursion (IsGoodIssue (sayings state.statements)) state.issues → (need : Need) → IsNeedMet key state caller procaps moment need → IsDerived state caller procaps moment need
 IsDerived-met key state caller procaps moment good need met p brought was =
     let registered = sayings state.statements in
     let statements = statements_in (book_of state) in
     let same : met.procap ≡ p = numbered_item procaps need.place met.procap p met.brought brought in
     let admits : Admits key state moment (wanted_goal caller need) p = subst (Admits key state moment (wanted_goal caller need)) same met.admits in
-    let issue : IsGoodIssue registered was.issue = AllByRecursion-contains (IsGoodIssue registered) state.issues was.issue good was.among in
-    let sound : SoundGrant statements was.issue.grant =
-    SoundGrant-more (statements_of issue.cites) statements was.issue.grant (Includes-cited (book_of state) issue.cites issue.stand) (SoundGrant-granted issue.cites was.issue.proof was.issue.grant issue.granted) in
-    Allows-named statements state moment (wanted_goal caller need) p.grant (subst (SoundGrant statements) was.grant_is sound) admits.1.0 admits.1.1.0 admits.1.1.1.0 (Holds-admits key state moment (wanted_goal caller need) p admits)
+    let live : IsLiveIssue state p.grant = live_of state p.grant was (not_gone-admits key state moment (wanted_goal caller need) p admits) in
+    let issue : IsGoodIssue registered live.issue = AllByRecursion-contains (IsGoodIssue registered) state.issues live.issue good live.among in
+    let stand = stand_if_none state.statements issue.cites issue.stand (subst (λ (ns : List ℕ). find (is_withdrawn state.statements) ns ≡ None) issue.cited live.none_withdrawn) in
+    let sound : SoundGrant statements live.issue.grant =
+    SoundGrant-more (statements_of issue.cites) statements live.issue.grant (Includes-cited (book_of state) issue.cites stand) (SoundGrant-granted issue.cites live.issue.proof live.issue.grant issue.granted) in
+    Allows-named statements state moment (wanted_goal caller need) p.grant (subst (SoundGrant statements) live.grant_is sound) admits.1.0 admits.1.1.0 admits.1.1.1.0 (Holds-admits key state moment (wanted_goal caller need) p admits)
 
 -- what an admitted operation needs is derivable, if the grants were issued
 pub AreDerived-admitted : (key : List ℕ) (state : BaseView) (caller : List ℕ) (op : Op) (procaps : List Procap) (moment : ℤ) → AllByRecursion (IsGoodIssue (sayings state.statements)) state.issues → IsAdmitted key state caller op procaps moment →

@@ -1,5 +1,5 @@
 -- An answer is determined by the request and the state.
-use Rattle.std.proofs.Common.{◌≡◌, ◌∙◌, ◌≤◌, ◌+◌, ℕ, Option, Some, None, List, length, refl, sym, ap, arith}
+use Rattle.std.proofs.Common.{◌≡◌, ◌∙◌, ◌≤◌, ◌+◌, ℕ, Option, Some, None, List, length, refl, sym, ap, subst, arith}
 use Rattle.std.specs.Prelude.{ℤ, Contains}
 use Rattle.std.specs.List.{AllByRecursion}
 use Rattle.std.proofs.lemmas.Option.{none-some, same_Some}
@@ -23,15 +23,15 @@ use Rattle.access_history.specs.declared.reply.StepReply.{StepReply}
 use Rattle.access_history.specs.declared.reply.StepReply.TheVariants as replies
 use Rattle.access_history.specs.Base.{BaseView}
 use Rattle.access_history.specs.Numbered.{IsNumbered}
-use Rattle.access_history.specs.Authority.{Authority, IsSignedStatement, MayBeRegistered, sayings, procap_of}
+use Rattle.access_history.specs.Authority.{Authority, IsSignedStatement, IsSignedWithdrawal, MayBeRegistered, sayings, procap_of}
 use Rattle.access_history.specs.Books.{book_of}
-use Rattle.access_history.specs.Citing.{StandsUnderNumber, IsMoved, issued_grant, numbers_of}
+use Rattle.access_history.specs.Citing.{StandsUnderNumber, IsHeld, IsMoved, MayBeWithdrawn, issued_grant, numbers_of}
 use Rattle.access_history.specs.Replay.{replay}
 use Rattle.access_history.specs.Admission.{IsAdmitted, IsDenied}
-use Rattle.access_history.specs.Answer.{moment_of, IsShown, Answers, unsigned, duplicate, registry_full, registered, moved, issued, denied, refused, acted, not_shown, shown}
+use Rattle.access_history.specs.Answer.{moment_of, IsShown, Answers, unsigned, duplicate, registry_full, registered, not_live, unsigned_withdrawal, withdrawn, moved, issued, denied, refused, acted, not_shown, shown}
 use Rattle.access_history.specs.Lawful.{IsLawful}
 use Rattle.access_history.proofs.AdmissionLemmas.{admitted_or_denied, one_denial}
-use Rattle.access_history.proofs.CitingLemmas.{said_length}
+use Rattle.access_history.proofs.CitingLemmas.{one_held, said_length}
 use Rattle.access_history.proofs.LawfulLemmas.{IsLawfulBase-lawful}
 use Rattle.access_history.proofs.NumberedLemmas.{Contains-numbered, numbered_item, distinct_number, none_fails, first_failing}
 
@@ -67,6 +67,27 @@ module _ (authority : Authority) (state : BaseView) (pass : ℕ) (clock : ℤ) w
   only_registered statement signature may _ _ (duplicate _ _ other signed numbered) = absurd (may.can.new (Contains-numbered (sayings state.statements) other statement numbered))
   only_registered statement signature may _ _ (registry_full _ _ signed new full) = absurd (omega (arith, full, may.can.room, said_length state.statements))
   only_registered statement signature may _ _ (registered _ _ may') = (refl, refl)
+
+  only_not_live : (number : ℕ) (signature : List ℕ) → (IsHeld (book_of state) number → ⊥) → IsOnly (requests.Withdraw number signature) (replies.Absent number) None
+  only_not_live number signature none _ _ (not_live _ _ none') = (refl, refl)
+  only_not_live number signature none _ _ (unsigned_withdrawal _ _ statement live not_signed) = absurd (none (statement, live))
+  only_not_live number signature none _ _ (withdrawn _ _ may) = absurd (none (may.statement, may.live))
+
+  -- the statement that stands under the number is the one
+  same_live : (number : ℕ) (signature : List ℕ) (statement other : StatementView) → IsNumbered (book_of state) number (Some statement) → IsNumbered (book_of state) number (Some other) → IsSignedWithdrawal authority other signature → IsSignedWithdrawal authority statement signature
+  same_live number signature statement other live live' signed =
+      subst (λ (s : StatementView). IsSignedWithdrawal authority s signature) (one_held (book_of state) number other statement live' live) signed
+
+  only_unsigned_withdrawal : (number : ℕ) (signature : List ℕ) (statement : StatementView) → IsNumbered (book_of state) number (Some statement) → (IsSignedWithdrawal authority statement signature → ⊥)
+      → IsOnly (requests.Withdraw number signature) (replies.Rejected BadSignature) None
+  only_unsigned_withdrawal number signature statement live not_signed _ _ (not_live _ _ none) = absurd (none (statement, live))
+  only_unsigned_withdrawal number signature statement live not_signed _ _ (unsigned_withdrawal _ _ statement' live' not_signed') = (refl, refl)
+  only_unsigned_withdrawal number signature statement live not_signed _ _ (withdrawn _ _ may) = absurd (not_signed (same_live number signature statement may.statement live may.live may.signed))
+
+  only_withdrawn : (number : ℕ) (signature : List ℕ) → MayBeWithdrawn authority (book_of state) number signature → IsOnly (requests.Withdraw number signature) replies.Withdrawn (Some (events.Withdrawn pass number signature))
+  only_withdrawn number signature may _ _ (not_live _ _ none) = absurd (none (may.statement, may.live))
+  only_withdrawn number signature may _ _ (unsigned_withdrawal _ _ statement live not_signed) = absurd (not_signed (same_live number signature statement may.statement live may.live may.signed))
+  only_withdrawn number signature may _ _ (withdrawn _ _ may') = (refl, refl)
 
   only_moved : (checked : CheckedView) (number : ℕ) → IsMoved (book_of state) checked.cited number → IsOnly (requests.Issue checked) (replies.Absent number) None
   only_moved checked number first _ _ (moved _ number' first') =
@@ -121,6 +142,9 @@ module _ (authority : Authority) (state : BaseView) (pass : ℕ) (clock : ℤ) w
   only _ _ _ distinct (duplicate statement signature number signed numbered) = only_duplicate statement signature number distinct signed numbered
   only _ _ _ distinct (registry_full statement signature signed new full) = only_full statement signature signed new full
   only _ _ _ distinct (registered statement signature may) = only_registered statement signature may
+  only _ _ _ distinct (not_live number signature none) = only_not_live number signature none
+  only _ _ _ distinct (unsigned_withdrawal number signature statement live not_signed) = only_unsigned_withdrawal number signature statement live not_signed
+  only _ _ _ distinct (withdrawn number signature may) = only_withdrawn number signature may
   only _ _ _ distinct (moved checked number first) = only_moved checked number first
   only _ _ _ distinct (issued checked rising granted stand) = only_issued checked stand
   only _ _ _ distinct (denied caller op procaps place cause denial) = only_denied caller op procaps place cause denial

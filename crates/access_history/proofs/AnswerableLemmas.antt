@@ -1,7 +1,8 @@
 -- Each well-formed request has an answer, since each of the tests on which the answer rests holds or does not.
-use Rattle.std.proofs.Common.{◌≡◌, ◌≤◌, ◌<◌, ◌⊎◌, ℕ, inl, inr, List, length, Option, Some, None, refl, subst, arith}
+use Rattle.std.proofs.Common.{◌≡◌, ◌≤◌, ◌<◌, ◌⊎◌, ℕ, inl, inr, List, length, Option, Some, None, refl, sym, subst, arith}
 use Rattle.std.specs.Prelude.{ℤ, Contains}
 use Rattle.std.specs.List.{AllByRecursion}
+use Rattle.std.proofs.lemmas.Option.{none-some}
 use Rattle.bl_syntax.specs.declared.terms.StatePred.{StatePred}
 use Rattle.bl_syntax.specs.declared.grant.Goal.{Goal}
 use Rattle.bl_syntax.specs.Equality.{node_eq, perm_eq, state_eq}
@@ -24,17 +25,18 @@ use Rattle.file_world.specs.World.{World, tree_of}
 use Rattle.access_history.specs.declared.event.Issue.{Issue}
 use Rattle.access_history.specs.declared.event.Event.{Event}
 use Rattle.access_history.specs.declared.request.StepRequest.{StepRequest}
-use Rattle.access_history.specs.declared.request.StepRequest.TheVariants.{Register, Issue as IssueOf, Act, ShowProcap}
+use Rattle.access_history.specs.declared.request.StepRequest.TheVariants.{Register, Withdraw, Issue as IssueOf, Act, ShowProcap}
 use Rattle.access_history.specs.declared.reply.DenialCause.{DenialCause}
 use Rattle.access_history.specs.declared.reply.DenialCause.TheVariants as causes
 use Rattle.access_history.specs.declared.reply.StepReply.{StepReply}
 use Rattle.access_history.specs.Base.{BaseView}
+use Rattle.access_history.specs.Gone.{gone}
 use Rattle.access_history.specs.Numbered.{IsNumbered}
-use Rattle.access_history.specs.Authority.{Authority, IsSignedStatement, sayings}
+use Rattle.access_history.specs.Authority.{Authority, IsSignedStatement, IsSignedWithdrawal, sayings}
 use Rattle.access_history.specs.Books.{book_of}
 use Rattle.access_history.specs.Citing.{StandsUnderNumber, IsHeld}
 use Rattle.access_history.specs.Admission.{wanted_goal, denial_causes, Passes, Admits, IsNeedMet, IsAdmitted}
-use Rattle.access_history.specs.Answer.{moment_of, MaySee, Answers, unsigned, duplicate, registry_full, registered, moved, issued, denied, refused, acted, not_shown, shown}
+use Rattle.access_history.specs.Answer.{moment_of, MaySee, Answers, unsigned, duplicate, registry_full, registered, not_live, unsigned_withdrawal, withdrawn, moved, issued, denied, refused, acted, not_shown, shown}
 use Rattle.access_history.specs.WellFormed.{IsWellFormed}
 use Rattle.access_history.proofs.CitingLemmas.{held_or_not, one_held, said_length}
 use Rattle.access_history.proofs.ListLemmas.{AllByRecursion-contains}
@@ -46,6 +48,10 @@ same_state a b = or_not (state_eq a b) (Decides-state_eq a b)
 
 -- ---- procaps and needs
 
+none_or : (found : Option ℕ) → OrNot (found ≡ None)
+none_or None = inl refl
+none_or (Some number) = inr (λ none. none-some number (sym none))
+
 passes_or : (key : List ℕ) (state : BaseView) (moment : ℤ) (goal : Goal) (p : Procap) (cause : DenialCause) → OrNot (Passes key state moment goal p cause)
 passes_or key state moment goal p causes.Seal = same_bytes p.tag (seal_of key p.grant)
 passes_or key state moment goal p causes.Principal = same_bytes p.grant.goal.who goal.who
@@ -53,17 +59,18 @@ passes_or key state moment goal p causes.File = or_not (node_eq p.grant.goal.fil
 passes_or key state moment goal p causes.Permission = or_not (perm_eq p.grant.goal.perm goal.perm) (Decides-perm_eq p.grant.goal.perm goal.perm)
 passes_or key state moment goal p (causes.Time place c) = holds_or moment c
 passes_or key state moment goal p (causes.State place s) = contains_or same_state (facts state.world) s
+passes_or key state moment goal p (causes.Withdrawn number) = none_or (gone state p.grant)
 
 module _ (key : List ℕ) (state : BaseView) (caller : List ℕ) (procaps : List Procap) (moment : ℤ) where
-  admits_or_fails : (goal : Goal) (p : Procap) → Admits key state moment goal p ⊎ HasFailing (Passes key state moment goal p) (denial_causes p.grant)
-  admits_or_fails goal p = all_or_failing (Passes key state moment goal p) (passes_or key state moment goal p) (denial_causes p.grant)
+  admits_or_fails : (goal : Goal) (p : Procap) → Admits key state moment goal p ⊎ HasFailing (Passes key state moment goal p) (denial_causes state p.grant)
+  admits_or_fails goal p = all_or_failing (Passes key state moment goal p) (passes_or key state moment goal p) (denial_causes state p.grant)
 
-  met_by : (need : Need) (found : HasItem procaps need.place) → Admits key state moment (wanted_goal caller need) found.item ⊎ HasFailing (Passes key state moment (wanted_goal caller need) found.item) (denial_causes found.item.grant)
+  met_by : (need : Need) (found : HasItem procaps need.place) → Admits key state moment (wanted_goal caller need) found.item ⊎ HasFailing (Passes key state moment (wanted_goal caller need) found.item) (denial_causes state found.item.grant)
       → OrNot (IsNeedMet key state caller procaps moment need)
   met_by need found (inl admits) = inl (record { procap = found.item; brought = found.numbered; admits = admits })
   met_by need found (inr lacking) =
       inr (λ met. let same : met.procap ≡ found.item = numbered_item procaps need.place met.procap found.item met.brought found.numbered in
-      none_fails (Passes key state moment (wanted_goal caller need) found.item) (denial_causes found.item.grant) lacking.place lacking.item (subst (Admits key state moment (wanted_goal caller need)) same met.admits) lacking.first)
+      none_fails (Passes key state moment (wanted_goal caller need) found.item) (denial_causes state found.item.grant) lacking.place lacking.item (subst (Admits key state moment (wanted_goal caller need)) same met.admits) lacking.first)
 
   met_at : (need : Need) → HasItem procaps need.place ⊎ ((p : Procap) → IsNumbered procaps need.place p → ⊥) → OrNot (IsNeedMet key state caller procaps moment need)
   met_at need (inl found) = met_by need found (admits_or_fails (wanted_goal caller need) found.item)
@@ -120,6 +127,14 @@ module _ (authority : Authority) (state : BaseView) (pass : ℕ) (clock : ℤ) w
   register_answer statement signature formed (inl signed) = signed_answer statement signature formed signed (contains_or (same_coded statement_code) (sayings state.statements) statement)
   register_answer statement signature formed (inr not_signed) = record { reply = _; event = _; answers = unsigned statement signature not_signed }
 
+  withdraw_signed : (number : ℕ) (signature : List ℕ) (statement : StatementView) → IsNumbered (book_of state) number (Some statement) → OrNot (IsSignedWithdrawal authority statement signature) → HasAnswer authority state pass clock (Withdraw number signature)
+  withdraw_signed number signature statement live (inl signed) = record { reply = _; event = _; answers = withdrawn number signature (record { statement = statement; live = live; signed = signed }) }
+  withdraw_signed number signature statement live (inr not_signed) = record { reply = _; event = _; answers = unsigned_withdrawal number signature statement live not_signed }
+
+  withdraw_answer : (number : ℕ) (signature : List ℕ) → OrNot (IsHeld (book_of state) number) → HasAnswer authority state pass clock (Withdraw number signature)
+  withdraw_answer number signature (inl held) = withdraw_signed number signature held.0 held.1 (true_or_not _)
+  withdraw_answer number signature (inr none) = record { reply = _; event = _; answers = not_live number signature none }
+
   same_as : (cite : Cite) (held : IsHeld (book_of state) cite.number) → OrNot (held.0 ≡ cite.statement) → OrNot (StandsUnderNumber (book_of state) cite)
   same_as cite held (inl same) = inl (subst (λ (s : StatementView). IsNumbered (book_of state) cite.number (Some s)) same held.1)
   same_as cite held (inr other) = inr (λ stands. other (one_held (book_of state) cite.number held.0 cite.statement held.1 stands))
@@ -144,7 +159,7 @@ module _ (authority : Authority) (state : BaseView) (pass : ℕ) (clock : ℤ) w
 
   module _ (caller : List ℕ) (op : Op) (procaps : List Procap) (lacking : HasFailing (IsNeedMet authority.key state caller procaps (moment_of state clock)) (needs state.world op)) where
     denied_answer : (found : HasItem procaps lacking.item.place) → Admits authority.key state (moment_of state clock) (wanted_goal caller lacking.item) found.item
-        ⊎ HasFailing (Passes authority.key state (moment_of state clock) (wanted_goal caller lacking.item) found.item) (denial_causes found.item.grant) → HasAnswer authority state pass clock (Act caller op procaps)
+        ⊎ HasFailing (Passes authority.key state (moment_of state clock) (wanted_goal caller lacking.item) found.item) (denial_causes state found.item.grant) → HasAnswer authority state pass clock (Act caller op procaps)
     denied_answer found (inl admits) = absurd (lacking.first.fails (record { procap = found.item; brought = found.numbered; admits = admits }))
     denied_answer found (inr failing) =
         record {
@@ -182,6 +197,7 @@ module _ (authority : Authority) (state : BaseView) (pass : ℕ) (clock : ℤ) w
 
   some_answer : (request : StepRequest) → IsWellFormed request → HasAnswer authority state pass clock request
   some_answer (Register statement signature) formed = register_answer statement signature formed (true_or_not _)
+  some_answer (Withdraw number signature) formed = withdraw_answer number signature (held_or_not (book_of state) number)
   some_answer (IssueOf checked) formed = issue_answer checked formed (all_or_failing (StandsUnderNumber (book_of state)) stands_or checked.cited)
   some_answer (Act caller op procaps) formed =
       act_answer caller op procaps formed

@@ -7,11 +7,13 @@ use Rattle.std.proofs.lemmas.Int.{to_z-of_z}
 use Rattle.bl_syntax.specs.TimeOrder.{IsMoment}
 use Rattle.policy_statement.specs.Registered.{RegisteredView}
 use Rattle.file_world.specs.World.{World}
+use Rattle.issue_standings.specs.Index.{IsIndexOf}
 use Rattle.access_history.specs.declared.event.Event.{Event}
 use Rattle.access_history.specs.declared.event.Issue.{Issue}
 use Rattle.access_history.specs.declared.history.History.TheInside.{Inside}
 use Rattle.access_history.specs.Authority.{Authority}
 use Rattle.access_history.specs.Base.{BaseView}
+use Rattle.access_history.specs.Gone.{bearings}
 use Rattle.access_history.specs.History.{authority_of}
 use Rattle.access_history.specs.HistoryParts.{kept_by, shown_state, IsKeeping}
 use Rattle.access_history.specs.Lawful.{IsLawful, IsLawfulBase, no_event}
@@ -23,10 +25,11 @@ pub IsLawful-begun : (authority : Authority) (base : BaseView) → IsLawfulBase 
 IsLawful-begun authority base lawful = record { lawful_base = lawful; counted = omega (arith, lawful.counted); each = no_event }
 
 -- fields that show a lawful state with which they begin
-pub IsKeeping-begun : (h : Inside) → IsLawfulBase (authority_of (kept_by h)) h.base → h.events.items ≡ [] → shown_state h ≡ h.base → IsKeeping h
-IsKeeping-begun h lawful none shown = record {
+pub IsKeeping-begun : (h : Inside) → IsLawfulBase (authority_of (kept_by h)) h.base → h.events.items ≡ [] → shown_state h ≡ h.base → IsIndexOf h.key h.statements.entries (bearings h.issues.items) h.standings → IsKeeping h
+IsKeeping-begun h lawful none shown standings = record {
   lawful = subst (λ (es : List Event). IsLawful (authority_of (kept_by h)) h.base es) (sym none) (IsLawful-begun (authority_of (kept_by h)) h.base lawful);
   state_is = shown ∙ ap (λ (es : List Event). replay h.base es) (sym none);
+  standings = standings;
 }
 
 -- a state of which each part is that of another

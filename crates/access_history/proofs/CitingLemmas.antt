@@ -1,8 +1,8 @@
--- Statements by their numbers: what a number holds, what numbers come to, and that an issue stays good if statements are added.
-use Rattle.std.proofs.Common.{◌≡◌, ◌∙◌, ◌⊎◌, inl, inr, ℕ, zero, suc, List, [], ◌∷◌, ◌++◌, length, Option, Some, None, Result, Ok, Err, refl, sym, ap, subst, ⊎_elim, arith}
-use Rattle.std.specs.Prelude.{Contains}
+-- Statements by their numbers: what a number holds, which statements stand, what numbers come to, and that an issue stays good if statements are added.
+use Rattle.std.proofs.Common.{◌≡◌, ◌∙◌, ◌⊎◌, ◌+◌, inl, inr, ℕ, zero, suc, List, [], ◌∷◌, ◌++◌, length, Bool, true, false, if◌then◌else◌, Option, Some, None, IsSome, Result, Ok, Err, refl, sym, ap, subst, ⊎_elim, arith}
+use Rattle.std.specs.Prelude.{Contains, find, option_and_then}
 use Rattle.std.specs.List.{AllByRecursion, slice_get}
-use Rattle.std.specs.Option.{option_map}
+use Rattle.std.specs.Option.{option_map, option_map_or}
 use Rattle.std.proofs.lemmas.List.{length-map, map-append}
 use Rattle.std.proofs.lemmas.List.Elements.{Contains-append_right}
 use Rattle.std.proofs.lemmas.Option.{none-some, same_Some, slice_get-map}
@@ -14,6 +14,7 @@ use Rattle.bl_syntax.proofs.GrantLemmas.{Contains-head}
 use Rattle.bl_rules.specs.Allowed.{SoundGrant}
 use Rattle.bl_rules.specs.Richer.{Includes}
 use Rattle.policy_statement.specs.Registered.{RegisteredView}
+use Rattle.policy_statement.specs.Withdrawal.{ended, entry_of_number, is_withdrawn, live_of_number, live_statement, marked}
 use Rattle.proof_term.specs.Proof.{ProofView}
 use Rattle.proof_verifier.specs.declared.cites.Cite.{Cite}
 use Rattle.proof_verifier.specs.Cited.{AreCited, DoCitesRise, statements_of}
@@ -25,7 +26,7 @@ use Rattle.proof_verifier.specs.declared.fault.CheckFault.TheVariants as checks
 use Rattle.access_history.specs.declared.event.Issue.{Issue}
 use Rattle.access_history.specs.Authority.{sayings}
 use Rattle.access_history.specs.Base.{BaseView}
-use Rattle.access_history.specs.Books.{Book, whole_book, statements_in, book_of}
+use Rattle.access_history.specs.Books.{Book, whole_book, live_book, statements_in, book_of}
 use Rattle.access_history.specs.Citing.{numbers_of, StandsUnderNumber, IsHeld, AreFound, IsAbsent, IsGrantOf, as_proved, issued_grant, IsGrantedFrom, IsGoodIssue, MayBeIssued}
 use Rattle.access_history.specs.Numbered.{IsNumbered, HasNumber}
 use Rattle.access_history.proofs.EitherLemmas.{OrNot, HasFailing, all_or_failing, HasItem, item_or_none}
@@ -117,13 +118,165 @@ pub statements_in-whole : (statements : List StatementView) → statements_in (w
 statements_in-whole [] = refl
 statements_in-whole (s ∷ statements) = ap (λ (ss : List StatementView). s ∷ ss) (statements_in-whole statements)
 
+-- ---- statements that stand
+
+-- what a book holds of an entry that was withdrawn or not
+abbrev held_if : Bool → StatementView → Option StatementView
+held_if out s = if out then None else Some s
+
+standing_more : (P : StatementView → Type 0) (out : Bool) (s : StatementView) (book : Book) → P s → AllByRecursion P (statements_in book) → AllByRecursion P (statements_in (held_if out s ∷ book))
+standing_more P true s book here all = all
+standing_more P false s book here all = (here, all)
+
+all_live : (P : StatementView → Type 0) (entries : List RegisteredView) → AllByRecursion P (sayings entries) → AllByRecursion P (statements_in (live_book entries))
+all_live P [] all = tt
+all_live P (entry ∷ entries) all = standing_more P entry.withdrawn entry.statement (live_book entries) all.0 (all_live P entries all.1)
+
 -- what holds of each registered statement holds of those that stand
 pub all_standing : (P : StatementView → Type 0) (state : BaseView) → AllByRecursion P (sayings state.statements) → AllByRecursion P (statements_in (book_of state))
-all_standing P state all = subst (AllByRecursion P) (sym (statements_in-whole (sayings state.statements))) all
+all_standing P state all = all_live P state.statements all
+
+-- the entry of a number, which was not withdrawn, with its statement
+pub record IsLiveEntry (entries : List RegisteredView) (number : ℕ) (s : StatementView) : Type 0 where
+  pub entry : RegisteredView
+  pub numbered : IsNumbered entries number entry
+  pub stands : entry.withdrawn ≡ false
+  pub said : entry.statement ≡ s
+
+held_if_some : (out : Bool) (t s : StatementView) → held_if out t ≡ Some s → (out ≡ false) × (t ≡ s)
+held_if_some true t s is = absurd cc
+held_if_some false t s is = (refl, same_Some t s is)
+
+live_entry_by : (entries : List RegisteredView) (place : ℕ) (s : StatementView) (found : Option RegisteredView) → slice_get entries place ≡ found → option_and_then live_statement found ≡ Some s → IsLiveEntry entries (place + 1) s
+live_entry_by entries place s None at is = absurd cc
+live_entry_by entries place s (Some entry) at is =
+    let live = held_if_some entry.withdrawn entry.statement s is in
+    record { entry = entry; numbered = record { place = place; from_one = refl; found = at }; stands = live.0; said = live.1 }
+
+held_twice_live : (found : Option RegisteredView) (s : StatementView) → option_map live_statement found ≡ Some (Some s) → option_and_then live_statement found ≡ Some s
+held_twice_live None s is = absurd cc
+held_twice_live (Some entry) s is = same_Some (live_statement entry) (Some s) is
+
+-- a statement that stands under a number is that of an entry that was not withdrawn
+pub live_entry : (entries : List RegisteredView) (number : ℕ) (s : StatementView) → IsNumbered (live_book entries) number (Some s) → IsLiveEntry entries number s
+live_entry entries number s numbered =
+    let at = held_twice_live (slice_get entries numbered.place) s (sym (slice_get-map live_statement entries numbered.place) ∙ numbered.found) in
+    subst (λ (n : ℕ). IsLiveEntry entries n s) (sym numbered.from_one) (live_entry_by entries numbered.place s (slice_get entries numbered.place) refl at)
+
+-- the statement of an entry that was not withdrawn stands under its number
+pub live_numbered : (entries : List RegisteredView) (number : ℕ) (entry : RegisteredView) → IsNumbered entries number entry → entry.withdrawn ≡ false → IsNumbered (live_book entries) number (Some entry.statement)
+live_numbered entries number entry numbered stands =
+    let is : live_statement entry ≡ Some entry.statement = ap (λ (out : Bool). held_if out entry.statement) stands in
+    record { place = numbered.place; from_one = numbered.from_one; found = slice_get-map live_statement entries numbered.place ∙ (ap (option_map live_statement) numbered.found ∙ ap (λ (o : Option StatementView). Some o) is) }
+
+-- a statement that stands was registered under that number
+pub live_said : (entries : List RegisteredView) (number : ℕ) (s : StatementView) → IsNumbered (live_book entries) number (Some s) → IsNumbered (sayings entries) number s
+live_said entries number s numbered =
+    let live = live_entry entries number s numbered in
+    subst (λ (t : StatementView). IsNumbered (sayings entries) number t) live.said (said_numbered entries number live.entry live.numbered)
+
+pub stand_live : (entries : List RegisteredView) (cites : List Cite) → AllByRecursion (StandsUnderNumber (live_book entries)) cites → AllByRecursion (StandsUnderNumber (whole_book (sayings entries))) cites
+stand_live entries [] stand = tt
+stand_live entries (cite ∷ cites) stand =
+    (IsNumbered-whole (sayings entries) cite.number cite.statement (live_said entries cite.number cite.statement stand.0), stand_live entries cites stand.1)
 
 -- each statement that stands in a state is one that was registered under that number
 pub stand_registered : (state : BaseView) (cites : List Cite) → AllByRecursion (StandsUnderNumber (book_of state)) cites → AllByRecursion (StandsUnderNumber (whole_book (sayings state.statements))) cites
-stand_registered state cites stand = stand
+stand_registered state cites stand = stand_live state.statements cites stand
+
+-- the numbers of the statements that stand are those of entries
+pub live_has : (entries : List RegisteredView) (number : ℕ) → IsHeld (live_book entries) number → HasNumber entries number
+live_has entries number held = said_has entries number (HasNumber-item (sayings entries) number held.0 (live_said entries number held.0 held.1))
+
+-- what the registry has under a number is what stands there
+pub live_from_registry : (entries : List RegisteredView) (number : ℕ) (s : StatementView) → live_of_number entries number ≡ Some s → IsNumbered (live_book entries) number (Some s)
+live_from_registry entries zero s found = absurd cc
+live_from_registry entries (suc place) s found =
+    let live = live_entry_by entries place s (slice_get entries place) refl found in
+    let number : place + 1 ≡ suc place = omega arith in
+    let held = live_numbered entries (place + 1) live.entry live.numbered live.stands in
+    subst (λ (n : ℕ). IsNumbered (live_book entries) n (Some s)) number (subst (λ (t : StatementView). IsNumbered (live_book entries) (place + 1) (Some t)) live.said held)
+
+entry_numbered : (entries : List RegisteredView) (number : ℕ) (entry : RegisteredView) → IsNumbered entries number entry → entry_of_number entries number ≡ Some entry
+entry_numbered entries number entry numbered =
+    let at : number ≡ suc numbered.place = omega (arith, numbered.from_one) in ap (entry_of_number entries) at ∙ numbered.found
+
+-- and what stands there is what the registry has
+pub live_in_registry : (entries : List RegisteredView) (number : ℕ) (s : StatementView) → IsNumbered (live_book entries) number (Some s) → live_of_number entries number ≡ Some s
+live_in_registry entries number s numbered =
+    let live = live_entry entries number s numbered in
+    ap (option_and_then live_statement) (entry_numbered entries number live.entry live.numbered)
+    ∙ (ap (λ (out : Bool). held_if out live.entry.statement) live.stands
+    ∙ ap (λ (t : StatementView). Some t) live.said)
+
+-- if the registry has nothing there, nothing stands there
+pub none_in_registry : (entries : List RegisteredView) (number : ℕ) → live_of_number entries number ≡ None → IsHeld (live_book entries) number → ⊥
+none_in_registry entries number none held = none-some held.0 (sym none ∙ live_in_registry entries number held.0 held.1)
+
+some_is : {A : Type 0} (found : Option A) (x : A) → found ≡ Some x → IsSome found
+some_is found x is = subst IsSome (sym is) refl
+
+-- what stands can be withdrawn
+pub some_in_registry : (entries : List RegisteredView) (number : ℕ) (s : StatementView) → IsNumbered (live_book entries) number (Some s) → IsSome (live_of_number entries number)
+some_in_registry entries number s numbered = some_is (live_of_number entries number) s (live_in_registry entries number s numbered)
+
+-- a statement with its entry
+record IsSaidBy (entries : List RegisteredView) (number : ℕ) (s : StatementView) : Type 0 where
+  pub entry : RegisteredView
+  pub numbered : IsNumbered entries number entry
+  pub said : entry.statement ≡ s
+
+said_by : (entries : List RegisteredView) (number place : ℕ) (s : StatementView) (found : Option RegisteredView) → number ≡ place + 1 → slice_get entries place ≡ found → option_map statement_of found ≡ Some s → IsSaidBy entries number s
+said_by entries number place s None from at is = absurd cc
+said_by entries number place s (Some entry) from at is = record { entry = entry; numbered = record { place = place; from_one = from; found = at }; said = same_Some entry.statement s is }
+
+said_entry : (entries : List RegisteredView) (number : ℕ) (s : StatementView) → IsNumbered (sayings entries) number s → IsSaidBy entries number s
+said_entry entries number s numbered =
+    said_by entries number numbered.place s (slice_get entries numbered.place) numbered.from_one refl (sym (slice_get-map statement_of entries numbered.place) ∙ numbered.found)
+
+-- a statement that was registered and not withdrawn stands
+pub stands_if : (entries : List RegisteredView) (number : ℕ) (s : StatementView) → IsNumbered (whole_book (sayings entries)) number (Some s) → is_withdrawn entries number ≡ false → IsNumbered (live_book entries) number (Some s)
+stands_if entries number s numbered stands =
+    let by = said_entry entries number s (IsNumbered-from_whole (sayings entries) number s numbered) in
+    let out : by.entry.withdrawn ≡ false =
+    sym (ap (λ (o : Option RegisteredView). option_map_or (λ (entry : RegisteredView). entry.withdrawn) o false) (entry_numbered entries number by.entry by.numbered)) ∙ stands in
+    subst (λ (t : StatementView). IsNumbered (live_book entries) number (Some t)) by.said (live_numbered entries number by.entry by.numbered out)
+
+found_none : (test : ℕ → Bool) (number : ℕ) (numbers : List ℕ) (here : Bool) → test number ≡ here → find test (number ∷ numbers) ≡ None → (test number ≡ false) × (find test numbers ≡ None)
+found_none test number numbers true is none =
+    absurd (none-some number (sym none ∙ ap (λ (b : Bool). if b then Some number else find test numbers) is))
+found_none test number numbers false is none = (is, sym (ap (λ (b : Bool). if b then Some number else find test numbers) is) ∙ none)
+
+-- statements that were registered, of which none was withdrawn, stand
+pub stand_if_none : (entries : List RegisteredView) (cites : List Cite) → AllByRecursion (StandsUnderNumber (whole_book (sayings entries))) cites → find (is_withdrawn entries) (numbers_of cites) ≡ None → AllByRecursion (StandsUnderNumber (live_book entries)) cites
+stand_if_none entries [] stand none = tt
+stand_if_none entries (cite ∷ cites) stand none =
+    let each = found_none (is_withdrawn entries) cite.number (numbers_of cites) (is_withdrawn entries cite.number) refl none in
+    (stands_if entries cite.number cite.statement stand.0 each.0, stand_if_none entries cites stand.1 each.1)
+
+-- statements that were registered and whose numbers hold statements that stand are those
+pub stand_if_held : (entries : List RegisteredView) (cites : List Cite) → AllByRecursion (StandsUnderNumber (whole_book (sayings entries))) cites → AllByRecursion (IsHeld (live_book entries)) (numbers_of cites) → AllByRecursion (StandsUnderNumber (live_book entries)) cites
+stand_if_held entries [] stand held = tt
+stand_if_held entries (cite ∷ cites) stand held =
+    let registered = IsNumbered-from_whole (sayings entries) cite.number cite.statement stand.0 in
+    let same : held.0.0 ≡ cite.statement = numbered_item (sayings entries) cite.number held.0.0 cite.statement (live_said entries cite.number held.0.0 held.0.1) registered in
+    (subst (λ (s : StatementView). IsNumbered (live_book entries) cite.number (Some s)) same held.0.1, stand_if_held entries cites stand.1 held.1)
+
+-- ---- one that is withdrawn
+
+-- each statement stays
+pub sayings-marked : (entries : List RegisteredView) (number : ℕ) → sayings (marked entries number) ≡ sayings entries
+sayings-marked [] number = refl
+sayings-marked (entry ∷ entries) zero = refl
+sayings-marked (entry ∷ entries) (suc zero) = refl
+sayings-marked (entry ∷ entries) (suc (suc number)) = ap (λ (ss : List StatementView). entry.statement ∷ ss) (sayings-marked entries (suc number))
+
+-- what holds of each entry, whether it was withdrawn or not, holds of each afterwards
+pub all_marked : (P : RegisteredView → Type 0) → ((entry : RegisteredView) → P entry → P (ended entry)) → (entries : List RegisteredView) (number : ℕ) → AllByRecursion P entries → AllByRecursion P (marked entries number)
+all_marked P stays [] number all = tt
+all_marked P stays (entry ∷ entries) zero all = all
+all_marked P stays (entry ∷ entries) (suc zero) all = (stays entry all.0, all.1)
+all_marked P stays (entry ∷ entries) (suc (suc number)) all = (all.0, all_marked P stays entries (suc number) all.1)
 
 -- ---- what numbers come to
 
@@ -223,10 +376,13 @@ Includes-cited book cites stand x among =
 
 -- ---- issues
 
--- one more statement with its signature is one more statement
-pub sayings-more : (entries : List RegisteredView) (statement : StatementView) (signature : List ℕ) → sayings (entries ++ record { statement = statement; signature = signature } ∷ []) ≡ sayings entries ++ statement ∷ []
-sayings-more [] statement signature = refl
-sayings-more (entry ∷ entries) statement signature = ap (λ (ss : List StatementView). entry.statement ∷ ss) (sayings-more entries statement signature)
+-- one more entry is one more statement
+pub sayings-push : (entries : List RegisteredView) (entry : RegisteredView) → sayings (entries ++ entry ∷ []) ≡ sayings entries ++ entry.statement ∷ []
+sayings-push [] entry = refl
+sayings-push (first ∷ entries) entry = ap (λ (ss : List StatementView). first.statement ∷ ss) (sayings-push entries entry)
+
+pub sayings-more : (entries : List RegisteredView) (statement : StatementView) (signature : List ℕ) → sayings (entries ++ record { statement = statement; signature = signature; withdrawn = false } ∷ []) ≡ sayings entries ++ statement ∷ []
+sayings-more entries statement signature = sayings-push entries (record { statement = statement; signature = signature; withdrawn = false })
 
 stands_more : (statements more : List StatementView) (cite : Cite) → StandsUnderNumber (whole_book statements) cite → StandsUnderNumber (whole_book (statements ++ more)) cite
 stands_more statements more cite stands =
@@ -291,6 +447,13 @@ pub refused_grants_none : (cites : List Cite) (proof : ProofView) (g : GrantView
 refused_grants_none cites proof g fault not_memory fails from =
     ⊎_elim (λ memory. not_memory memory) (λ is. let both : graded from.proved ≡ refusal_of fault = sym from.granted.verdict_is ∙ is in absurd cc) fails
 
--- an issue that is good may come next, since each number of a statement holds it
-pub MayBeIssued-good : (state : BaseView) (issue : Issue) → IsGoodIssue (sayings state.statements) issue → MayBeIssued state issue
-MayBeIssued-good state issue good = record { good = good; held = subst (AllByRecursion (IsHeld (book_of state))) (sym good.cited) (have_numbers (book_of state) good.cites good.stand) }
+-- an issue that is good may come next, if each number that it cites holds a statement
+pub MayBeIssued-good : (state : BaseView) (issue : Issue) → IsGoodIssue (sayings state.statements) issue → AllByRecursion (IsHeld (book_of state)) issue.cited → MayBeIssued state issue
+MayBeIssued-good state issue good held = record { good = good; held = held }
+
+-- the statements that an issue cites that may come next are found among those that stand
+pub MayBeIssued-found : (state : BaseView) (issue : Issue) (may : MayBeIssued state issue) → AreFound (book_of state) issue.cited may.good.cites
+MayBeIssued-found state issue may = record {
+  numbers_are = sym may.good.cited;
+  stand = stand_if_held state.statements may.good.cites may.good.stand (subst (AllByRecursion (IsHeld (book_of state))) may.good.cited may.held);
+}

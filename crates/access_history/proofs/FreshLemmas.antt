@@ -8,11 +8,14 @@ use Rattle.bl_syntax.specs.TimeOrder.{IsMoment}
 use Rattle.policy_statement.specs.Registered.{RegisteredView}
 use Rattle.file_world.specs.World.{World}
 use Rattle.file_world.proofs.HalvesLemmas.{IsWorld-fresh}
+use Rattle.issue_standings.specs.declared.standings.Standings.{Standings}
+use Rattle.issue_standings.specs.Index.{IsIndexOf}
 use Rattle.access_history.specs.declared.event.Issue.{Issue}
 use Rattle.access_history.specs.declared.event.Event.{Event}
 use Rattle.access_history.specs.declared.history.History.TheInside.{Inside}
 use Rattle.access_history.specs.Base.{BaseView}
 use Rattle.access_history.specs.Authority.{Authority}
+use Rattle.access_history.specs.Gone.{bearings}
 use Rattle.access_history.specs.History.{authority_of}
 use Rattle.access_history.specs.HistoryParts.{kept_by, shown_state, IsKeeping}
 use Rattle.access_history.specs.Lawful.{IsLawfulBase, IsLawful, no_event}
@@ -33,11 +36,12 @@ IsLawful-fresh authority = record {
   each = no_event;
 }
 
-pub IsKeeping-fresh : (h : Inside) → h.base ≡ fresh → h.events.items ≡ [] → shown_state h ≡ fresh → IsKeeping h
-IsKeeping-fresh h base_is events_is shown = record {
+pub IsKeeping-fresh : (h : Inside) → h.base ≡ fresh → h.events.items ≡ [] → shown_state h ≡ fresh → IsIndexOf h.key h.statements.entries (bearings h.issues.items) h.standings → IsKeeping h
+IsKeeping-fresh h base_is events_is shown standings = record {
   lawful = let authority = authority_of (kept_by h) in
       subst (λ (b : BaseView). IsLawful authority b h.events.items) (sym base_is) (subst (λ (es : List Event). IsLawful authority fresh es) (sym events_is) (IsLawful-fresh authority));
   state_is = shown ∙ ap (λ (es : List Event). replay fresh es) (sym events_is) ∙ ap (λ (b : BaseView). replay b h.events.items) (sym base_is);
+  standings = standings;
 }
 
 -- the fields show the state before the first event
@@ -52,3 +56,7 @@ shown_fresh world statements issues moment count world_is none none_too moment_i
 -- the first moment, as a word has it
 pub first_moment_kept : (moment : ℤ) → moment ≡ fresh.moment → to_z w64 (of_z w64 moment) ≡ fresh.moment
 first_moment_kept moment is = to_z-of_z w64 moment (SFits-moment moment (subst IsMoment (sym is) first_moment)) ∙ is
+
+-- the index of no issues is that of a history without issues
+pub index_of_nothing : (key : List ℕ) (entries : List RegisteredView) (issues : List Issue) (standings : Standings) → entries ≡ [] → issues ≡ [] → ((k : List ℕ) (es : List RegisteredView) → IsIndexOf k es [] standings) → IsIndexOf key entries (bearings issues) standings
+index_of_nothing key entries issues standings no_entries no_issues all = subst (λ (is : List Issue). IsIndexOf key entries (bearings is) standings) (sym no_issues) (all key entries)

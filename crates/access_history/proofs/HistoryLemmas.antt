@@ -1,13 +1,19 @@
 -- A history that keeps one more event.
-use Rattle.std.proofs.Common.{◌≡◌, ℕ, ◌+◌, ◌-◌, ◌^◌, ◌<◌, Bool, cond, List, [], ◌∷◌, ◌++◌, sym, ap, subst, ◌∙◌, arith}
-use Rattle.std.specs.Prelude.{Result, Ok, is_ok, ℤ}
+use Rattle.std.proofs.Common.{◌≡◌, ℕ, ◌+◌, ◌-◌, ◌^◌, ◌<◌, Bool, Bor, cond, List, [], ◌∷◌, ◌++◌, sym, ap, subst, ◌∙◌, arith}
+use Rattle.std.specs.Prelude.{Result, Ok, is_ok, ℤ, MatchOption, Option, Some, None}
 use Rattle.std.proofs.lemmas.List.{length-append}
 use Rattle.std.specs.Int.{w64}
+use Rattle.std.specs.Option.{option_copied}
 use Rattle.std.proofs.lemmas.Int.{ints}
 use mir.Val.{SFits}
 use Rattle.bl_syntax.specs.TimeOrder.{IsMoment}
 use Rattle.policy_statement.specs.Ring.{KeyView}
+use Rattle.bl_syntax.specs.Grant.{GrantView}
+use Rattle.bl_syntax.specs.Statement.{StatementView}
 use Rattle.policy_statement.specs.Registered.{RegisteredView}
+use Rattle.policy_statement.specs.Withdrawal.{is_withdrawn, live_of_number}
+use Rattle.procap.specs.Genuine.{IsGenuine}
+use Rattle.procap.specs.declared.procap.Procap.{Procap}
 use Rattle.file_world.specs.declared.operation.Op.{Op}
 use Rattle.file_world.specs.declared.refusal.OpFault.{OpFault}
 use Rattle.file_world.specs.declared.reply.OpReply.{OpReply}
@@ -16,16 +22,22 @@ use Rattle.world_state.specs.State.{WorldState, ReservesWorld}
 use Rattle.access_history.specs.declared.event.Addition.{Addition}
 use Rattle.access_history.specs.declared.event.Issue.{Issue}
 use Rattle.access_history.specs.declared.event.Event.{Event}
-use Rattle.access_history.specs.declared.event.Event.TheVariants.{Registered, Issued, Acted}
+use Rattle.access_history.specs.declared.event.Event.TheVariants.{Registered, Withdrawn, Issued, Acted}
+use Rattle.issue_standings.specs.Index.{IsIndexOf, Knows}
+use Rattle.issue_standings.specs.Standing.{gone_by, standing_of}
 use Rattle.access_history.specs.declared.history.History.TheInside.{Inside}
 use Rattle.access_history.specs.Base.{BaseView}
+use Rattle.access_history.specs.Books.{live_book}
+use Rattle.access_history.specs.Citing.{IsHeld}
+use Rattle.access_history.specs.Gone.{bearings, gone}
+use Rattle.access_history.specs.Numbered.{IsNumbered}
 use Rattle.access_history.specs.Authority.{Authority}
 use Rattle.access_history.specs.History.{HistoryView, authority_with, authority_of, state_of, world_of, IsReadyFor, IsReadyIn}
 use Rattle.access_history.specs.HistoryParts.{kept_by, shown_state, IsKeeping}
 use Rattle.access_history.specs.Keeping.{HasMomentInRange, HasPlaceAmong}
 use Rattle.access_history.specs.Lawful.{IsLawful, one_more, MayFollow}
 use Rattle.access_history.specs.Replay.{world_next, moment_next, statements_with, issues_with, addition_of, replay, next_state}
-use Rattle.access_history.proofs.CitingLemmas.{said_length}
+use Rattle.access_history.proofs.CitingLemmas.{live_from_registry, none_in_registry, said_length, some_in_registry}
 use Rattle.access_history.proofs.ReplayLemmas.{replay-more, count-replay}
 
 -- a push that did not fail
@@ -47,8 +59,8 @@ shown_next h after event world statements issues moment count =
 
 -- the fields show the state after one more event, and the events have one more at their end
 pub IsKeeping-more : (h after : Inside) (event : Event) → IsKeeping h → MayFollow (authority_of (kept_by h)) (state_of (kept_by h)) event → (state_of (kept_by h)).count < 2 ^ 48 - 1 →
-    after.key ≡ h.key → after.ring ≡ h.ring → after.base ≡ h.base → after.events.items ≡ h.events.items ++ event ∷ [] → shown_state after ≡ next_state (shown_state h) event → IsKeeping after
-IsKeeping-more h after event keeping follows counted same_key same_ring same_base more shown =
+    after.key ≡ h.key → after.ring ≡ h.ring → after.base ≡ h.base → after.events.items ≡ h.events.items ++ event ∷ [] → shown_state after ≡ next_state (shown_state h) event → IsIndexOf after.key after.statements.entries (bearings after.issues.items) after.standings → IsKeeping after
+IsKeeping-more h after event keeping follows counted same_key same_ring same_base more shown standings =
     let events = h.events.items ++ event ∷ [] in
     let lawful : IsLawful (authority_with h.key h.ring) h.base events = record {
       lawful_base = keeping.lawful.lawful_base;
@@ -62,6 +74,7 @@ IsKeeping-more h after event keeping follows counted same_key same_ring same_bas
           (subst (λ (b : BaseView). IsLawful (authority_with h.key h.ring) b after.events.items) (sym same_base)
           (subst (λ (es : List Event). IsLawful (authority_with h.key h.ring) h.base es) (sym more) lawful)));
       state_is = state ∙ ap (λ (es : List Event). replay h.base es) (sym more) ∙ ap (λ (b : BaseView). replay b after.events.items) (sym same_base);
+      standings = standings;
     }
 
 -- a moment fits a signed word
@@ -71,12 +84,14 @@ SFits-moment moment m = omega (arith, ints, m.not_before, m.not_after)
 -- an event that may come next has a moment of the range, if it has one
 pub HasMoment-follows : (authority : Authority) (state : BaseView) (event : Event) → MayFollow authority state event → HasMomentInRange event
 HasMoment-follows authority state (Registered pass statement signature) may = tt
+HasMoment-follows authority state (Withdrawn pass number signature) may = tt
 HasMoment-follows authority state (Issued pass cited proof grant) may = tt
 HasMoment-follows authority state (Acted pass caller op procaps moment) may = may.in_range
 
--- and there is a place for its statement, if it has one
+-- and there is a place for its statement, if it has one, or its statement stands
 pub HasPlace-follows : (authority : Authority) (state : BaseView) (event : Event) → MayFollow authority state event → HasPlaceAmong state.statements (addition_of event)
 HasPlace-follows authority state (Registered pass statement signature) may = omega (arith, may.can.room, said_length state.statements)
+HasPlace-follows authority state (Withdrawn pass number signature) may = some_in_registry state.statements number may.statement may.live
 HasPlace-follows authority state (Issued pass cited proof grant) may = tt
 HasPlace-follows authority state (Acted pass caller op procaps moment) may = tt
 
@@ -91,6 +106,7 @@ pub IsKeeping-world : (h : Inside) (w : WorldState) → w.world ≡ h.world.worl
 IsKeeping-world h w same keeping = record {
   lawful = keeping.lawful;
   state_is = ap (λ (v : World). state_with v h.statements.entries h.issues.items h.moment h.count) same ∙ keeping.state_is;
+  standings = keeping.standings;
 }
 
 -- what the world returned is what the state's world returns
@@ -118,8 +134,35 @@ pub IsKeeping-kept : (h after : Inside) (k : HistoryView) (event given : Event) 
     → after.key ≡ h.key → after.ring ≡ h.ring → after.base ≡ h.base
     → after.world.world ≡ world_next h.world.world event → after.moment ≡ moment_next h.moment event
     → after.statements.entries ≡ statements_with h.statements.entries addition → after.issues.items ≡ issues_with h.issues.items addition
-    → after.events.items ≡ h.events.items ++ given ∷ [] → after.count ≡ h.count + 1 → IsKeeping after
-IsKeeping-kept h after k event given addition keeping is follows counted addition_is given_is same_key same_ring same_base world moment statements issues more count =
+    → after.events.items ≡ h.events.items ++ given ∷ [] → after.count ≡ h.count + 1 → IsIndexOf after.key after.statements.entries (bearings after.issues.items) after.standings → IsKeeping after
+IsKeeping-kept h after k event given addition keeping is follows counted addition_is given_is same_key same_ring same_base world moment statements issues more count standings =
     IsKeeping-more h after event keeping (subst (λ (v : HistoryView). MayFollow (authority_of v) (state_of v) event) (sym is) follows) (subst (λ (v : HistoryView). (state_of v).count < 2 ^ 48 - 1) (sym is) counted) same_key same_ring same_base
     (more ∙ ap (λ (e : Event). h.events.items ++ e ∷ []) given_is)
-    (shown_next h after event world (statements ∙ ap (statements_with h.statements.entries) addition_is) (issues ∙ ap (issues_with h.issues.items) addition_is) moment count)
+    (shown_next h after event world (statements ∙ ap (statements_with h.statements.entries) addition_is) (issues ∙ ap (issues_with h.issues.items) addition_is) moment count) standings
+
+-- ---- statements that stand, and grants that are gone
+
+told_live : (entries : List RegisteredView) (number : ℕ) (result : Option (Bor StatementView)) → option_copied result ≡ live_of_number entries number →
+    MatchOption result (IsHeld (live_book entries) number → ⊥) (λ (s : Bor StatementView). IsNumbered (live_book entries) number (Some s.now))
+told_live entries number None is = none_in_registry entries number (sym is)
+told_live entries number (Some s) is = live_from_registry entries number s.now (sym is)
+
+-- what the registry tells of a number is what stands there
+pub live_told : (entries shown : List RegisteredView) (number : ℕ) (result : Option (Bor StatementView)) → shown ≡ entries → option_copied result ≡ live_of_number shown number →
+    MatchOption result (IsHeld (live_book entries) number → ⊥) (λ (s : Bor StatementView). IsNumbered (live_book entries) number (Some s.now))
+live_told entries shown number result shown_is is = told_live entries number result (is ∙ ap (λ (es : List RegisteredView). live_of_number es number) shown_is)
+
+-- the index knows the procap, which is sealed under the key of the history
+pub knows_shown : (h : Inside) (k : HistoryView) (p : Procap) → IsKeeping h → kept_by h ≡ k → (shown : List Issue) → shown ≡ h.issues.items → IsGenuine k.key p → Knows h.statements.entries (bearings shown) h.standings p
+knows_shown h k p keeping is shown shown_is genuine = record {
+  key = h.key;
+  indexed = subst (λ (is : List Issue). IsIndexOf h.key h.statements.entries (bearings is) h.standings) (sym shown_is) keeping.standings;
+  genuine = subst (λ (v : HistoryView). IsGenuine v.key p) (sym is) genuine;
+}
+
+-- what the index tells of a grant holds of the state
+pub gone_shown : (h : Inside) (k : HistoryView) (g : GrantView) (shown : List Issue) (found : Option ℕ) → IsKeeping h → kept_by h ≡ k → shown ≡ h.issues.items → found ≡ gone_by (standing_of (is_withdrawn h.statements.entries) g (bearings shown)) → found ≡ gone (state_of k) g
+gone_shown h k g shown found keeping is shown_is found_is =
+    found_is
+    ∙ (ap (λ (is : List Issue). gone_by (standing_of (is_withdrawn h.statements.entries) g (bearings is))) shown_is
+    ∙ ap (λ (s : BaseView). gone s g) (keeping.state_is ∙ ap state_of is))

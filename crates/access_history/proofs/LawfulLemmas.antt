@@ -1,32 +1,34 @@
 -- A history may begin with the state of a lawful history: its world, its statements and its issues are as lawful as the base's.
-use Rattle.std.proofs.Common.{◌≡◌, ◌<◌, ◌≤◌, ◌+◌, ◌-◌, ◌^◌, ℕ, List, [], ◌∷◌, ◌++◌, length, sym, subst, arith}
+use Rattle.std.proofs.Common.{◌≡◌, ◌<◌, ◌≤◌, ◌+◌, ◌-◌, ◌^◌, ℕ, List, [], ◌∷◌, ◌++◌, false, length, sym, subst, arith}
 use Rattle.std.specs.Prelude.{ℤ}
 use Rattle.std.specs.List.{AllByRecursion}
 use Rattle.std.proofs.lemmas.List.{length-append}
 use Rattle.bl_syntax.specs.Statement.{StatementView, IsStatement}
 use Rattle.bl_syntax.specs.Grant.{GrantView, AreDistinct}
 use Rattle.policy_statement.specs.Registered.{RegisteredView}
+use Rattle.policy_statement.proofs.WithdrawalLemmas.{length-marked}
 use Rattle.procap.specs.declared.procap.Procap.{Procap}
 use Rattle.proof_term.specs.Proof.{ProofView}
 use Rattle.file_world.specs.declared.operation.Op.{Op}
 use Rattle.file_world.specs.World.{IsWorld}
 use Rattle.file_world.proofs.HalvesLemmas.{IsWorld-after}
 use Rattle.access_history.specs.declared.event.Event.{Event}
-use Rattle.access_history.specs.declared.event.Event.TheVariants.{Registered, Issued, Acted}
+use Rattle.access_history.specs.declared.event.Event.TheVariants.{Registered, Withdrawn, Issued, Acted}
 use Rattle.access_history.specs.Base.{BaseView}
 use Rattle.access_history.specs.Authority.{Authority, MayBeRegistered, IsSignedEntry, sayings}
-use Rattle.access_history.specs.Citing.{IsGoodIssue, MayBeIssued}
+use Rattle.access_history.specs.Books.{book_of}
+use Rattle.access_history.specs.Citing.{IsGoodIssue, MayBeIssued, MayBeWithdrawn}
 use Rattle.access_history.specs.Replay.{next_state, replay}
 use Rattle.access_history.specs.Lawful.{MayAct, MayFollow, AreLawful, no_event, one_more, IsLawfulBase, IsLawful}
 use Rattle.bl_syntax.proofs.GrantLemmas.{AllByRecursion-push, AreDistinct-push}
 use Rattle.access_history.proofs.ListLemmas.{AllByRecursion-weaker}
 use Rattle.access_history.proofs.ReplayLemmas.{world_left-after, replay-more, count-replay}
-use Rattle.access_history.proofs.CitingLemmas.{said_length, sayings-more, IsGoodIssue-more}
+use Rattle.access_history.proofs.CitingLemmas.{said_length, sayings-more, sayings-marked, all_marked, IsGoodIssue-more}
 
 module _ (authority : Authority) (state : BaseView) (base : IsLawfulBase authority state) (below : state.count < 2 ^ 48 - 1) where
   registered_base : (pass : ℕ) (statement : StatementView) (signature : List ℕ) → MayBeRegistered authority state.statements statement signature → IsLawfulBase authority (next_state state (Registered pass statement signature))
   registered_base pass statement signature may =
-      let entry : RegisteredView = record { statement = statement; signature = signature } in
+      let entry : RegisteredView = record { statement = statement; signature = signature; withdrawn = false } in
       let more : sayings (state.statements ++ entry ∷ []) ≡ sayings state.statements ++ statement ∷ [] = sayings-more state.statements statement signature in
       record {
         tree = base.tree;
@@ -37,6 +39,21 @@ module _ (authority : Authority) (state : BaseView) (base : IsLawfulBase authori
         moment_in_range = base.moment_in_range;
         good_issues = subst (λ (ss : List StatementView). AllByRecursion (IsGoodIssue ss) state.issues) (sym more)
             (AllByRecursion-weaker (IsGoodIssue (sayings state.statements)) (IsGoodIssue (sayings state.statements ++ statement ∷ [])) state.issues (IsGoodIssue-more (sayings state.statements) (statement ∷ [])) base.good_issues);
+        counted = omega (arith, below);
+      }
+
+  withdrawn_base : (pass number : ℕ) (signature : List ℕ) → MayBeWithdrawn authority (book_of state) number signature → IsLawfulBase authority (next_state state (Withdrawn pass number signature))
+  withdrawn_base pass number signature may =
+      let same = sayings-marked state.statements number in
+      let fit = base.statements_fit in
+      record {
+        tree = base.tree;
+        statements_differ = subst (λ (ss : List StatementView). AreDistinct ss) (sym same) base.statements_differ;
+        statements_formed = subst (λ (ss : List StatementView). AllByRecursion IsStatement ss) (sym same) base.statements_formed;
+        statements_signed = all_marked (IsSignedEntry authority) (λ entry signed. signed) state.statements number base.statements_signed;
+        statements_fit = omega (arith, fit, length-marked state.statements number);
+        moment_in_range = base.moment_in_range;
+        good_issues = subst (λ (ss : List StatementView). AllByRecursion (IsGoodIssue ss) state.issues) (sym same) base.good_issues;
         counted = omega (arith, below);
       }
 
@@ -67,6 +84,7 @@ module _ (authority : Authority) (state : BaseView) (base : IsLawfulBase authori
   -- after an event that may come next
   IsLawfulBase-next : (event : Event) → MayFollow authority state event → IsLawfulBase authority (next_state state event)
   IsLawfulBase-next (Registered pass statement signature) may = registered_base pass statement signature may
+  IsLawfulBase-next (Withdrawn pass number signature) may = withdrawn_base pass number signature may
   IsLawfulBase-next (Issued pass cited proof g) may = issued_base pass cited proof g may
   IsLawfulBase-next (Acted pass caller op procaps moment) may = acted_base pass caller op procaps moment may
 

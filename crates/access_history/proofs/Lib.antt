@@ -4,7 +4,9 @@ pub mod AnswerableLemmas
 pub mod BaseLemmas
 pub mod CitingLemmas
 pub mod EitherLemmas
+pub mod ForGoodLemmas
 pub mod FreshLemmas
+pub mod GoneLemmas
 pub mod HeadlineLemmas
 pub mod HistoryLemmas
 pub mod LawfulLemmas
@@ -13,3 +15,4 @@ pub mod MayFollowLemmas
 pub mod NumberedLemmas
 pub mod PassLemmas
 pub mod ReplayLemmas
+pub mod StandingsLemmas

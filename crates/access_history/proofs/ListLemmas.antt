@@ -1,5 +1,5 @@
 -- What holds of each item of a list, and what a list contains.
-use Rattle.std.proofs.Common.{◌≡◌, List, [], ◌∷◌, ◌++◌, refl, ◌⊎◌, inl, inr, ⊎_elim, map, arith}
+use Rattle.std.proofs.Common.{◌≡◌, List, [], ◌∷◌, ◌++◌, refl, ap, ◌⊎◌, inl, inr, ⊎_elim, map, arith}
 use Rattle.std.specs.Prelude.{Contains}
 use Rattle.std.specs.List.{AllByRecursion}
 use Rattle.std.proofs.lemmas.List.Elements.{All-from_recursion, All-contains, Contains-append_cases, Contains-append_right, Contains-push_cases}
@@ -34,3 +34,9 @@ IsImage-from_map f (x ∷ xs) y here =
     ⊎_elim (λ same. record { item = x; contained = Contains-head x x xs refl; same = same })
     (λ behind. let image = IsImage-from_map f xs y behind in record { item = image.item; contained = Contains-append_right (x ∷ []) xs image.item image.contained; same = image.same })
     (Contains-cons_cases (f x) (map f xs) y here)
+
+-- the image of an item is one of the images
+pub Contains-image : {X Y : Type 0} (f : X → Y) (xs : List X) (x : X) → Contains xs x → Contains (map f xs) (f x)
+Contains-image f [] x here = absurd (omega (arith, here.1))
+Contains-image f (y ∷ xs) x here =
+    ⊎_elim (λ same. Contains-head (f x) (f y) (map f xs) (ap f same)) (λ behind. Contains-append_right (f y ∷ []) (map f xs) (f x) (Contains-image f xs x behind)) (Contains-cons_cases y xs x here)

@@ -10,7 +10,7 @@ use Rattle.access_history.specs.declared.reply.StepReply.{StepReply}
 use Rattle.access_history.specs.Base.{BaseView}
 use Rattle.access_history.specs.Books.{book_of}
 use Rattle.access_history.specs.Authority.{Authority}
-use Rattle.access_history.specs.Answer.{Answers, registered, issued, acted, moment_of}
+use Rattle.access_history.specs.Answer.{Answers, registered, withdrawn, issued, acted, moment_of}
 use Rattle.access_history.specs.WellFormed.{IsWellFormed}
 use Rattle.access_history.specs.Lawful.{IsLawfulBase, MayFollow}
 use Rattle.access_history.proofs.AdmissionLemmas.{AreDerived-admitted}
@@ -27,6 +27,7 @@ last_up_to_max a b = omega (arith, ints, int_max_is a b)
 pub MayFollow-answered : (authority : Authority) (state : BaseView) (pass : ℕ) (clock : ℤ) (request : StepRequest) (answer : StepReply) (event : Event)
     → IsLawfulBase authority state → IsMoment clock → IsWellFormed request → Answers authority state pass clock request answer (Some event) → MayFollow authority state event
 MayFollow-answered authority state pass clock request answer event base at formed (registered statement signature may) = may
+MayFollow-answered authority state pass clock request answer event base at formed (withdrawn number signature may) = may
 MayFollow-answered authority state pass clock request answer event base at formed (issued checked rising granted stand) =
     record {
       good = record { cites = checked.cited; cited = refl; rising = rising; stand = stand_registered state checked.cited stand; granted = IsGrantedFrom-checked checked granted };

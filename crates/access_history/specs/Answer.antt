@@ -23,8 +23,8 @@ use Rattle.access_history.specs.declared.reply.StepReply.TheVariants as replies
 use Rattle.access_history.specs.Base.{BaseView}
 use Rattle.access_history.specs.Numbered.{IsNumbered}
 use Rattle.access_history.specs.Books.{book_of}
-use Rattle.access_history.specs.Citing.{StandsUnderNumber, IsMoved, issued_grant, numbers_of}
-use Rattle.access_history.specs.Authority.{Authority, IsSignedStatement, MayBeRegistered, sayings, procap_of}
+use Rattle.access_history.specs.Citing.{StandsUnderNumber, IsHeld, IsMoved, MayBeWithdrawn, issued_grant, numbers_of}
+use Rattle.access_history.specs.Authority.{Authority, IsSignedStatement, IsSignedWithdrawal, MayBeRegistered, sayings, procap_of}
 use Rattle.access_history.specs.Admission.{IsAdmitted, IsDenied}
 
 -- the moment of a step: the clock's, but not before the last one
@@ -51,6 +51,12 @@ pub data Answers (authority : Authority) (state : BaseView) (pass : ℕ) (clock 
       Answers authority state pass clock (requests.Register statement signature) (replies.Rejected RegistryFull) None
   registered : (statement : StatementView) (signature : List ℕ) → MayBeRegistered authority state.statements statement signature →
       Answers authority state pass clock (requests.Register statement signature) (replies.Statement (length state.statements + 1)) (Some (events.Registered pass statement signature))
+  not_live : (number : ℕ) (signature : List ℕ) → (IsHeld (book_of state) number → ⊥) →
+      Answers authority state pass clock (requests.Withdraw number signature) (replies.Absent number) None
+  unsigned_withdrawal : (number : ℕ) (signature : List ℕ) (statement : StatementView) → IsNumbered (book_of state) number (Some statement) → (IsSignedWithdrawal authority statement signature → ⊥) →
+      Answers authority state pass clock (requests.Withdraw number signature) (replies.Rejected BadSignature) None
+  withdrawn : (number : ℕ) (signature : List ℕ) → MayBeWithdrawn authority (book_of state) number signature →
+      Answers authority state pass clock (requests.Withdraw number signature) replies.Withdrawn (Some (events.Withdrawn pass number signature))
   moved : (checked : CheckedView) (number : ℕ) → IsMoved (book_of state) checked.cited number →
       Answers authority state pass clock (requests.Issue checked) (replies.Absent number) None
   issued : (checked : CheckedView) → AreCited checked.cited → IsChecked checked → AllByRecursion (StandsUnderNumber (book_of state)) checked.cited →

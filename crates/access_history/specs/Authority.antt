@@ -1,8 +1,8 @@
--- Whose signatures are accepted, and under which key procaps are sealed; statements with their signatures (this project's own).
+-- Whose signatures are accepted, and under which key procaps are sealed; statements with their signatures, and withdrawals (this project's own).
 use Rattle.std.specs.Prelude.{◌<◌, ℕ, List, length, Bool, IsTrue, map, Contains}
 use Rattle.bl_syntax.specs.Statement.{StatementView, IsStatement}
 use Rattle.bl_syntax.specs.Grant.{GrantView}
-use Rattle.policy_statement.specs.Messages.{statement_message}
+use Rattle.policy_statement.specs.Messages.{statement_message, withdraw_message}
 use Rattle.policy_statement.specs.Registered.{RegisteredView}
 use Rattle.procap.specs.Genuine.{seal_of}
 use Rattle.procap.specs.declared.procap.Procap.{Procap}
@@ -16,11 +16,15 @@ pub record Authority : Type 0 where
 abbrev pub IsSignedStatement : Authority → StatementView → List ℕ → Type 0
 IsSignedStatement authority statement signature = IsTrue (authority.accepts statement.who (statement_message statement) signature)
 
+-- the signature is accepted from who says the statement, under the message of its withdrawal
+abbrev pub IsSignedWithdrawal : Authority → StatementView → List ℕ → Type 0
+IsSignedWithdrawal authority statement signature = IsTrue (authority.accepts statement.who (withdraw_message statement) signature)
+
 -- the signature with which the statement was registered is accepted
 abbrev pub IsSignedEntry : Authority → RegisteredView → Type 0
 IsSignedEntry authority entry = IsSignedStatement authority entry.statement entry.signature
 
--- the statements without their signatures, in order
+-- the statements without their signatures, in order, withdrawn ones too
 abbrev pub sayings : List RegisteredView → List StatementView
 sayings entries = map (λ (entry : RegisteredView). entry.statement) entries
 

@@ -1,4 +1,4 @@
--- Statements cited by their numbers, and issues: what makes one good, and which may come next (this project's own).
+-- Statements cited by their numbers; issues and withdrawals: what makes an issue good, and which may come next (this project's own).
 use Rattle.std.specs.Prelude.{◌≡◌, ℕ, List, Some, map}
 use Rattle.std.specs.List.{AllByRecursion}
 use Rattle.bl_syntax.specs.FirstFailing.{IsFirstFailing}
@@ -9,7 +9,7 @@ use Rattle.proof_verifier.specs.declared.cites.Cite.{Cite}
 use Rattle.proof_verifier.specs.Cited.{AreCited, statements_of}
 use Rattle.proof_verifier.specs.CheckedView.{IsGranted}
 use Rattle.access_history.specs.declared.event.Issue.{Issue}
-use Rattle.access_history.specs.Authority.{sayings}
+use Rattle.access_history.specs.Authority.{Authority, IsSignedWithdrawal, sayings}
 use Rattle.access_history.specs.Base.{BaseView}
 use Rattle.access_history.specs.Books.{Book, whole_book, book_of}
 use Rattle.access_history.specs.Numbered.{IsNumbered}
@@ -25,6 +25,10 @@ StandsUnderNumber book cite = IsNumbered book cite.number (Some cite.statement)
 -- the number holds a statement
 abbrev pub IsHeld : Book → ℕ → Type 0
 IsHeld book number = (s : StatementView) × IsNumbered book number (Some s)
+
+-- the number holds no statement
+abbrev pub HoldsNone : Book → ℕ → Type 0
+HoldsNone book number = IsHeld book number → ⊥
 
 -- these are the statements of these numbers
 pub record AreFound (book : Book) (numbers : List ℕ) (cites : List Cite) : Type 0 where
@@ -71,3 +75,11 @@ pub record IsGoodIssue (statements : List StatementView) (issue : Issue) : Type 
 pub record MayBeIssued (state : BaseView) (issue : Issue) : Type 0 where
   pub good : IsGoodIssue (sayings state.statements) issue
   pub held : AllByRecursion (IsHeld (book_of state)) issue.cited
+
+-- ---- withdrawals
+
+-- the statement of the number may be withdrawn under the signature: it stands, and who said it signed its withdrawal
+pub record MayBeWithdrawn (authority : Authority) (book : Book) (number : ℕ) (signature : List ℕ) : Type 0 where
+  pub statement : StatementView
+  pub live : IsNumbered book number (Some statement)
+  pub signed : IsSignedWithdrawal authority statement signature

@@ -13,12 +13,12 @@ use Rattle.file_world.specs.Facts.{facts}
 use Rattle.file_world.specs.Needs.{Need, needs}
 use Rattle.access_history.specs.declared.event.Issue.{Issue}
 use Rattle.access_history.specs.declared.event.Event.{Event}
-use Rattle.access_history.specs.declared.event.Event.TheVariants.{Registered, Issued, Acted}
+use Rattle.access_history.specs.declared.event.Event.TheVariants.{Registered, Withdrawn, Issued, Acted}
 use Rattle.access_history.specs.Base.{BaseView}
 use Rattle.access_history.specs.Numbered.{IsNumbered}
 use Rattle.access_history.specs.Authority.{Authority, MayBeRegistered, IsSignedEntry, sayings}
 use Rattle.access_history.specs.Books.{book_of, statements_in}
-use Rattle.access_history.specs.Citing.{IsGoodIssue, MayBeIssued}
+use Rattle.access_history.specs.Citing.{IsGoodIssue, MayBeIssued, MayBeWithdrawn}
 use Rattle.access_history.specs.Admission.{IsAdmitted}
 use Rattle.access_history.specs.WellFormed.{IsWellFormedAct}
 use Rattle.access_history.specs.Replay.{replay}
@@ -50,6 +50,7 @@ pub record MayAct (authority : Authority) (state : BaseView) (caller : List ℕ)
 -- the event may come next
 abbrev pub MayFollow : Authority → BaseView → Event → Type 0
 MayFollow authority state (Registered pass statement signature) = MayBeRegistered authority state.statements statement signature
+MayFollow authority state (Withdrawn pass number signature) = MayBeWithdrawn authority (book_of state) number signature
 MayFollow authority state (Issued pass cited proof g) = MayBeIssued state (record { cited = cited; proof = proof; grant = g })
 MayFollow authority state (Acted pass caller op procaps moment) = MayAct authority state caller op procaps moment
 

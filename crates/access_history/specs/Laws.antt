@@ -1,24 +1,34 @@
 -- Laws of the definitions: states of lawful histories are lawful, a request has exactly one answer, what is admitted is kept, and the headline holds of what is lawful.
-use Rattle.std.specs.Prelude.{◌≡◌, ℕ, ℤ, List, Option, Some, None}
+-- What rests on withdrawn statements is denied, and what is withdrawn is withdrawn for good.
+use Rattle.std.specs.Prelude.{◌≡◌, ◌↔◌, ℕ, ℤ, List, true, Option, Some, None, Contains}
 use Rattle.bl_syntax.specs.TimeOrder.{IsMoment}
+use Rattle.bl_syntax.specs.Grant.{GrantView}
+use Rattle.bl_syntax.specs.Statement.{StatementView}
 use Rattle.procap.specs.declared.procap.Procap.{Procap}
+use Rattle.policy_statement.specs.Withdrawal.{is_withdrawn}
+use Rattle.issue_standings.specs.Gone.{IsGoneBy}
 use Rattle.file_world.specs.declared.operation.Op.{Op}
 use Rattle.file_world.specs.World.{IsWorld}
 use Rattle.file_world.specs.Effect.{refusal, reply}
+use Rattle.file_world.specs.Needs.{Need, needs}
 use Rattle.access_history.specs.declared.event.Event.{Event}
-use Rattle.access_history.specs.declared.event.Event.TheVariants.{Acted}
+use Rattle.access_history.specs.declared.event.Event.TheVariants.{Acted, Withdrawn}
 use Rattle.access_history.specs.declared.request.StepRequest.{StepRequest}
 use Rattle.access_history.specs.declared.request.StepRequest.TheVariants.{Act}
 use Rattle.access_history.specs.declared.reply.StepReply.{StepReply}
 use Rattle.access_history.specs.declared.reply.StepReply.TheVariants.{Operation}
 use Rattle.access_history.specs.Base.{BaseView}
-use Rattle.access_history.specs.Replay.{fresh, replay}
+use Rattle.access_history.specs.Replay.{fresh, next_state, replay}
 use Rattle.access_history.specs.Lawful.{IsLawful, IsLawfulBase, MayFollow}
 use Rattle.access_history.specs.Headline.{Headline}
 use Rattle.access_history.specs.Admission.{IsAdmitted}
 use Rattle.access_history.specs.Answer.{Answers, moment_of}
 use Rattle.access_history.specs.WellFormed.{IsWellFormed}
-use Rattle.access_history.specs.Authority.{Authority}
+use Rattle.access_history.specs.Authority.{Authority, CanRegister, sayings}
+use Rattle.access_history.specs.Books.{book_of}
+use Rattle.access_history.specs.Citing.{HoldsNone}
+use Rattle.access_history.specs.Gone.{bearings, gone}
+use Rattle.access_history.specs.Numbered.{IsNumbered}
 
 -- the world of the state after a lawful history is within its limits
 abbrev pub HistoriesKeepWorlds : Type 0
@@ -57,3 +67,26 @@ AdmittedAreKept = (authority : Authority) (state : BaseView) (pass : ℕ) (clock
 -- the headline holds of each lawful history and the world to which it leads
 abbrev pub LawfulIsRightful : Type 0
 LawfulIsRightful = (authority : Authority) (base : BaseView) (events : List Event) → IsLawful authority base events → Headline authority base events (replay base events).world
+
+-- the number told of a grant is the one by which it is gone: it was issued, each of its issues cites a withdrawn number, and the last of them this one first
+abbrev pub GoneIsTold : Type 0
+GoneIsTold = (state : BaseView) (g : GrantView) (number : ℕ)
+    → (gone state g ≡ Some number) ↔ IsGoneBy (is_withdrawn state.statements) g (bearings state.issues) number
+
+-- what needs a procap whose grant is gone is not admitted
+abbrev pub GoneAreDenied : Type 0
+GoneAreDenied = (key : List ℕ) (state : BaseView) (caller : List ℕ) (op : Op) (procaps : List Procap) (moment : ℤ) (need : Need) (p : Procap) (number : ℕ)
+    → Contains (needs state.world op) need → IsNumbered procaps need.place p → IsGoneBy (is_withdrawn state.statements) p.grant (bearings state.issues) number
+    → IsAdmitted key state caller op procaps moment → ⊥
+
+-- the statement of the number was withdrawn: it stands no more, the number is withdrawn and keeps it, and no equal one can be registered
+pub record IsWithdrawnIn (state : BaseView) (number : ℕ) (s : StatementView) : Type 0 where
+  pub stands_not : HoldsNone (book_of state) number
+  pub counts : is_withdrawn state.statements number ≡ true
+  pub keeps : IsNumbered (sayings state.statements) number s
+  pub once : CanRegister (sayings state.statements) s → ⊥
+
+-- the statement of a number that stood is withdrawn after its withdrawal, and after whichever events
+abbrev pub WithdrawnForGood : Type 0
+WithdrawnForGood = (state : BaseView) (pass number : ℕ) (signature : List ℕ) (s : StatementView) (events : List Event)
+    → IsNumbered (book_of state) number (Some s) → IsWithdrawnIn (replay (next_state state (Withdrawn pass number signature)) events) number s

@@ -5,6 +5,7 @@ pub mod Base
 pub mod BaseCode
 pub mod Books
 pub mod Citing
+pub mod Gone
 pub mod Headline
 pub mod History
 pub mod HistoryCode

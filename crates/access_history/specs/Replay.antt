@@ -1,13 +1,14 @@
 -- The state after an event, and after a list of events (this project's own).
-use Rattle.std.specs.Prelude.{◌+◌, ℤ, List, [], ◌∷◌, ◌++◌, negsuc}
+use Rattle.std.specs.Prelude.{◌+◌, ℤ, List, [], ◌∷◌, ◌++◌, false, negsuc}
 use Rattle.policy_statement.specs.Registered.{RegisteredView}
+use Rattle.policy_statement.specs.Withdrawal.{marked}
 use Rattle.file_world.specs.declared.reply.OpReply.{OpReply}
 use Rattle.file_world.specs.Outcome.{Outcome, refused, replied}
 use Rattle.file_world.specs.World.{World, fresh_world}
 use Rattle.file_world.specs.Effect.{effect}
 use Rattle.access_history.specs.declared.event.Issue.{Issue}
 use Rattle.access_history.specs.declared.event.Event.{Event}
-use Rattle.access_history.specs.declared.event.Event.TheVariants.{Registered, Issued, Acted}
+use Rattle.access_history.specs.declared.event.Event.TheVariants.{Registered, Withdrawn, Issued, Acted}
 use Rattle.access_history.specs.declared.event.Addition.{Addition}
 use Rattle.access_history.specs.declared.event.Addition.TheVariants as additions
 use Rattle.access_history.specs.Base.{BaseView}
@@ -31,12 +32,14 @@ world_next world _ = world
 -- what the state keeps of an event beside the event
 abbrev pub addition_of : Event → Addition
 addition_of (Registered pass statement signature) = additions.Statement statement signature
+addition_of (Withdrawn pass number signature) = additions.Withdrawal number
 addition_of (Issued pass cited proof grant) = additions.Issue (record { cited = cited; proof = proof; grant = grant })
 addition_of (Acted pass caller op procaps moment) = additions.Operation
 
--- the statements with what an event adds to them
+-- the statements with what an event adds to them: one more, or one that is withdrawn now
 abbrev pub statements_with : List RegisteredView → Addition → List RegisteredView
-statements_with statements (additions.Statement statement signature) = statements ++ record { statement = statement; signature = signature } ∷ []
+statements_with statements (additions.Statement statement signature) = statements ++ record { statement = statement; signature = signature; withdrawn = false } ∷ []
+statements_with statements (additions.Withdrawal number) = marked statements number
 statements_with statements _ = statements
 
 -- the issues with what an event adds to them

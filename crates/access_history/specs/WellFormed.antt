@@ -9,7 +9,7 @@ use Rattle.file_world.specs.declared.operation.Op.{Op}
 use Rattle.file_world.specs.Effect.{IsOperation}
 use Rattle.file_world.specs.Needs.{slots, bytes_to_write}
 use Rattle.access_history.specs.declared.request.StepRequest.{StepRequest}
-use Rattle.access_history.specs.declared.request.StepRequest.TheVariants.{Register, Issue, Act, ShowProcap}
+use Rattle.access_history.specs.declared.request.StepRequest.TheVariants.{Register, Withdraw, Issue, Act, ShowProcap}
 
 -- an operation comes with one procap for each of its slots, and brings at most 65,536 bytes to write
 pub record BringsEnough (op : Op) (procaps : List Procap) : Type 0 where
@@ -25,6 +25,7 @@ pub record IsWellFormedAct (caller : List ℕ) (op : Op) (procaps : List Procap)
 -- a statement may be said; a proof was checked, and cites 1 to 64 statements by rising numbers; an operation is a principal's, with its procaps
 abbrev pub IsWellFormed : StepRequest → Type 0
 IsWellFormed (Register statement signature) = IsStatement statement
+IsWellFormed (Withdraw number signature) = Unit {0}
 IsWellFormed (Issue checked) = AreCited checked.cited × IsChecked checked
 IsWellFormed (Act caller op procaps) = IsWellFormedAct caller op procaps
 IsWellFormed (ShowProcap number who) = Unit {0}

@@ -12,7 +12,7 @@ use std::alloc::Global;
 use std::marker::Model;
 use world_state::World;
 
-/// A state: a world, the statements and issues by their numbers from 1, the greatest moment so far, and the number of
+/// A state: a world, the statements, withdrawn ones too, and issues by their numbers from 1, the greatest moment so far, and the number of
 /// the last event.
 #[derive(Drop)]
 pub struct Base {
@@ -87,7 +87,7 @@ impl Base {
         &self.world
     }
 
-    /// The statements that are registered, with their signatures, by their numbers from 1.
+    /// The statements that are registered, withdrawn ones too, with their signatures, by their numbers from 1.
     pub fn statements(&self) -> &[Registered]
         ensures { result.now ≡ self.now.statements }
     {

@@ -3,20 +3,31 @@
 ghost use Rattle.std.specs.Prelude.{◌≡◌, ◌≤◌, ◌<◌, ◌∷◌, ◌++◌, [], IfOk, OnOk, length};
 
 use crate::event::{Issue, Issues, Statements};
-use bl_syntax::{NoMemory, Sequence, copy_bytes};
+use bl_syntax::{Bytes, NoMemory, Sequence, Statement, copy_bytes};
 use policy_statement::{Registered, Registry};
 use std::alloc::Global;
 
-// An equal statement with an equal signature, in memory of its own.
+// An equal entry, withdrawn if it was, in memory of its own.
 fn copy_registered(alloc: Global, entry: &Registered) -> Result<Registered, NoMemory>
     ensures { IfOk result (λ copied. copied ≡ entry.now) }
 {
     let statement = entry.statement().copy(alloc)?;
     let signature = copy_bytes(alloc, entry.signature())?;
-    Ok(Registered::new(statement, signature))
+    Ok(entry_of(statement, signature, entry.is_withdrawn()))
 }
 
-/// Equal statements with equal signatures, in memory of their own.
+// The statement with this signature, withdrawn or not.
+fn entry_of(statement: Statement, signature: Bytes, withdrawn: bool) -> Registered
+    ensures { result ≡ record { statement = statement; signature = signature; withdrawn = withdrawn } }
+{
+    let mut entry = Registered::new(statement, signature);
+    if withdrawn {
+        entry.withdraw();
+    }
+    entry
+}
+
+/// Equal statements with equal signatures, withdrawn if they were, in memory of their own.
 pub fn copy_statements(alloc: Global, entries: &[Registered]) -> Result<Statements, NoMemory>
     ensures { IfOk result (λ copied. copied ≡ entries.now) }
 {
@@ -52,19 +63,18 @@ pub fn copy_issues(alloc: Global, issues: &[Issue]) -> Result<Issues, NoMemory>
     Ok(copied)
 }
 
-/// Keeps an equal statement with an equal signature, in memory of its own. There are fewer than 4,096.
+/// Keeps an equal statement with an equal signature, withdrawn if it was, in memory of its own. There are fewer than 4,096.
 pub fn keep_copy(alloc: Global, registry: &mut Registry, entry: &Registered) -> Result<(), NoMemory>
     requires { length registry.old.entries < 4096 }
     ensures { OnOk result (registry.new.entries ≡ registry.old.entries ++ entry.now ∷ []) }
 {
     registry.reserve()?;
-    let statement = entry.statement().copy(alloc)?;
-    let signature = copy_bytes(alloc, entry.signature())?;
-    let _ = registry.keep(statement, signature);
+    let _ = registry.keep_entry(copy_registered(alloc, entry)?);
     Ok(())
 }
 
-/// The registry of equal statements with equal signatures, in memory of its own. There are at most 4,096.
+/// The registry of equal statements with equal signatures, withdrawn if they were, in memory of its own. There are at most
+/// 4,096.
 pub fn registry_of(alloc: Global, entries: &[Registered]) -> Result<Registry, NoMemory>
     requires { length entries.now ≤ 4096 }
     ensures { IfOk result (λ registry. registry.entries ≡ entries.now) }

@@ -4,6 +4,7 @@ ghost use Rattle.std.specs.Prelude.{◌≡◌, IfOk};
 
 use bl_syntax::{Bytes, Grant, NoMemory, Numbers, Principal, Sequence, Statement};
 use file_world::Op;
+use issue_standings::Bearing;
 use policy_statement::Registered;
 use procap::Procap;
 use proof_term::ProofTree;
@@ -17,12 +18,30 @@ pub struct Issue {
     pub grant: Grant,
 }
 
+impl Bearing for Issue {
+    ghost bearing = { λ issue. record { grant = issue.grant; cited = issue.cited } };
+
+    fn grant(&self) -> &Grant {
+        &self.grant
+    }
+
+    fn cited(&self) -> &[u32] {
+        self.cited.as_slice()
+    }
+}
+
 /// What happened.
 #[derive(Debug, Drop)]
 pub enum Event {
     Registered {
         pass: u64,
         statement: Statement,
+        signature: Bytes,
+    },
+    /// The statement of that number was withdrawn, under this signature of who said it.
+    Withdrawn {
+        pass: u64,
+        number: u32,
         signature: Bytes,
     },
     Issued {
@@ -53,6 +72,15 @@ impl Event {
             } => Ok(Event::Registered {
                 pass: *pass,
                 statement: statement.copy(alloc)?,
+                signature: signature.copy(alloc)?,
+            }),
+            Event::Withdrawn {
+                pass,
+                number,
+                signature,
+            } => Ok(Event::Withdrawn {
+                pass: *pass,
+                number: *number,
                 signature: signature.copy(alloc)?,
             }),
             Event::Issued {
@@ -99,6 +127,8 @@ fn copy_procaps(alloc: Global, procaps: &[Procap]) -> Result<Procaps, NoMemory>
 pub enum Addition {
     /// A statement more, with its signature.
     Statement(Statement, Bytes),
+    /// The statement of this number is withdrawn.
+    Withdrawal(u32),
     /// An issue more.
     Issue(Issue),
     /// Nothing more: the world makes the change of an operation.

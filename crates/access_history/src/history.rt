@@ -1,6 +1,6 @@
 //! The history: a base, and the events since, each lawful where it came.
 
-ghost use Rattle.std.specs.Prelude.{◌≡◌, ◌≤◌, ◌<◌, ◌-◌, ◌^◌, ◌++◌, ◌∷◌, [], IfOk, MatchOption, OnOk, length};
+ghost use Rattle.std.specs.Prelude.{◌≡◌, ◌≤◌, ◌<◌, ◌-◌, ◌^◌, ◌++◌, ◌∷◌, [], IfOk, MatchOption, OnOk, Some, length};
 
 use crate::base::Base;
 use crate::copying::{copy_issues, copy_statements, registry_of};
@@ -8,8 +8,9 @@ use crate::event::{Addition, Event, Issue};
 use crate::keeping::{add_to_state, apply_event};
 use bl_syntax::{Grant, NoMemory, Principal, Statement};
 use file_world::{Op, OpFault, OpReply};
+use issue_standings::Standings;
 use policy_statement::{Keyring, Registered, Registry};
-use procap::SealKey;
+use procap::{Procap, SealKey};
 use std::alloc::Global;
 use std::marker::Model;
 use world_state::World;
@@ -25,6 +26,8 @@ pub struct History {
     world: World,
     statements: Registry,
     issues: Vec<Issue>,
+    // How each grant stands that was issued.
+    standings: Standings,
     moment: i64,
     count: u64,
 }
@@ -51,6 +54,10 @@ impl History {
     ghost use Rattle.access_history.specs.Replay.{fresh};
     ghost use Rattle.access_history.specs.Headline.{Headline};
     ghost use Rattle.access_history.specs.Authority.{sayings};
+    ghost use Rattle.access_history.specs.Books.{book_of};
+    ghost use Rattle.access_history.specs.Citing.{HoldsNone};
+    ghost use Rattle.access_history.specs.Gone.{gone};
+    ghost use Rattle.procap.specs.Genuine.{IsGenuine};
     ghost use Rattle.access_history.specs.Issued.{IsIssued};
     ghost use Rattle.access_history.specs.Numbered.{HasNone, IsNumbered};
 
@@ -73,6 +80,7 @@ impl History {
             world,
             statements: Registry::new(alloc),
             issues: Vec::new(alloc),
+            standings: Standings::new(alloc),
         })
     }
 
@@ -92,6 +100,7 @@ impl History {
         let world = base.world().copy()?;
         let statements = registry_of(alloc, base.statements())?;
         let issues = copy_issues(alloc, base.issues())?.into_vec();
+        let standings = Standings::from_issues(alloc, &key, &statements, issues.as_slice())?;
         Ok(History {
             key,
             ring,
@@ -102,6 +111,7 @@ impl History {
             world,
             statements,
             issues,
+            standings,
         })
     }
 
@@ -160,7 +170,7 @@ impl History {
         &self.statements
     }
 
-    /// The statements that are registered, with their signatures, by their numbers from 1.
+    /// The statements that are registered, withdrawn ones too, with their signatures, by their numbers from 1.
     pub fn statements(&self) -> &[Registered]
         ensures same { result.now ≡ (state_of self.now).statements }
         ensures few { length result.now ≤ 4096 }
@@ -168,7 +178,7 @@ impl History {
         self.statements.entries()
     }
 
-    /// The statement of that number; none exactly if no statement has it.
+    /// The statement of that number, also if it was withdrawn; none exactly if no statement has it.
     pub fn statement(&self, number: u32) -> Option<&Statement>
         ensures { let statements = sayings (state_of self.now).statements in MatchOption result (HasNone statements number) (λ statement. IsNumbered statements number statement.now) }
     {
@@ -177,6 +187,23 @@ impl History {
             return None;
         }
         Some(entries[number as usize - 1].statement())
+    }
+
+    /// The statement of that number; none exactly if no statement has it, or it was withdrawn.
+    pub fn live(&self, number: u32) -> Option<&Statement>
+        ensures { let book = book_of (state_of self.now) in MatchOption result (HoldsNone book number) (λ s. IsNumbered book number (Some s.now)) }
+    {
+        self.statements.live(number)
+    }
+
+    /// The number of the withdrawn statement by which the grant of a sealed procap is gone; none exactly if it is not gone.
+    /// It takes no memory, and goes over no issues.
+    pub fn gone(&self, procap: &Procap) -> Option<u32>
+        requires { IsGenuine self.now.key procap.now }
+        ensures { result ≡ gone (state_of self.now) procap.now.grant }
+    {
+        self.standings
+            .gone_by(&self.statements, self.issues.as_slice(), procap)
     }
 
     /// The grant of the issue of that number; none exactly if there is no such issue.
@@ -237,6 +264,7 @@ impl History {
         self.events.reserve(1)?;
         self.statements.reserve()?;
         self.issues.reserve(1)?;
+        self.standings.reserve()?;
         Ok(())
     }
 
@@ -272,7 +300,13 @@ impl History {
         ensures events { self.new.events ≡ self.old.events ++ event ∷ [] }
     {
         let event = apply_event(&mut self.world, &mut self.moment, event);
-        add_to_state(&mut self.statements, &mut self.issues, addition);
+        add_to_state(
+            &self.key,
+            &mut self.statements,
+            &mut self.issues,
+            &mut self.standings,
+            addition,
+        );
         self.events.push(event).unwrap();
         self.count += 1;
     }

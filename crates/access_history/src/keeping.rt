@@ -1,12 +1,16 @@
 //! What an event changes of the state.
 
 ghost use Rattle.std.specs.Prelude.{◌≡◌, ◌≤◌};
+ghost use Rattle.issue_standings.specs.Index.{IsIndexOf, room_of};
+ghost use Rattle.access_history.specs.Gone.{bearings};
 ghost use Rattle.access_history.specs.History.{IsReadyIn, spare};
 ghost use Rattle.access_history.specs.Keeping.{HasMomentInRange, HasPlaceAmong};
 ghost use Rattle.access_history.specs.Replay.{world_next, moment_next, statements_with, issues_with};
 
 use crate::event::{Addition, Event, Issue};
+use issue_standings::Standings;
 use policy_statement::Registry;
+use procap::SealKey;
 use world_state::World;
 
 /// Makes the change of an operation, for which the world is ready, and takes its moment; another event changes neither.
@@ -40,19 +44,36 @@ pub fn apply_event(world: &mut World, last: &mut i64, event: Event) -> Event
     }
 }
 
-/// Adds what the state keeps of an event, for which there has to be room. It takes no memory.
-pub fn add_to_state(statements: &mut Registry, issues: &mut Vec<Issue>, addition: Addition)
+/// Adds what the state keeps of an event, for which there has to be room, to the statements, the issues, and the index of how
+/// each issued grant stands, whose procaps are sealed under this key. It takes no memory.
+pub fn add_to_state(
+    key: &SealKey,
+    statements: &mut Registry,
+    issues: &mut Vec<Issue>,
+    standings: &mut Standings,
+    addition: Addition,
+)
     requires place { HasPlaceAmong statements.old.entries addition }
     requires statements_room { 1 ≤ statements.old.spare }
     requires issues_room { 1 ≤ spare issues.old }
+    requires standings_room { 1 ≤ room_of standings.old }
+    requires standings { IsIndexOf key.now statements.old.entries (bearings issues.old.items) standings.old }
     ensures statements { statements.new.entries ≡ statements_with statements.old.entries addition }
     ensures issues { issues.new.items ≡ issues_with issues.old.items addition }
+    ensures standings { IsIndexOf key.now statements.new.entries (bearings issues.new.items) standings.new }
 {
     match addition {
         Addition::Statement(statement, signature) => {
             let _ = statements.keep(statement, signature);
         }
-        Addition::Issue(issue) => issues.push(issue).unwrap(),
+        Addition::Withdrawal(number) => {
+            statements.end(number);
+            standings.recount(statements, issues.as_slice());
+        }
+        Addition::Issue(issue) => {
+            standings.add(key, statements, issues.as_slice(), &issue);
+            issues.push(issue).unwrap();
+        }
         Addition::Operation => {}
     }
 }

@@ -1,6 +1,6 @@
 //! Laws of the definitions. The functions do nothing: each contract is a law.
 
-ghost use Rattle.access_history.specs.Laws.{HistoriesKeepWorlds, StatesAreLawfulBases, AnswersAreDetermined, RequestsHaveAnswers, AnswersMayFollow, FreshIsLawful, AdmittedAreKept, LawfulIsRightful};
+ghost use Rattle.access_history.specs.Laws.{HistoriesKeepWorlds, StatesAreLawfulBases, AnswersAreDetermined, RequestsHaveAnswers, AnswersMayFollow, FreshIsLawful, AdmittedAreKept, LawfulIsRightful, GoneIsTold, GoneAreDenied, WithdrawnForGood};
 
 /// The world of the state after a lawful history is within its limits.
 pub fn histories_keep_worlds()
@@ -41,4 +41,21 @@ pub fn admitted_operations_are_kept()
 /// procap for each permission that it needs, whose grant the logic derives then and there if it was issued.
 pub fn lawful_histories_are_rightful()
     ensures { LawfulIsRightful }
+{}
+
+/// The number told of a grant is exactly the one by which it is gone: the grant was issued, each of its issues cites a
+/// withdrawn statement, and that is the first withdrawn number that the last of them cites.
+pub fn gone_grants_are_told()
+    ensures { GoneIsTold }
+{}
+
+/// An operation is not admitted that needs a procap whose grant is gone.
+pub fn gone_grants_are_denied()
+    ensures { GoneAreDenied }
+{}
+
+/// A statement that was withdrawn stands no more, whichever events come after; its number keeps it, and no equal one can
+/// be registered.
+pub fn withdrawn_statements_stay_withdrawn()
+    ensures { WithdrawnForGood }
 {}

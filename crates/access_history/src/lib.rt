@@ -1,6 +1,7 @@
 //! The history of a file server: its world, the events that change it, and what makes a history lawful.
 //!
-//! A history keeps lawful events alone, and its state is the one to which they lead. What the answer to a request is
+//! A history keeps lawful events alone, and its state is the one to which they lead. A statement that was withdrawn keeps
+//! its number, and no later event rests on it. What the answer to a request is
 //! stands here as a definition, and laws say what lawful histories and answers are worth.
 #![tactic(auto)]
 
@@ -19,8 +20,9 @@ pub use event::{Addition, Event, Events, Issue, Issues, Procaps, Statements};
 pub use history::History;
 pub use laws::{
     admitted_operations_are_kept, answers_are_determined, answers_may_follow, fresh_is_lawful,
-    histories_keep_worlds, lawful_histories_are_rightful, requests_have_answers,
-    states_are_lawful_bases,
+    gone_grants_are_denied, gone_grants_are_told, histories_keep_worlds,
+    lawful_histories_are_rightful, requests_have_answers, states_are_lawful_bases,
+    withdrawn_statements_stay_withdrawn,
 };
 pub use reply::{Denial, DenialCause, Rejection, StepReply};
 pub use request::StepRequest;

@@ -4,10 +4,10 @@ use bl_syntax::{Constraint, StatePred};
 use file_world::{OpReply, Refusal};
 use procap::Procap;
 
-/// Why a statement was not registered.
+/// Why a statement was not registered or withdrawn.
 #[derive(Clone, Copy, Debug)]
 pub enum Rejection {
-    /// The signature is not accepted from who says the statement.
+    /// The signature is not accepted from who says the statement. It is the one rejection of a withdrawal.
     BadSignature,
     /// As many statements as may be kept are there.
     RegistryFull,
@@ -30,6 +30,9 @@ pub enum DenialCause {
     Time(u32, Constraint),
     /// A condition on the server's state does not hold.
     State(u32, StatePred),
+    /// It was issued, and each issue of its grant cites a withdrawn statement: the first that the last of them cites has
+    /// this number.
+    Withdrawn(u32),
 }
 
 /// An operation was not admitted.
@@ -47,6 +50,8 @@ pub struct Denial {
 pub enum StepReply {
     /// The number of the statement that was registered.
     Statement(u32),
+    /// The statement was withdrawn.
+    Withdrawn,
     /// The number of the issue, and how many conditions on time and on the state its grant has.
     Issue(u64, u32, u32),
     /// The procap of an issue.
@@ -57,6 +62,6 @@ pub enum StepReply {
     /// Why the operation was refused, and the number of the last event.
     Refused(Refusal, u64),
     Rejected(Rejection),
-    /// There is no statement or issue of this number.
+    /// There is no statement or issue of this number, or the statement was withdrawn.
     Absent(u64),
 }

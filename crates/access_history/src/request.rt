@@ -10,6 +10,8 @@ use proof_verifier::Checked;
 pub enum StepRequest {
     /// Keep a statement, under this signature of who says it.
     Register(Statement, Bytes),
+    /// Withdraw the statement of this number, under this signature of who said it.
+    Withdraw(u32, Bytes),
     /// Issue what the proof grants, if the statements that it cites stand under their numbers.
     Issue(Checked),
     /// Let the caller act, under these procaps, one for each slot.

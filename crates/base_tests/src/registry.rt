@@ -6,7 +6,8 @@ use bl_syntax::{Bytes, Formula, Principal, Statement, TimePoint};
 use pcfs_hmac::mac;
 use pcfs_ports::Signatures;
 use policy_statement::{
-    KeyFault, Keyring, RegisterFault, Registry, login_message, statement_message,
+    KeyFault, Keyring, RegisterFault, Registry, WithdrawFault, login_message, statement_message,
+    withdraw_message,
 };
 use std::alloc::Global;
 use std::test::Fail;
@@ -231,5 +232,67 @@ fn a_statement_has_its_number(rt: HostRuntime) -> Result<(), Fail> {
     for (number, is_there) in [(0, false), (1, true), (2, false)] {
         assert_eq!(rt; has_number(rt.alloc(), number)?, is_there);
     }
+    Ok(())
+}
+
+// Withdraws the first statement, if it stands.
+fn end_first(registry: &mut Registry) {
+    if registry.live(1).is_some() {
+        registry.end(1);
+    }
+}
+
+// What a registry with one statement answers to the withdrawal of a number, before or after that statement was withdrawn.
+fn answer_to_withdrawal(
+    alloc: Global,
+    ended: bool,
+    number: u32,
+    signature: &[u8],
+) -> Result<Result<(), WithdrawFault>, Fail> {
+    let ring = ring_of(alloc, b"admin", 1)?;
+    let mut registry = with_one(alloc)?;
+    if ended {
+        end_first(&mut registry);
+    }
+    Ok(registry.test_withdrawal(alloc, &ring, number, signature))
+}
+
+#[test]
+fn a_withdrawal_is_refused_for_its_number_first(rt: HostRuntime) -> Result<(), Fail> {
+    let said = says_true(b"admin", 10)?;
+    let message = withdraw_message(rt.alloc(), &said)?;
+    let tag = mac(&[1], message.as_slice());
+    let registered = tag_until(rt.alloc(), 10)?;
+    let cases: [(bool, u32, &[u8], Result<(), WithdrawFault>); 6] = [
+        (false, 1, &tag, Ok(())),
+        (false, 1, &registered, Err(WithdrawFault::BadSignature)),
+        (false, 1, b"", Err(WithdrawFault::BadSignature)),
+        (false, 0, &tag, Err(WithdrawFault::Absent)),
+        (false, 2, &tag, Err(WithdrawFault::Absent)),
+        (true, 1, &tag, Err(WithdrawFault::Absent)),
+    ];
+    for (ended, number, signature, want) in cases {
+        assert_eq!(rt;
+            answer_to_withdrawal(rt.alloc(), ended, number, signature)?,
+            want
+        );
+    }
+    Ok(())
+}
+
+#[test]
+fn a_withdrawn_statement_keeps_its_number(rt: HostRuntime) -> Result<(), Fail> {
+    let mut registry = with_one(rt.alloc())?;
+    assert_eq!(rt; registry.has_withdrawn(), false);
+    end_first(&mut registry);
+    assert_eq!(rt; registry.has_withdrawn(), true);
+    assert_eq!(rt; registry.is_withdrawn(1), true);
+    assert_eq!(rt; registry.live(1).is_some(), false);
+    assert_eq!(rt; registry.get(1).is_some(), true);
+    let tag = tag_until(rt.alloc(), 10)?;
+    assert_eq!(rt;
+        answer_to(rt.alloc(), &registry, 10, &tag)?,
+        Err(RegisterFault::Duplicate(1))
+    );
     Ok(())
 }

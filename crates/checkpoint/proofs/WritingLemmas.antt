@@ -25,7 +25,8 @@ use Rattle.node_rows.specs.declared.rows.MetaRow.{MetaRow}
 use Rattle.node_rows.specs.Rows.{item_rows, AreOfSameNodes}
 use Rattle.node_rows.proofs.NameLengthLemmas.{short_name_or_none, short_attribute_name}
 use Rattle.checkpoint_image.specs.NodeSpelling.{nodes_spelling, IsSpellableNode, AreSpellableNodes, HasFittingParts}
-use Rattle.checkpoint_image.specs.ImageSpelling.{head_spelling, statements_spelling, issues_spelling, image_spelling, IsSpellableEntry, IsSpellableIssue, IsSpellableImage, HasFittingSignature, HasFewCited, HaveFittingRows}
+use Rattle.checkpoint_image.specs.ImageSpelling.{head_spelling, statements_spelling, issues_spelling, fields_spelling, image_spelling, IsSpellableEntry, IsSpellableIssue, IsSpellableImage, HasFittingSignature, HasFewCited, HaveFittingRows}
+use Rattle.checkpoint_image.specs.WithdrawnNumbers.{withdrawn_numbers_spelling}
 use Rattle.checkpoint_image.proofs.LoopLemmas.{as_many_rows}
 use Rattle.checkpoint_image.proofs.WorldLemmas.{worlds_have_images}
 use Rattle.checkpoint.specs.Reading.{IsSpelledAs, current}
@@ -61,16 +62,23 @@ rows_fit world trees metas is same rows_are =
 
 -- ---- an image
 
--- what stands before the nodes, and the nodes, are the image
-pub image_written : (world : World) (statements : List RegisteredView) (issues : List Issue) (moment : ℤ) (count : ℕ) → front_spelling statements issues moment count world.next ++ nodes_spelling world.rows ≡ image_spelling (state_with world statements issues moment count)
-unfolding image_spelling
-image_written world statements issues moment count =
+fields_written : (world : World) (statements : List RegisteredView) (issues : List Issue) (moment : ℤ) (count : ℕ)
+    → (head_spelling moment count world.next ++ (statements_spelling statements ++ issues_spelling issues)) ++ nodes_spelling world.rows ≡ fields_spelling (state_with world statements issues moment count)
+unfolding fields_spelling
+fields_written world statements issues moment count =
     append_assoc (head_spelling moment count world.next) (statements_spelling statements ++ issues_spelling issues) (nodes_spelling world.rows)
     ∙ ap (λ (bytes : List ℕ). head_spelling moment count world.next ++ bytes) (append_assoc (statements_spelling statements) (issues_spelling issues) (nodes_spelling world.rows))
 
+-- what stands before the nodes, the nodes, and the numbers of the withdrawn statements are the image
+pub image_written : (world : World) (statements : List RegisteredView) (issues : List Issue) (moment : ℤ) (count : ℕ)
+    → (front_spelling statements issues moment count world.next ++ nodes_spelling world.rows) ++ withdrawn_numbers_spelling statements ≡ image_spelling (state_with world statements issues moment count)
+unfolding image_spelling
+image_written world statements issues moment count =
+    ap (λ (fields : List ℕ). 2 ∷ (fields ++ withdrawn_numbers_spelling statements)) (fields_written world statements issues moment count)
+
 -- a state that was written is spelled by its image
 pub is_image : (world : World) (statements : List RegisteredView) (issues : List Issue) (moment : ℤ) (count : ℕ) (image front : List ℕ) (rows : List (ℕ × Item)) → IsWorld world → FitsImage (state_with world statements issues moment count)
-    → count < 2 ^ 64 → AllByRecursion IsSpellableEntry statements → AllByRecursion IsSpellableIssue issues → front ≡ front_spelling statements issues moment count world.next → rows ≡ world.rows → image ≡ front ++ nodes_spelling rows
+    → count < 2 ^ 64 → AllByRecursion IsSpellableEntry statements → AllByRecursion IsSpellableIssue issues → front ≡ front_spelling statements issues moment count world.next → rows ≡ world.rows → image ≡ (front ++ nodes_spelling rows) ++ withdrawn_numbers_spelling statements
     → IsWrittenImageOf (state_with world statements issues moment count) image
 is_image world statements issues moment count image front rows is fits counted entries each front_is rows_are image_is = record {
   is_image = record { world = is; spelled = subst (IsSpelledAs state) (sym written) (current spellable) };
@@ -81,7 +89,7 @@ is_image world statements issues moment count image front rows is fits counted e
     state = state_with world statements issues moment count
 
     written : image ≡ image_spelling state
-    written = image_is ∙ (ap₂ (λ (bytes : List ℕ) (nodes : List (ℕ × Item)). bytes ++ nodes_spelling nodes) front_is rows_are ∙ image_written world statements issues moment count)
+    written = image_is ∙ (ap₂ (λ (bytes : List ℕ) (nodes : List (ℕ × Item)). (bytes ++ nodes_spelling nodes) ++ withdrawn_numbers_spelling statements) front_is rows_are ∙ image_written world statements issues moment count)
 
     spellable : IsSpellableImage state
     spellable = record {

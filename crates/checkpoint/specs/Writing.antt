@@ -1,5 +1,5 @@
 -- Which states have an image, beyond what their type says. This project's own.
-use Rattle.std.specs.Prelude.{◌≡◌, ℕ, ℤ, List, ◌++◌}
+use Rattle.std.specs.Prelude.{◌≡◌, ℕ, ℤ, List, ◌∷◌, ◌++◌}
 use Rattle.bl_syntax.specs.TimeOrder.{IsMoment}
 use Rattle.policy_statement.specs.Registered.{RegisteredView}
 use Rattle.file_world.specs.World.{World}
@@ -23,6 +23,6 @@ pub record IsWrittenImageOf (base : BaseView) (image : List ℕ) : Type 0 where
 abbrev pub state_with : World → List RegisteredView → List Issue → ℤ → ℕ → BaseView
 state_with world statements issues moment count = record { world = world; statements = statements; issues = issues; moment = moment; count = count }
 
--- the image of a state but for its nodes
+-- what stands before the nodes in the image of a state
 abbrev pub front_spelling : List RegisteredView → List Issue → ℤ → ℕ → ℕ → List ℕ
-front_spelling statements issues moment count next = head_spelling moment count next ++ (statements_spelling statements ++ issues_spelling issues)
+front_spelling statements issues moment count next = 2 ∷ (head_spelling moment count next ++ (statements_spelling statements ++ issues_spelling issues))

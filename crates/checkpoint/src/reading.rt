@@ -33,8 +33,9 @@ fn state_of(alloc: Global, image: Image) -> Result<Base, CodecFault>
     }
 }
 
-/// Reads the image of a state, which is the whole of the bytes: the state, or the first fault. Any field outside its
-/// grammar comes first, then nodes that are no world within the limits, then bytes that are left over.
+/// Reads the image of a state, which is the whole of the bytes: the state, or the first fault. Another version, a field
+/// outside its grammar, or a number of no statement that was withdrawn after the one before it comes first, then nodes that
+/// are no world within the limits, then bytes that are left over.
 pub fn read_base(alloc: Global, bytes: &[u8]) -> Result<Base, CodecFault>
     ensures { GivesImage bytes.now result }
 {

@@ -8,7 +8,9 @@ ghost use Rattle.checkpoint.specs.Writing.{FitsImage, IsWrittenImageOf, state_wi
 
 use access_history::{Base, History, Issue};
 use bl_syntax::{Bytes, NoMemory, Sequence};
-use checkpoint_image::{write_head, write_issues, write_nodes, write_statements};
+use checkpoint_image::{
+    write_head, write_issues, write_nodes, write_statements, write_version, write_withdrawn_numbers,
+};
 use node_rows::{MetaRow, TreeRow};
 use policy_statement::Registered;
 use std::alloc::Global;
@@ -43,7 +45,7 @@ fn with_room(bytes: Bytes, room: usize) -> Result<Bytes, NoMemory>
     Ok(Sequence::from_vec(bytes))
 }
 
-// All of an image but its nodes.
+// What stands before the nodes in an image.
 fn begun(
     alloc: Global,
     statements: &[Registered],
@@ -59,6 +61,7 @@ fn begun(
     ensures issues { IfOk result (λ image. AllByRecursion IsSpellableIssue issues.now) }
 {
     let mut image = Sequence::new(alloc);
+    write_version(&mut image)?;
     write_head(moment, count, next, &mut image)?;
     write_statements(statements, &mut image)?;
     write_issues(issues, &mut image)?;
@@ -83,6 +86,7 @@ fn image_of(
     let room = room_for(tree.as_slice(), meta.as_slice());
     let mut image = with_room(image, room)?;
     write_nodes(tree.as_slice(), meta.as_slice(), &mut image)?;
+    write_withdrawn_numbers(statements, &mut image)?;
     Ok(image)
 }
 

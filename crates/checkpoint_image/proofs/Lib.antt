@@ -5,4 +5,5 @@ pub mod ImageLemmas
 pub mod LoopLemmas
 pub mod NodeLemmas
 pub mod OrderLemmas
+pub mod WithdrawnLemmas
 pub mod WorldLemmas

@@ -1,7 +1,8 @@
 -- Reading the image of a state from the left: the state and the bytes after it, or the first fault. Whether its nodes are a tree is no question of a single field. This project's own.
-use Rattle.std.specs.Prelude.{ℕ, ℤ, List, length, Result, Ok}
+use Rattle.std.specs.Prelude.{ℕ, ℤ, List, [], ◌∷◌, ◌==◌, false, length, if◌then◌else◌, Result, Ok, Err}
 use Rattle.bl_syntax.specs.declared.codec_fault.CodecFault.{CodecFault}
-use Rattle.bl_syntax.specs.Reading.{◌>>=◌, Reading, map_reading}
+use Rattle.bl_syntax.specs.declared.codec_fault.CodecFault.TheVariants.{Short, BadTag}
+use Rattle.bl_syntax.specs.Reading.{◌>>=◌, Reading, map_reading, place}
 use Rattle.policy_statement.specs.Registered.{RegisteredView}
 use Rattle.procap.specs.Procap.{at_end}
 use Rattle.file_world.specs.World.{Item}
@@ -14,6 +15,7 @@ use Rattle.node_rows.specs.Rows.{item_rows}
 use Rattle.checkpoint_image.specs.declared.image.Image.{Image}
 use Rattle.checkpoint_image.specs.Chain.{long_list_at, alone, nothing_left}
 use Rattle.checkpoint_image.specs.NodeReading.{nodes_at}
+use Rattle.checkpoint_image.specs.WithdrawnNumbers.{marked_all, withdrawn_numbers_at}
 
 -- the number of the last event, and the number of the next node
 unfoldable pub counts_at : List ℕ → Reading (ℕ × ℕ)
@@ -29,9 +31,9 @@ head_at input bytes = do
   counts ← counts_at moment.1
   Ok ((moment.0, counts.0), counts.1)
 
--- a statement with its signature
+-- a statement with its signature, which was not withdrawn
 abbrev pub entry_of : Registration → RegisteredView
-entry_of r = record { statement = r.0; signature = r.1 }
+entry_of r = record { statement = r.0; signature = r.1; withdrawn = false }
 
 abbrev pub entry_at : ℕ → List ℕ → Reading RegisteredView
 entry_at input bytes = map_reading entry_of (registered_at input bytes)
@@ -65,7 +67,7 @@ lists_at input bytes = do
   others ← issues_and_nodes_at input statements.1
   Ok ((statements.0, others.0), others.1)
 
--- all parts of an image, as they stand one after the other
+-- all fields of an image, as they stand one after the other
 unfoldable pub parts_at : ℕ → List ℕ → Reading ((ℤ × (ℕ × ℕ)) × (List RegisteredView × (List Issue × List (ℕ × Item))))
 parts_at input bytes = do
   head ← head_at input bytes
@@ -76,9 +78,26 @@ parts_at input bytes = do
 abbrev pub base_of_parts : (ℤ × (ℕ × ℕ)) × (List RegisteredView × (List Issue × List (ℕ × Item))) → BaseView
 base_of_parts p = record { world = record { rows = p.1.1.1; next = p.0.1.1 }; statements = p.1.0; issues = p.1.1.0; moment = p.0.0; count = p.0.1.0 }
 
--- the state of an image
-abbrev pub image_at : ℕ → List ℕ → Reading BaseView
-image_at input bytes = map_reading base_of_parts (parts_at input bytes)
+-- the state of these fields, in which all statements stand
+abbrev pub fields_at : ℕ → List ℕ → Reading BaseView
+fields_at input bytes = map_reading base_of_parts (parts_at input bytes)
+
+-- the state after the statements of these numbers were withdrawn
+abbrev pub with_withdrawn : BaseView → List ℕ → BaseView
+with_withdrawn base numbers =
+    record { world = base.world; statements = marked_all base.statements numbers; issues = base.issues; moment = base.moment; count = base.count }
+
+-- the fields, and the numbers of the withdrawn statements
+unfoldable pub state_at : ℕ → List ℕ → Reading BaseView
+state_at input bytes = do
+  fields ← fields_at input bytes
+  numbers ← withdrawn_numbers_at (length fields.0.statements) input fields.1
+  Ok (with_withdrawn fields.0 numbers.0, numbers.1)
+
+-- the state of an image: the version, and what stands after it
+unfoldable pub image_at : ℕ → List ℕ → Reading BaseView
+image_at input [] = Err Short
+image_at input (version ∷ rest) = if version == 2 then state_at input rest else Err (BadTag (place input (version ∷ rest)))
 
 -- a state whose image is the whole input, or the first fault: nothing may be left over
 unfoldable pub whole_image : List ℕ → Result BaseView CodecFault

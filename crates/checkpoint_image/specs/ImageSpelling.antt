@@ -1,5 +1,5 @@
 -- The image of a state, with which an area begins: its one spelling. The format is this project's own. Its numbers are big-endian.
-use Rattle.std.specs.Prelude.{ℕ, ℤ, List, ◌++◌, ◌<◌, ◌≤◌, ◌^◌, length}
+use Rattle.std.specs.Prelude.{ℕ, ℤ, List, ◌∷◌, ◌++◌, ◌<◌, ◌≤◌, ◌^◌, length}
 use Rattle.std.specs.List.{AllByRecursion}
 use Rattle.bl_syntax.specs.TimeOrder.{IsMoment}
 use Rattle.policy_statement.specs.Registered.{RegisteredView}
@@ -13,12 +13,13 @@ use Rattle.node_rows.specs.Rows.{item_rows, AreOfSameNodes}
 use Rattle.checkpoint_image.specs.declared.image.Image.{Image}
 use Rattle.checkpoint_image.specs.Chain.{long_list_spelling}
 use Rattle.checkpoint_image.specs.NodeSpelling.{nodes_spelling, AreSpellableNodes, HasFittingParts}
+use Rattle.checkpoint_image.specs.WithdrawnNumbers.{AreStanding, withdrawn_numbers_spelling}
 
 -- the greatest moment so far, the number of the last event, and the number of the next node
 unfoldable pub head_spelling : ℤ → ℕ → ℕ → List ℕ
 head_spelling moment count next = moment_spelling moment ++ (number_spelling count ++ number_spelling next)
 
--- a statement, and its signature
+-- a statement, and its signature. Whether it was withdrawn stands at the end of the image.
 abbrev pub entry_spelling : RegisteredView → List ℕ
 entry_spelling entry = registered_spelling entry.statement entry.signature
 
@@ -40,10 +41,14 @@ IsSpellableIssue issue = IsSpellableIssued issue.cited issue.proof issue.grant
 abbrev pub issues_spelling : List Issue → List ℕ
 issues_spelling issues = long_list_spelling issue_spelling issues
 
--- the image of a state: its head, its statements, its issues, and its nodes
-unfoldable pub image_spelling : BaseView → List ℕ
-image_spelling base =
+-- the fields of a state: its head, its statements, its issues, and its nodes
+unfoldable pub fields_spelling : BaseView → List ℕ
+fields_spelling base =
     head_spelling base.moment base.count base.world.next ++ (statements_spelling base.statements ++ (issues_spelling base.issues ++ nodes_spelling base.world.rows))
+
+-- the image of a state: the version, which is 2, its fields, and the numbers of the withdrawn statements
+unfoldable pub image_spelling : BaseView → List ℕ
+image_spelling base = 2 ∷ (fields_spelling base ++ withdrawn_numbers_spelling base.statements)
 
 -- few enough items for a count of four bytes, each with a spelling
 pub record AreSpelledIn {A : Type 0} (IsSpelled : A → Type 0) (items : List A) : Type 0 where
@@ -58,6 +63,11 @@ pub record IsSpellableImage (base : BaseView) : Type 0 where
   pub statements : AreSpelledIn IsSpellableEntry base.statements
   pub issues : AreSpelledIn IsSpellableIssue base.issues
   pub nodes : AreSpellableNodes base.world.rows
+
+-- a state of which the fields tell all: it has an image, and none of its statements was withdrawn
+pub record AreFieldsOf (base : BaseView) : Type 0 where
+  pub spelled : IsSpellableImage base
+  pub standing : AreStanding base.statements
 
 -- the signature fits its field
 abbrev pub HasFittingSignature : RegisteredView → Type 0

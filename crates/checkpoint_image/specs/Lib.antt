@@ -3,3 +3,4 @@ pub mod ImageReading
 pub mod ImageSpelling
 pub mod NodeReading
 pub mod NodeSpelling
+pub mod WithdrawnNumbers

@@ -1,17 +1,19 @@
 //! Reading the image of a state.
 
-ghost use Rattle.std.specs.Prelude.{IfOk};
+ghost use Rattle.std.specs.Prelude.{◌≡◌, IfOk};
 ghost use Rattle.bl_syntax.specs.Reading.{GivesReading};
 ghost use Rattle.bl_syntax.specs.Codec.{GivesReadingOrReports};
 ghost use Rattle.node_rows.specs.Rows.{item_rows, AreOfSameNodes};
 ghost use Rattle.checkpoint_image.specs.Chain.{chain_at, alone, nothing_left};
 ghost use Rattle.checkpoint_image.specs.ImageSpelling.{HasFittingFields};
-ghost use Rattle.checkpoint_image.specs.ImageReading.{counts_at, head_at, entry_at, statements_at, issue_at, issues_at, issues_and_nodes_at, lists_at, image_at, base_of_image};
+ghost use Rattle.checkpoint_image.specs.ImageReading.{counts_at, head_at, entry_at, statements_at, issue_at, issues_at, issues_and_nodes_at, lists_at, fields_at, with_withdrawn, state_at, image_at, base_of_image};
+ghost use Rattle.checkpoint_image.specs.WithdrawnNumbers.{withdrawn_numbers_at};
 
 use crate::image::Image;
 use crate::node_reading::nodes_at;
+use crate::withdrawn_numbers::{mark_all, withdrawn_numbers_at};
 use access_history::{Issue, Issues, Statements};
-use bl_syntax::fields::{u32_at, u64_at};
+use bl_syntax::fields::{place, u32_at, u64_at};
 use bl_syntax::{CodecFault, Sequence};
 use node_rows::{MetaRows, TreeRows};
 use policy_statement::Registered;
@@ -186,10 +188,10 @@ fn lists_at(
     }
 }
 
-// The parts of an image.
+// The fields of an image. All statements stand in them.
 #[tactic(auto, using(bl_syntax::proofs::ReportsFaultLemmas::hands_on, bl_syntax::proofs::ReportsFaultLemmas::stops), unfolding(crate::specs::ImageReading::parts_at))]
-fn parts_at(alloc: Global, input: usize, bytes: &[u8]) -> Result<(Image, &[u8]), CodecFault>
-    ensures read { GivesReadingOrReports (λ x. (base_of_image x.0, x.1.now)) result (image_at input bytes.now) }
+fn fields_at(alloc: Global, input: usize, bytes: &[u8]) -> Result<(Image, &[u8]), CodecFault>
+    ensures read { GivesReadingOrReports (λ x. (base_of_image x.0, x.1.now)) result (fields_at input bytes.now) }
     ensures same { IfOk result (λ x. AreOfSameNodes x.0.tree x.0.meta) }
 {
     match head_at(input, bytes) {
@@ -212,11 +214,71 @@ fn parts_at(alloc: Global, input: usize, bytes: &[u8]) -> Result<(Image, &[u8]),
     }
 }
 
+// The image after the statements of these numbers were withdrawn.
+fn with_withdrawn(image: Image, numbers: &[u32]) -> Image
+    ensures base { base_of_image result ≡ with_withdrawn (base_of_image image) numbers.now }
+    ensures tree { result.tree ≡ image.tree }
+    ensures meta { result.meta ≡ image.meta }
+{
+    let Image {
+        moment,
+        count,
+        next,
+        statements,
+        issues,
+        tree,
+        meta,
+    } = image;
+    let mut entries = statements.into_vec();
+    mark_all(&mut entries, numbers);
+    Image {
+        moment,
+        count,
+        next,
+        statements: Sequence::from_vec(entries),
+        issues,
+        tree,
+        meta,
+    }
+}
+
+// The fields, and the numbers of the withdrawn statements.
+#[tactic(auto, using(bl_syntax::proofs::ReportsFaultLemmas::hands_on, bl_syntax::proofs::ReportsFaultLemmas::stops), unfolding(crate::specs::ImageReading::state_at))]
+fn state_at(alloc: Global, input: usize, bytes: &[u8]) -> Result<(Image, &[u8]), CodecFault>
+    ensures read { GivesReadingOrReports (λ x. (base_of_image x.0, x.1.now)) result (state_at input bytes.now) }
+    ensures same { IfOk result (λ x. AreOfSameNodes x.0.tree x.0.meta) }
+{
+    match fields_at(alloc, input, bytes) {
+        Err(fault) => Err(fault),
+        Ok((image, rest)) => {
+            let most = image.statements.len();
+            match withdrawn_numbers_at(alloc, most, input, rest) {
+                Err(fault) => Err(fault),
+                Ok((numbers, rest)) => Ok((with_withdrawn(image, numbers.as_slice()), rest)),
+            }
+        }
+    }
+}
+
+// The version, and what stands after it.
+#[tactic(auto, unfolding(crate::specs::ImageReading::image_at))]
+fn versioned_at(alloc: Global, input: usize, bytes: &[u8]) -> Result<(Image, &[u8]), CodecFault>
+    ensures read { GivesReadingOrReports (λ x. (base_of_image x.0, x.1.now)) result (image_at input bytes.now) }
+    ensures same { IfOk result (λ x. AreOfSameNodes x.0.tree x.0.meta) }
+{
+    match bytes {
+        [] => Err(CodecFault::Short),
+        [2, rest @ ..] => state_at(alloc, input, rest),
+        [_, ..] => Err(CodecFault::BadTag(place(input, bytes))),
+    }
+}
+
 /// Reads an image at the front of `bytes`, the rest of an input of `input` bytes: the state and the bytes after it, or the
-/// first fault. Its rows are of the same nodes, and it may be written again.
+/// first fault: of the version, of the fields in order, and of the numbers of the withdrawn statements. Its rows are of the
+/// same nodes, and it may be written again.
 pub fn image_at(alloc: Global, input: usize, bytes: &[u8]) -> Result<(Image, &[u8]), CodecFault>
     ensures read { GivesReadingOrReports (λ x. (base_of_image x.0, x.1.now)) result (image_at input bytes.now) }
     ensures fits { IfOk result (λ x. HasFittingFields x.0) }
 {
-    parts_at(alloc, input, bytes)
+    versioned_at(alloc, input, bytes)
 }

@@ -1,15 +1,16 @@
 //! Writing the image of a state. Each writer adds its part at the end, or nothing.
 
-ghost use Rattle.std.specs.Prelude.{◌≡◌, ◌++◌, OnOk, OnErr};
+ghost use Rattle.std.specs.Prelude.{◌≡◌, ◌∷◌, ◌++◌, [], OnOk, OnErr};
 ghost use Rattle.std.specs.List.{AllByRecursion, flat_map};
 ghost use Rattle.bl_syntax.specs.BeginsWith.{BeginsWith};
 ghost use Rattle.node_rows.specs.Rows.{item_rows};
 ghost use Rattle.checkpoint_image.specs.NodeSpelling.{nodes_spelling};
-ghost use Rattle.checkpoint_image.specs.ImageSpelling.{head_spelling, entry_spelling, IsSpellableEntry, statements_spelling, issue_spelling, IsSpellableIssue, issues_spelling, image_spelling, AreSpelledIn, HasFittingSignature, HasFewCited, HaveFittingRows, HasFittingFields};
+ghost use Rattle.checkpoint_image.specs.ImageSpelling.{head_spelling, entry_spelling, IsSpellableEntry, statements_spelling, issue_spelling, IsSpellableIssue, issues_spelling, fields_spelling, image_spelling, AreSpelledIn, HasFittingSignature, HasFewCited, HaveFittingRows, HasFittingFields};
 ghost use Rattle.checkpoint_image.specs.ImageReading.{base_of_image};
 
 use crate::image::Image;
 use crate::node_writing::add_each_node;
+use crate::withdrawn_numbers::write_withdrawn_numbers;
 use access_history::Issue;
 use bl_syntax::fields::u32_bytes;
 use bl_syntax::{Bytes, NoMemory};
@@ -17,6 +18,17 @@ use node_rows::{MetaRow, TreeRow};
 use policy_statement::Registered;
 use record_parts::fields::{put_moment, put_number};
 use record_parts::{write_issued, write_registered};
+
+/// The version of images.
+const VERSION: u8 = 2;
+
+/// Adds the version of images, with which each begins.
+pub fn write_version(out: &mut Bytes) -> Result<(), NoMemory>
+    ensures ok { OnOk result (out.new ≡ out.old ++ 2 ∷ []) }
+    ensures err { OnErr result (out.new ≡ out.old) }
+{
+    out.push(VERSION)
+}
 
 /// Adds the greatest moment so far, the number of the last event, and the number of the next node.
 pub fn write_head(moment: i64, count: u64, next: u64, out: &mut Bytes) -> Result<(), NoMemory>
@@ -191,6 +203,20 @@ pub fn write_image(image: &Image, out: &mut Bytes) -> Result<(), NoMemory>
 fn add_image(image: &Image, out: &mut Bytes) -> Result<(), NoMemory>
     requires { HasFittingFields image.now }
     ensures ok { OnOk result (out.new ≡ out.old ++ image_spelling (base_of_image image.now)) }
+    ensures statements_spelled { OnOk result (AllByRecursion IsSpellableEntry image.now.statements) }
+    ensures issues_spelled { OnOk result (AllByRecursion IsSpellableIssue image.now.issues) }
+    ensures err { OnErr result (BeginsWith out.new out.old) }
+{
+    write_version(out)?;
+    add_fields(image, out)?;
+    write_withdrawn_numbers(image.statements.as_slice(), out)
+}
+
+// Adds the fields of a state, or a front of them.
+#[tactic(auto, using(bl_syntax::proofs::BeginsWithLemmas::writing), unfolding(crate::specs::ImageSpelling::fields_spelling))]
+fn add_fields(image: &Image, out: &mut Bytes) -> Result<(), NoMemory>
+    requires { HasFittingFields image.now }
+    ensures ok { OnOk result (out.new ≡ out.old ++ fields_spelling (base_of_image image.now)) }
     ensures statements_spelled { OnOk result (AllByRecursion IsSpellableEntry image.now.statements) }
     ensures issues_spelled { OnOk result (AllByRecursion IsSpellableIssue image.now.issues) }
     ensures err { OnErr result (BeginsWith out.new out.old) }

@@ -12,11 +12,11 @@ use Rattle.bl_syntax.proofs.ReportsFaultLemmas.{stops, hands_on, stops_with}
 use Rattle.procap.specs.Procap.{at_end}
 use Rattle.procap.proofs.ItemsLemmas.{test_memoryless}
 use Rattle.access_history.specs.declared.event.Event.{Event}
-use Rattle.access_history.specs.declared.event.Event.TheVariants.{Registered, Issued, Acted}
-use Rattle.record_parts.specs.RecordSpelling.{Registration, IsRegistration, registration_spelling, Issuing, IsIssuing, issuing_spelling, Action, IsAction, action_spelling}
-use Rattle.record_parts.specs.RecordReading.{registered_at, issued_at, acted_at}
+use Rattle.access_history.specs.declared.event.Event.TheVariants.{Registered, Withdrawn, Issued, Acted}
+use Rattle.record_parts.specs.RecordSpelling.{Registration, IsRegistration, registration_spelling, Withdrawal, IsWithdrawal, withdrawal_spelling, Issuing, IsIssuing, issuing_spelling, Action, IsAction, action_spelling}
+use Rattle.record_parts.specs.RecordReading.{registered_at, withdrawn_at, issued_at, acted_at}
 use Rattle.record_parts.proofs.OperationLemmas.{spelled_fits}
-use Rattle.record_parts.proofs.RecordLemmas.{registered_codec, issued_codec, acted_codec}
+use Rattle.record_parts.proofs.RecordLemmas.{registered_codec, withdrawn_codec, issued_codec, acted_codec}
 use Rattle.access_history.specs.Passes.{erase}
 use Rattle.journal_records.specs.EventSpelling.{event_spelling, IsSpellableEvent, HasFittingFields, IsReadEvent}
 use Rattle.journal_records.specs.EventReading.{event_at, whole_event, ReadsWholeEvent}
@@ -29,6 +29,9 @@ issued i = Issued 0 i.0 i.1.0 i.1.1
 
 abbrev acted : Action → Event
 acted a = Acted 0 a.0 a.1.0 a.1.1.0 a.1.1.1
+
+abbrev withdrawn : Withdrawal → Event
+withdrawn w = Withdrawn 0 w.0 w.1
 
 abbrev Spells : List ℕ → Event → List ℕ → Type 0
 Spells bytes e rest = IsReadEvent e × (bytes ≡ event_spelling e ++ rest)
@@ -49,7 +52,8 @@ event_found input (tag ∷ more) rest e fits read =
     let behind : AreBytes more = AreBytes-rest tag more fits in
     by_test (eqb tag 1) _ _ _ read (λ is h. with_tag IsRegistration registration_spelling registered_at registered 1 registered_codec (λ x k. record { spelled = k; erased = refl }) (λ x. refl) input tag more rest e behind (eqb-true tag 1 is) h) (λ _ e1.
     by_test (eqb tag 2) _ _ _ e1 (λ is h. with_tag IsIssuing issuing_spelling issued_at issued 2 issued_codec (λ x k. record { spelled = k; erased = refl }) (λ x. refl) input tag more rest e behind (eqb-true tag 2 is) h) (λ _ e2.
-    by_test (eqb tag 3) _ _ _ e2 (λ is h. with_tag IsAction action_spelling acted_at acted 3 acted_codec (λ x k. record { spelled = k; erased = refl }) (λ x. refl) input tag more rest e behind (eqb-true tag 3 is) h) (λ _ fault. absurd cc)))
+    by_test (eqb tag 3) _ _ _ e2 (λ is h. with_tag IsAction action_spelling acted_at acted 3 acted_codec (λ x k. record { spelled = k; erased = refl }) (λ x. refl) input tag more rest e behind (eqb-true tag 3 is) h) (λ _ e3.
+    by_test (eqb tag 4) _ _ _ e3 (λ is h. with_tag IsWithdrawal withdrawal_spelling (λ input. withdrawn_at) withdrawn 4 withdrawn_codec (λ x k. record { spelled = k; erased = refl }) (λ x. refl) input tag more rest e behind (eqb-true tag 4 is) h) (λ _ fault. absurd cc))))
 
 -- whatever its pass
 spelled_again : (input : ℕ) (e : Event) (rest : List ℕ) → IsSpellableEvent e → event_at input (event_spelling e ++ rest) ≡ Ok (erase e, rest)
@@ -57,6 +61,7 @@ unfolding event_at event_spelling
 spelled_again input (Registered pass statement signature) rest h = ap (map_reading registered) (registered_codec.again input (statement, signature) rest h)
 spelled_again input (Issued pass cited proof grant) rest h = ap (map_reading issued) (issued_codec.again input (cited, (proof, grant)) rest h)
 spelled_again input (Acted pass caller op procaps moment) rest h = ap (map_reading acted) (acted_codec.again input (caller, (op, (procaps, moment))) rest h)
+spelled_again input (Withdrawn pass number signature) rest h = ap (map_reading withdrawn) (withdrawn_codec.again input (number, signature) rest h)
 
 abbrev done : {A : Type 0} → A → Result A CodecFault
 done x = Ok x
@@ -70,7 +75,8 @@ event_memoryless input [] e = cc
 event_memoryless input (tag ∷ more) e =
     test_memoryless (eqb tag 1) _ _ (λ h. made_memoryless registered (registered_at input more) (registered_codec.memoryless input more) h) (λ e1.
     test_memoryless (eqb tag 2) _ _ (λ h. made_memoryless issued (issued_at input more) (issued_codec.memoryless input more) h) (λ e2.
-    test_memoryless (eqb tag 3) _ _ (λ h. made_memoryless acted (acted_at input more) (acted_codec.memoryless input more) h) (λ h. cc) e2) e1) e
+    test_memoryless (eqb tag 3) _ _ (λ h. made_memoryless acted (acted_at input more) (acted_codec.memoryless input more) h) (λ e3.
+    test_memoryless (eqb tag 4) _ _ (λ h. made_memoryless withdrawn (withdrawn_at more) (withdrawn_codec.memoryless input more) h) (λ h. cc) e3) e2) e1) e
 
 pub event_codec : IsCodec IsReadEvent event_spelling event_at
 event_codec = codec IsReadEvent event_spelling event_at event_found event_again event_memoryless
@@ -82,11 +88,13 @@ unfolding event_spelling
 same_spelling (Registered pass statement signature) = refl
 same_spelling (Issued pass cited proof grant) = refl
 same_spelling (Acted pass caller op procaps moment) = refl
+same_spelling (Withdrawn pass number signature) = refl
 
 pub erased_spellable : (e : Event) → IsSpellableEvent e → IsSpellableEvent (erase e)
 erased_spellable (Registered pass statement signature) is = is
 erased_spellable (Issued pass cited proof grant) is = is
 erased_spellable (Acted pass caller op procaps moment) is = is
+erased_spellable (Withdrawn pass number signature) is = is
 
 pub apart : (e d : Event) (rest others : List ℕ) → IsSpellableEvent e → IsSpellableEvent d → event_spelling e ++ rest ≡ event_spelling d ++ others → (erase e ≡ erase d) × (rest ≡ others)
 apart e d rest others first second is =
@@ -151,6 +159,7 @@ read_fits : (e : Event) → IsReadEvent e → HasFittingFields e
 read_fits (Registered pass statement signature) h = h.spelled.signed
 read_fits (Issued pass cited proof grant) h = h.spelled.numbers.few
 read_fits (Acted pass caller op procaps moment) h = (spelled_fits op h.spelled.words, (h.spelled.sealed.few, h.spelled.timed))
+read_fits (Withdrawn pass number signature) h = h.spelled.signed
 
 pub reads_what_fits : (bytes : List ℕ) (result : Result Event CodecFault) → AreBytes bytes → GivesReadingOrReports (λ d. d) result (whole_event bytes) → IfOk result HasFittingFields
 reads_what_fits bytes (Ok e) fits h = read_fits e (whole_found bytes e fits h).0

@@ -5,8 +5,8 @@ use Rattle.bl_syntax.specs.declared.codec_fault.CodecFault.TheVariants as faults
 use Rattle.bl_syntax.specs.Reading.{◌>>=◌, Reading, map_reading, place}
 use Rattle.procap.specs.Procap.{at_end}
 use Rattle.access_history.specs.declared.event.Event.{Event}
-use Rattle.access_history.specs.declared.event.Event.TheVariants.{Registered, Issued, Acted}
-use Rattle.record_parts.specs.RecordReading.{registered_at, issued_at, acted_at}
+use Rattle.access_history.specs.declared.event.Event.TheVariants.{Registered, Withdrawn, Issued, Acted}
+use Rattle.record_parts.specs.RecordReading.{registered_at, withdrawn_at, issued_at, acted_at}
 use Rattle.journal_records.specs.EventSpelling.{event_spelling, IsSpellableEvent, IsReadEvent}
 
 -- an event: the tag of its kind, and what happened
@@ -16,6 +16,7 @@ event_at input (tag ∷ rest) =
     if tag == 1 then map_reading (λ r. Registered 0 r.0 r.1) (registered_at input rest) else
     if tag == 2 then map_reading (λ i. Issued 0 i.0 i.1.0 i.1.1) (issued_at input rest) else
     if tag == 3 then map_reading (λ a. Acted 0 a.0 a.1.0 a.1.1.0 a.1.1.1) (acted_at input rest) else
+    if tag == 4 then map_reading (λ w. Withdrawn 0 w.0 w.1) (withdrawn_at rest) else
     Err (faults.BadTag (place input (tag ∷ rest)))
 
 -- an event that is the whole input, or the first fault: nothing may be left over

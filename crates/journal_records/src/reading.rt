@@ -10,7 +10,7 @@ ghost use Rattle.journal_records.specs.EventReading.{event_at, whole_event, Read
 use access_history::Event;
 use bl_syntax::CodecFault;
 use bl_syntax::fields::place;
-use record_parts::{acted_at, issued_at, registered_at};
+use record_parts::{acted_at, issued_at, registered_at, withdrawn_at};
 use std::alloc::Global;
 
 /// An event at the front of `bytes`, the rest of an input of `input` bytes.
@@ -52,6 +52,17 @@ fn event_at(alloc: Global, input: usize, bytes: &[u8]) -> Result<(Event, &[u8]),
                     op,
                     procaps,
                     moment,
+                },
+                rest,
+            )),
+        },
+        [4, rest @ ..] => match withdrawn_at(alloc, rest) {
+            Err(fault) => Err(fault),
+            Ok((number, signature, rest)) => Ok((
+                Event::Withdrawn {
+                    pass: 0,
+                    number,
+                    signature,
                 },
                 rest,
             )),

@@ -6,7 +6,7 @@ ghost use Rattle.journal_records.specs.EventSpelling.{event_spelling, IsSpellabl
 
 use access_history::Event;
 use bl_syntax::{Bytes, NoMemory};
-use record_parts::{write_acted, write_issued, write_registered};
+use record_parts::{write_acted, write_issued, write_registered, write_withdrawn};
 
 /// Adds the payload of an event, without its pass, or nothing. The moment of an operation lies in the range of moments, its
 /// names have at most 255 bytes, procaps and cited numbers are at most 255, and signatures and bytes to write have fewer
@@ -60,6 +60,14 @@ fn add_event(e: &Event, out: &mut Bytes) -> Result<(), NoMemory>
         } => {
             out.push(3)?;
             write_acted(caller, op, procaps.as_slice(), *moment, out)
+        }
+        Event::Withdrawn {
+            pass: _,
+            number,
+            signature,
+        } => {
+            out.push(4)?;
+            write_withdrawn(*number, signature.as_slice(), out)
         }
     }
 }

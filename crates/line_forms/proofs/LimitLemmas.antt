@@ -24,7 +24,7 @@ use Rattle.line_forms.specs.declared.command.Command.TheVariants as commands
 use Rattle.line_forms.specs.declared.asked.Line.{Line}
 use Rattle.line_forms.specs.declared.mode.Mode.{Mode}
 use Rattle.line_forms.specs.declared.forms.Form.{Form}
-use Rattle.line_forms.specs.declared.forms.Form.TheVariants.{At, As, Login, Register, Procap, Checkpoint, Verify, Check, Do, Statement, Goal}
+use Rattle.line_forms.specs.declared.forms.Form.TheVariants.{At, As, Login, Register, Withdraw, Procap, Checkpoint, Verify, Check, Do, Statement, Goal}
 use Rattle.line_forms.specs.declared.forms.Operation.{Operation}
 use Rattle.line_forms.specs.declared.forms.Operation.TheVariants.{Read, Write, Truncate, List as ListOf, Lookup, Create, Mkdir, Unlink, Rename, Getattr, Setattr, Delattr, Chown}
 use Rattle.line_forms.specs.Forms.{kinds_of_operation}
@@ -162,6 +162,7 @@ asked_within mode At behind a rest text asked words h =
 asked_within mode As behind a rest text asked words h = subst IsLineWithin (sym h) (named (last kinds.Who behind blank a rest words).set.0)
 asked_within mode Login behind a rest text asked words h = subst IsLineWithin (sym h) (login_words behind a rest words)
 asked_within mode Register behind a rest text asked words h = subst IsLineWithin (sym h.2) h.1.is_statement
+asked_within mode Withdraw behind a rest text asked words h = subst IsLineWithin (sym h) tt
 asked_within mode Procap behind a rest text asked words h = subst IsLineWithin (sym h) tt
 asked_within mode Checkpoint behind a rest text asked words h = subst IsLineWithin (sym h) tt
 asked_within mode Verify behind a rest text asked words h = subst IsLineWithin (sym h.2) (cited_of_words behind a rest words, IsProofText-times h.1)

@@ -16,7 +16,7 @@ use Rattle.line_forms.specs.declared.mode.Mode.{Mode}
 use Rattle.line_forms.specs.declared.command.Command.{Command}
 use Rattle.line_forms.specs.declared.command.Command.TheVariants as commands
 use Rattle.line_forms.specs.declared.forms.Form.{Form}
-use Rattle.line_forms.specs.declared.forms.Form.TheVariants.{At, As, Login, Register, Procap, Checkpoint, Verify, Check, Do, Statement, Goal}
+use Rattle.line_forms.specs.declared.forms.Form.TheVariants.{At, As, Login, Register, Withdraw, Procap, Checkpoint, Verify, Check, Do, Statement, Goal}
 use Rattle.line_forms.specs.declared.fault.LineFault.{LineFault}
 use Rattle.line_forms.specs.declared.fault.LineFault.TheVariants.{BadWord, BadText}
 use Rattle.proof_term.specs.Proof.{ProofView}
@@ -66,6 +66,7 @@ IsAsked-unique At a text first second h k = h ∙ sym k
 IsAsked-unique As a text first second h k = h ∙ sym k
 IsAsked-unique Login a text first second h k = h ∙ sym k
 IsAsked-unique Register a text first second h k = h.2 ∙ ap (λ s. lines.Command (commands.Register a.signature s)) (saying_once h.1.is_text k.1.is_text) ∙ sym k.2
+IsAsked-unique Withdraw a text first second h k = h ∙ sym k
 IsAsked-unique Procap a text first second h k = h ∙ sym k
 IsAsked-unique Checkpoint a text first second h k = h ∙ sym k
 IsAsked-unique Verify a text first second h k = goal_once a (λ p. lines.Command (commands.Verify (written_goal a) a.cited p)) text first second h k
@@ -95,6 +96,7 @@ asked_or_fault At a text asked fault h k = absurd k
 asked_or_fault As a text asked fault h k = absurd k
 asked_or_fault Login a text asked fault h k = absurd k
 asked_or_fault Register a text asked fault h k = statement_or_fault h.1 k
+asked_or_fault Withdraw a text asked fault h k = absurd k
 asked_or_fault Procap a text asked fault h k = absurd k
 asked_or_fault Checkpoint a text asked fault h k = absurd k
 asked_or_fault Verify a text asked fault h k = proof_or_fault h.1 k
@@ -142,6 +144,7 @@ text_fault_once At text e f h k first second = absurd h
 text_fault_once As text e f h k first second = absurd h
 text_fault_once Login text e f h k first second = absurd h
 text_fault_once Register text e f h k first second = one_if_told (statement_fault_once h k) first second
+text_fault_once Withdraw text e f h k first second = absurd h
 text_fault_once Procap text e f h k first second = absurd h
 text_fault_once Checkpoint text e f h k first second = absurd h
 text_fault_once Verify text e f h k first second = one_if_told (fault_once h k) first second

@@ -17,7 +17,7 @@ use Rattle.line_forms.specs.declared.mode.Mode.{Mode}
 use Rattle.line_forms.specs.declared.mode.Mode.TheVariants.{Operator, Guest, User, Inquiry}
 use Rattle.line_forms.specs.declared.mode.Modes.{Modes}
 use Rattle.line_forms.specs.declared.forms.Form.{Form}
-use Rattle.line_forms.specs.declared.forms.Form.TheVariants.{At, As, Login, Register, Procap, Checkpoint, Verify, Check, Do, Statement, Goal}
+use Rattle.line_forms.specs.declared.forms.Form.TheVariants.{At, As, Login, Register, Withdraw, Procap, Checkpoint, Verify, Check, Do, Statement, Goal}
 use Rattle.line_forms.specs.declared.forms.Operation.{Operation}
 use Rattle.line_forms.specs.declared.fault.LineFault.{LineFault}
 use Rattle.line_forms.specs.Forms.{form_named, operation_named, kinds_of_operation}
@@ -25,7 +25,7 @@ use Rattle.line_forms.specs.Heads.{Head, by_form, by_operation, do_head, head_in
 use Rattle.line_forms.specs.Lines.{IsAsked, kinds_said, IsLineIn}
 use Rattle.line_forms.specs.Modes.{modes_of, is_admin, is_in, known, is_session}
 use Rattle.line_forms.specs.Said.{IsWrittenOut, IsSaidInScript, IsSaidInSession, IsSaidByUser, IsSaidInInquiry, IsSaidIn}
-use Rattle.line_forms.proofs.LimitLemmas.{last}
+use Rattle.line_forms.proofs.LimitLemmas.{others, last}
 
 -- ---- the form of a line is known in its mode
 
@@ -87,6 +87,7 @@ one_out kinds.Who word before after set h = kept before after _ set.1 refl h
 one_out kinds.Permission word before after set h = kept before after _ set.1 refl h
 one_out kinds.Second word before after set h = kept before after _ set.1 refl h
 one_out kinds.Issue word before after set h = kept before after _ set.1 refl h
+one_out kinds.Number word before after set h = kept before after _ set.1 refl h
 one_out kinds.Cited word before after set h = kept before after _ set.1 refl h
 one_out kinds.Signature word before after set h = kept before after _ set.2 refl h
 one_out kinds.Procap word before after set h = subst (AllByRecursion IsWrittenOut) (sym (ap (λ (a : Arguments). a.procaps) set.2)) (AllHeld-append before.procaps (words.Procap set.0 ∷ []) h (tt, tt))
@@ -99,10 +100,16 @@ all_out (kind ∷ kinds) [] before after rest words h = absurd words
 all_out (kind ∷ kinds) (space ∷ line) before after rest words h = all_out kinds (first_cut line).behind words.0 after rest words.2 (one_out kind (first_cut line).word before words.0 words.1 h)
 
 -- a signature that is written out
-has_signature : (behind : List ℕ) (a : Arguments) (rest : List ℕ) → AreWords (kinds_in true (kinds.Signature ∷ [])) behind blank a rest → IsSome a.signature
-has_signature behind a rest words =
-    let signature = last kinds.SignatureHex behind blank a rest words in
+has_signature : (behind : List ℕ) (before a : Arguments) (rest : List ℕ) → AreWords (kinds_in true (kinds.Signature ∷ [])) behind before a rest → IsSome a.signature
+has_signature behind before a rest words =
+    let signature = last kinds.SignatureHex behind before a rest words in
     subst (λ (s : Option (List ℕ)). IsSome s) (sym (ap (λ (x : Arguments). x.signature) signature.set.2)) refl
+
+-- after a number
+has_second_signature : (behind : List ℕ) (a : Arguments) (rest : List ℕ) → AreWords (kinds_in true (kinds.Number ∷ kinds.Signature ∷ [])) behind blank a rest → IsSome a.signature
+has_second_signature behind a rest words =
+    let second = others kinds.Number (kinds.SignatureHex ∷ []) behind blank a rest words in
+    has_signature second.behind second.before a rest second.words
 
 -- ---- what is said
 
@@ -119,7 +126,11 @@ said_asked mode As behind a rest text asked is words h = by_mode mode (modes_of 
 said_asked mode Login behind a rest text asked is words h = by_mode mode (modes_of Login) asked is (λ no. absurd (false≢true no)) (λ _ _. subst IsSaidInSession (sym h) tt) (λ no. absurd (false≢true no)) (λ who _ _. subst (IsSaidByUser who) (sym h) tt)
 said_asked mode Register behind a rest text asked is words h =
     by_mode mode (modes_of Register) asked is (λ _. subst IsSaidInScript (sym h.2) tt)
-    (λ _ session. subst IsSaidInSession (sym h.2) (has_signature behind a rest (subst (λ (out : Bool). AreWords (kinds_in out (kinds.Signature ∷ [])) behind blank a rest) session words))) (λ no. absurd (false≢true no)) (λ who _ said. subst (IsSaidByUser who) (sym h.2) (subst IsSaidInSession h.2 said, tt))
+    (λ _ session. subst IsSaidInSession (sym h.2) (has_signature behind blank a rest (subst (λ (out : Bool). AreWords (kinds_in out (kinds.Signature ∷ [])) behind blank a rest) session words))) (λ no. absurd (false≢true no)) (λ who _ said. subst (IsSaidByUser who) (sym h.2) (subst IsSaidInSession h.2 said, tt))
+said_asked mode Withdraw behind a rest text asked is words h =
+    by_mode mode (modes_of Withdraw) asked is (λ _. subst IsSaidInScript (sym h) tt)
+    (λ _ session. subst IsSaidInSession (sym h) (has_second_signature behind a rest (subst (λ (out : Bool). AreWords (kinds_in out (kinds.Number ∷ kinds.Signature ∷ [])) behind blank a rest) session words)))
+    (λ no. absurd (false≢true no)) (λ who _ said. subst (IsSaidByUser who) (sym h) (subst IsSaidInSession h said, tt))
 said_asked mode Procap behind a rest text asked is words h = by_mode mode (modes_of Procap) asked is (λ _. subst IsSaidInScript (sym h) tt) (λ _ _. subst IsSaidInSession (sym h) tt) (λ no. absurd (false≢true no)) (λ who _ _. subst (IsSaidByUser who) (sym h) (tt, tt))
 said_asked mode Checkpoint behind a rest text asked is words h = by_mode mode (modes_of Checkpoint) asked is (λ _. subst IsSaidInScript (sym h) tt) (λ _ _. subst IsSaidInSession (sym h) tt) (λ no. absurd (false≢true no)) (λ who admin _. subst (IsSaidByUser who) (sym h) (tt, admin))
 said_asked mode Verify behind a rest text asked is words h = by_mode mode (modes_of Verify) asked is (λ _. subst IsSaidInScript (sym h.2) tt) (λ _ _. subst IsSaidInSession (sym h.2) tt) (λ no. absurd (false≢true no)) (λ who _ _. subst (IsSaidByUser who) (sym h.2) (tt, tt))

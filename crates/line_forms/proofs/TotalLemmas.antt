@@ -18,7 +18,7 @@ use Rattle.line_forms.proofs.SaidLemmas.{said_in_mode}
 use Rattle.line_forms.specs.declared.command.Command.{Command}
 use Rattle.line_forms.specs.declared.command.Command.TheVariants as commands
 use Rattle.line_forms.specs.declared.forms.Form.{Form}
-use Rattle.line_forms.specs.declared.forms.Form.TheVariants.{At, As, Login, Register, Procap, Checkpoint, Verify, Check, Do, Statement, Goal}
+use Rattle.line_forms.specs.declared.forms.Form.TheVariants.{At, As, Login, Register, Withdraw, Procap, Checkpoint, Verify, Check, Do, Statement, Goal}
 use Rattle.line_forms.specs.declared.fault.LineFault.{LineFault}
 use Rattle.line_forms.specs.declared.fault.LineFault.TheVariants.{BadWord, BadCount, BadText}
 use Rattle.line_forms.specs.Heads.{Head, head_in, is_counted, text_of}
@@ -45,6 +45,7 @@ told_text Register a text = elim (statement_or_its_fault text) [
   | inl one ↦ inl (lines.Command (commands.Register a.signature one.0), (one.0, one.1, refl))
   | inr bad ↦ inr (bad.0, bad.1, bad.2)
 ]
+told_text Withdraw a text = inl (lines.Command (commands.Withdraw a.number a.signature), refl)
 told_text Procap a text = inl (lines.Command (commands.Procap a.issue), refl)
 told_text Checkpoint a text = inl (lines.Command commands.Checkpoint, refl)
 told_text Verify a text = elim (proof_or_its_fault text) [

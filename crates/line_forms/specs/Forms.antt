@@ -6,7 +6,7 @@ use Rattle.line_words.specs.declared.kinds.WordKind.TheVariants as kinds
 use Rattle.line_forms.specs.declared.forms.Operation.{Operation}
 use Rattle.line_forms.specs.declared.forms.Operation.TheVariants.{Read, Write, Truncate, List as ListOf, Lookup, Create, Mkdir, Unlink, Rename, Getattr, Setattr, Delattr, Chown}
 use Rattle.line_forms.specs.declared.forms.Form.{Form}
-use Rattle.line_forms.specs.declared.forms.Form.TheVariants.{At, As, Login, Register, Procap, Checkpoint, Verify, Check, Do, Statement, Goal}
+use Rattle.line_forms.specs.declared.forms.Form.TheVariants.{At, As, Login, Register, Withdraw, Procap, Checkpoint, Verify, Check, Do, Statement, Goal}
 
 -- the form of that name, but for `do`
 abbrev pub form_named : List ℕ → Option Form
@@ -15,6 +15,7 @@ form_named word =
     if bytes_eq word (codes "as") then Some As else
     if bytes_eq word (codes "login") then Some Login else
     if bytes_eq word (codes "register") then Some Register else
+    if bytes_eq word (codes "withdraw") then Some Withdraw else
     if bytes_eq word (codes "procap") then Some Procap else
     if bytes_eq word (codes "checkpoint") then Some Checkpoint else
     if bytes_eq word (codes "verify") then Some Verify else
@@ -76,6 +77,7 @@ kinds_of At = kinds.Second ∷ []
 kinds_of As = kinds.Who ∷ []
 kinds_of Login = kinds.Who ∷ kinds.SignatureHex ∷ []
 kinds_of Register = kinds.Signature ∷ []
+kinds_of Withdraw = kinds.Number ∷ kinds.Signature ∷ []
 kinds_of Procap = kinds.Issue ∷ []
 kinds_of Checkpoint = []
 kinds_of Verify = kinds.Who ∷ kinds.Node ∷ kinds.Permission ∷ kinds.Cited ∷ []
@@ -90,6 +92,7 @@ has_text At = false
 has_text As = false
 has_text Login = false
 has_text Register = true
+has_text Withdraw = false
 has_text Procap = false
 has_text Checkpoint = false
 has_text Verify = true

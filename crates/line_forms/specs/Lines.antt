@@ -17,7 +17,7 @@ use Rattle.line_forms.specs.declared.mode.Mode.TheVariants.{Operator}
 use Rattle.line_forms.specs.declared.command.Command.{Command}
 use Rattle.line_forms.specs.declared.command.Command.TheVariants as commands
 use Rattle.line_forms.specs.declared.forms.Form.{Form}
-use Rattle.line_forms.specs.declared.forms.Form.TheVariants.{At, As, Login, Register, Procap, Checkpoint, Verify, Check, Do, Statement, Goal}
+use Rattle.line_forms.specs.declared.forms.Form.TheVariants.{At, As, Login, Register, Withdraw, Procap, Checkpoint, Verify, Check, Do, Statement, Goal}
 use Rattle.line_forms.specs.declared.fault.LineFault.{LineFault}
 use Rattle.line_forms.specs.declared.fault.LineFault.TheVariants.{BadWord, BadCount, BadText, NoMemory}
 use Rattle.line_forms.specs.Forms.{kinds_of}
@@ -31,6 +31,7 @@ IsAsked At a text asked = asked ≡ lines.Command (commands.At a.second)
 IsAsked As a text asked = asked ≡ lines.Command (commands.As a.who)
 IsAsked Login a text asked = asked ≡ lines.Login a.who (unwrap_or a.signature [])
 IsAsked Register a text asked = (statement : StatementView) × IsStatementText text statement × (asked ≡ lines.Command (commands.Register a.signature statement))
+IsAsked Withdraw a text asked = asked ≡ lines.Command (commands.Withdraw a.number a.signature)
 IsAsked Procap a text asked = asked ≡ lines.Command (commands.Procap a.issue)
 IsAsked Checkpoint a text asked = asked ≡ lines.Command commands.Checkpoint
 IsAsked Verify a text asked = (proof : ProofView) × IsProofText text proof × (asked ≡ lines.Command (commands.Verify (written_goal a) a.cited proof))
@@ -45,6 +46,7 @@ HasTextFault At text fault = ⊥
 HasTextFault As text fault = ⊥
 HasTextFault Login text fault = ⊥
 HasTextFault Register text fault = StatementFault text fault
+HasTextFault Withdraw text fault = ⊥
 HasTextFault Procap text fault = ⊥
 HasTextFault Checkpoint text fault = ⊥
 HasTextFault Verify text fault = ProofTextFault text fault

@@ -2,7 +2,7 @@
 use Rattle.std.specs.Prelude.{ℕ, List, codes, Bool, true, false, not, ◌&&◌, ◌||◌, Option, Some, None, if◌then◌else◌}
 use Rattle.std.specs.Str.{bytes_eq}
 use Rattle.line_forms.specs.declared.forms.Form.{Form}
-use Rattle.line_forms.specs.declared.forms.Form.TheVariants.{At, As, Login, Register, Procap, Checkpoint, Verify, Check, Do, Statement, Goal}
+use Rattle.line_forms.specs.declared.forms.Form.TheVariants.{At, As, Login, Register, Withdraw, Procap, Checkpoint, Verify, Check, Do, Statement, Goal}
 use Rattle.line_forms.specs.declared.mode.Mode.{Mode}
 use Rattle.line_forms.specs.declared.mode.Mode.TheVariants.{Operator, Guest, User, Inquiry}
 use Rattle.line_forms.specs.declared.mode.Modes.{Modes}
@@ -13,6 +13,7 @@ modes_of At = record { operator = true; session = false; of_admin_alone = false;
 modes_of As = record { operator = true; session = false; of_admin_alone = false; inquiry = false }
 modes_of Login = record { operator = false; session = true; of_admin_alone = false; inquiry = false }
 modes_of Register = record { operator = true; session = true; of_admin_alone = false; inquiry = false }
+modes_of Withdraw = record { operator = true; session = true; of_admin_alone = false; inquiry = false }
 modes_of Procap = record { operator = true; session = true; of_admin_alone = false; inquiry = false }
 modes_of Checkpoint = record { operator = true; session = true; of_admin_alone = true; inquiry = false }
 modes_of Verify = record { operator = true; session = true; of_admin_alone = false; inquiry = false }

@@ -13,7 +13,7 @@ use Rattle.proof_term.specs.Limits.{HasTimesInRange}
 use Rattle.line_words.specs.declared.procap_word.ProcapWord.{ProcapWord}
 use Rattle.line_words.specs.declared.procap_word.ProcapWord.TheVariants as words
 use Rattle.line_forms.specs.declared.command.Command.{Command}
-use Rattle.line_forms.specs.declared.command.Command.TheVariants.{At, As, Register, Procap, Checkpoint, Verify, Check, Do}
+use Rattle.line_forms.specs.declared.command.Command.TheVariants.{At, As, Register, Withdraw, Procap, Checkpoint, Verify, Check, Do}
 use Rattle.line_forms.specs.declared.asked.Line.{Line}
 use Rattle.line_forms.specs.declared.asked.Line.TheVariants as lines
 use Rattle.line_forms.specs.Modes.{is_admin}
@@ -31,6 +31,7 @@ abbrev pub IsWithin : Command → Type 0
 IsWithin (At second) = IsMoment second
 IsWithin (As who) = IsTrue (is_principal_name who)
 IsWithin (Register signature statement) = IsStatement statement
+IsWithin (Withdraw number signature) = Unit {0}
 IsWithin (Procap number) = Unit {0}
 IsWithin Checkpoint = Unit {0}
 IsWithin (Verify goal numbers proof) = AreCitable numbers × HasTimesInRange proof
@@ -54,6 +55,7 @@ abbrev pub IsOfSession : Command → Type 0
 IsOfSession (At second) = ⊥
 IsOfSession (As who) = ⊥
 IsOfSession (Register signature statement) = IsSome signature
+IsOfSession (Withdraw number signature) = IsSome signature
 IsOfSession (Procap number) = Unit {0}
 IsOfSession Checkpoint = Unit {0}
 IsOfSession (Verify goal numbers proof) = Unit {0}
@@ -72,6 +74,7 @@ abbrev pub IsOfUser : List ℕ → Command → Type 0
 IsOfUser who (At second) = Unit {0}
 IsOfUser who (As other) = Unit {0}
 IsOfUser who (Register signature statement) = Unit {0}
+IsOfUser who (Withdraw number signature) = Unit {0}
 IsOfUser who (Procap number) = Unit {0}
 IsOfUser who Checkpoint = IsTrue (is_admin who)
 IsOfUser who (Verify goal numbers proof) = Unit {0}

@@ -15,6 +15,9 @@ pub enum Command {
     As(Principal),
     /// Registers a statement that has this signature, or one with the ring's key if there is none.
     Register(Option<Bytes>, Statement),
+    /// Withdraws the statement of this number by this signature, or by one with the ring's key of its issuer if there is
+    /// none.
+    Withdraw(u32, Option<Bytes>),
     /// Shows the procap of the issue of this number.
     Procap(u64),
     /// Makes a checkpoint: the area that counts is then that of the present state, without records.

@@ -30,6 +30,7 @@ pub enum Form {
     As,
     Login,
     Register,
+    Withdraw,
     Procap,
     Checkpoint,
     Verify,
@@ -51,6 +52,8 @@ pub fn form_named(word: &[u8]) -> Option<Form>
         Some(Form::Login)
     } else if word == b"register".as_slice() {
         Some(Form::Register)
+    } else if word == b"withdraw".as_slice() {
+        Some(Form::Withdraw)
     } else if word == b"procap".as_slice() {
         Some(Form::Procap)
     } else if word == b"checkpoint".as_slice() {
@@ -158,6 +161,7 @@ pub fn kinds_of(form: Form) -> &'static [Kind]
         Form::As => &[Kind::Who],
         Form::Login => &[Kind::Who, Kind::SignatureHex],
         Form::Register => &[Kind::Signature],
+        Form::Withdraw => &[Kind::Number, Kind::Signature],
         Form::Procap => &[Kind::Issue],
         Form::Checkpoint => &[],
         Form::Verify => &[Kind::Who, Kind::Node, Kind::Permission, Kind::Cited],
@@ -181,6 +185,7 @@ pub fn has_text(form: Form) -> bool
         Form::At => false,
         Form::As => false,
         Form::Login => false,
+        Form::Withdraw => false,
         Form::Procap => false,
         Form::Checkpoint => false,
         Form::Do(_) => false,

@@ -29,6 +29,18 @@ fn register(alloc: Global, arguments: Arguments, text: &[u8]) -> Result<Line, Li
     }
 }
 
+// The statement of this number is to be withdrawn.
+fn withdraw(arguments: Arguments) -> Line
+    ensures { result ≡ Line.Command (Command.Withdraw arguments.number arguments.signature) }
+{
+    let Arguments {
+        number,
+        signature,
+        ..
+    } = arguments;
+    Line::Command(Command::Withdraw(number, signature))
+}
+
 // The proof of the text is to be verified.
 fn verify(alloc: Global, arguments: Arguments, text: &[u8]) -> Result<Line, LineFault>
     ensures { MatchResult result (IsAsked Verify arguments text.now) (IsTextUnread Verify text.now) }
@@ -96,6 +108,7 @@ fn line_of(alloc: Global, form: Form, arguments: Arguments, text: &[u8]) -> Resu
         Form::At => Ok(Line::Command(Command::At(arguments.second))),
         Form::As => Ok(Line::Command(Command::As(arguments.who))),
         Form::Register => register(alloc, arguments, text),
+        Form::Withdraw => Ok(withdraw(arguments)),
         Form::Procap => Ok(Line::Command(Command::Procap(arguments.issue))),
         Form::Checkpoint => Ok(Line::Command(Command::Checkpoint)),
         Form::Verify => verify(alloc, arguments, text),

@@ -76,6 +76,7 @@ pub fn modes_of(form: Form) -> Modes
         Form::As => OPERATOR,
         Form::Login => SESSION,
         Form::Register => BOTH,
+        Form::Withdraw => BOTH,
         Form::Procap => BOTH,
         Form::Checkpoint => OF_ADMIN,
         Form::Verify => BOTH,

@@ -47,6 +47,7 @@ rejection_first (Duplicate number) = refl
 
 step_first : (step : StepReply) → (first_cut (step_text step)).word ≡ step_word step
 step_first (steps.Statement number) = refl
+step_first steps.Withdrawn = refl
 step_first (steps.Issue number times states) = refl
 step_first (steps.Procap p) = refl
 step_first (steps.Operation reply) = operation_first reply

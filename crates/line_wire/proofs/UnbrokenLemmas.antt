@@ -175,6 +175,7 @@ cause_unbroken causes.File h = refl
 cause_unbroken causes.Permission h = refl
 cause_unbroken (causes.Time place c) h = counted_unbroken place (codes " " ++ constraint_text 0 c) (constraint_unbroken c h)
 cause_unbroken (causes.State place s) h = counted_unbroken place (codes " " ++ state_text 0 s) (state_unbroken s h)
+cause_unbroken (causes.Withdrawn number) h = decimal_unbroken number
 
 rejection_unbroken : (rejection : Rejection) → IsUnbroken (rejection_text rejection)
 rejection_unbroken BadSignature = refl
@@ -235,6 +236,7 @@ fault_unbroken lines.NoMemory = refl
 
 step_unbroken : (step : StepReply) → IsUnbrokenStep step → IsUnbroken (step_text step)
 step_unbroken (steps.Statement number) h = decimal_unbroken number
+step_unbroken steps.Withdrawn h = refl
 step_unbroken (steps.Issue number times states) h =
     counted_unbroken number (codes " time " ++ (decimal times ++ (codes " state " ++ decimal states))) (counted_unbroken times (codes " state " ++ decimal states) (decimal_unbroken states))
 step_unbroken (steps.Procap p) h = hex_unbroken (procap_spelling p)

@@ -13,6 +13,7 @@ use Rattle.line_wire.specs.declared.reply.LineReply.TheVariants as replies
 
 abbrev pub step_word : StepReply → List ℕ
 step_word (steps.Statement number) = codes "ok"
+step_word steps.Withdrawn = codes "ok"
 step_word (steps.Issue number times states) = codes "ok"
 step_word (steps.Procap p) = codes "ok"
 step_word (steps.Operation reply) = codes "ok"

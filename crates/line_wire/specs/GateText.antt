@@ -17,6 +17,7 @@ cause_text causes.File = codes "file"
 cause_text causes.Permission = codes "permission"
 cause_text (causes.Time place c) = codes "time " ++ (decimal place ++ (codes " " ++ constraint_text 0 c))
 cause_text (causes.State place s) = codes "state " ++ (decimal place ++ (codes " " ++ state_text 0 s))
+cause_text (causes.Withdrawn number) = codes "withdrawn " ++ decimal number
 
 -- which need is denied, why, and the number of the last event
 abbrev pub denial_text : Denial → List ℕ

@@ -19,6 +19,7 @@ issue_text number times states = codes "ok issue " ++ (decimal number ++ (codes 
 
 abbrev pub step_text : StepReply → List ℕ
 step_text (steps.Statement number) = codes "ok statement " ++ decimal number
+step_text steps.Withdrawn = codes "ok"
 step_text (steps.Issue number times states) = issue_text number times states
 step_text (steps.Procap p) = codes "ok procap " ++ hex_word (procap_spelling p)
 step_text (steps.Operation reply) = operation_text reply

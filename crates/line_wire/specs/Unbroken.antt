@@ -54,6 +54,7 @@ IsUnbrokenCause causes.File = Unit {0}
 IsUnbrokenCause causes.Permission = Unit {0}
 IsUnbrokenCause (causes.Time place c) = IsUnbrokenConstraint c
 IsUnbrokenCause (causes.State place s) = IsUnbrokenState s
+IsUnbrokenCause (causes.Withdrawn number) = Unit {0}
 
 abbrev pub IsUnbrokenNode : NamedNode → Type 0
 IsUnbrokenNode named = IsUnbroken named.name
@@ -74,6 +75,7 @@ IsUnbrokenOperation (Meta reply) = IsUnbrokenAttribute reply
 
 abbrev pub IsUnbrokenStep : StepReply → Type 0
 IsUnbrokenStep (steps.Statement number) = Unit {0}
+IsUnbrokenStep steps.Withdrawn = Unit {0}
 IsUnbrokenStep (steps.Issue number times states) = Unit {0}
 IsUnbrokenStep (steps.Procap p) = Unit {0}
 IsUnbrokenStep (steps.Operation reply) = IsUnbrokenOperation reply

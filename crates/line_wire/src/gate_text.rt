@@ -41,6 +41,7 @@ fn write_cause(out: &mut Bytes, cause: &DenialCause) -> Result<(), NoMemory>
             put_text(out, " ")?;
             print_state(state, out)
         }
+        DenialCause::Withdrawn(number) => put_counted(out, "withdrawn ", u64::from(*number)),
     }
 }
 

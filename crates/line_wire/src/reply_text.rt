@@ -62,6 +62,7 @@ fn write_step(alloc: Global, out: &mut Bytes, step: &StepReply) -> Result<(), No
 {
     match step {
         StepReply::Statement(number) => put_counted(out, "ok statement ", u64::from(*number)),
+        StepReply::Withdrawn => put_text(out, "ok"),
         StepReply::Issue(number, times, states) => write_issue(out, *number, *times, *states),
         StepReply::Procap(p) => write_procap_text(alloc, out, p),
         StepReply::Operation(reply) => write_operation(out, reply),

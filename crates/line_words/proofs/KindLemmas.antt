@@ -1,7 +1,7 @@
 -- A word of a kind writes one thing.
 use Rattle.std.proofs.Common.{◌≡◌, ◌^◌, ℕ, List, [], ◌∷◌, ◌++◌, Some, refl, sym, ap, ◌∙◌, arith}
 use Rattle.line_words.specs.declared.kinds.WordKind.{WordKind}
-use Rattle.line_words.specs.declared.kinds.WordKind.TheVariants.{Node, Target, Name, NewName, Offset, Len, Most, Data, Value, Who, Permission, Second, Issue, Cited, Signature, Procap, SignatureHex, ProcapHex}
+use Rattle.line_words.specs.declared.kinds.WordKind.TheVariants.{Node, Target, Name, NewName, Offset, Len, Most, Data, Value, Who, Permission, Second, Issue, Number, Cited, Signature, Procap, SignatureHex, ProcapHex}
 use Rattle.line_words.specs.declared.arguments.Arguments.{Arguments}
 use Rattle.line_words.specs.declared.procap_word.ProcapWord.TheVariants.{Procap as BySpelling}
 use Rattle.line_text.proofs.HexLemmas.{IsHex-same}
@@ -25,6 +25,7 @@ Sets-unique Who word before first second h k = h.1 ∙ ap (λ x. record before {
 Sets-unique Permission word before first second h k = h.1 ∙ ap (λ x. record before { perm = x }) (permission-unique first.perm second.perm (sym h.0 ∙ k.0)) ∙ sym k.1
 Sets-unique Second word before first second h k = h.1 ∙ ap (λ x. record before { second = x }) (IsSecond-unique word h.0 k.0) ∙ sym k.1
 Sets-unique Issue word before first second h k = h.1 ∙ ap (λ x. record before { issue = x }) (IsNumberBelow-unique (2 ^ 64) (omega arith) h.0.number_is k.0.number_is) ∙ sym k.1
+Sets-unique Number word before first second h k = h.1 ∙ ap (λ x. record before { number = x }) (IsNumberBelow-unique (2 ^ 32) (omega arith) h.0 k.0) ∙ sym k.1
 Sets-unique Cited word before first second h k = h.1 ∙ ap (λ x. record before { cited = x }) (AreJoined-same h.0.joined word second.cited refl k.0.joined) ∙ sym k.1
 Sets-unique Signature word before first second h k = h.1 ∙ ap (λ x. record before { signature = x }) (IsSigned-same h.0 word second.signature refl k.0) ∙ sym k.1
 Sets-unique Procap word before first second h k = h.2 ∙ ap (λ x. record before { procaps = before.procaps ++ x ∷ [] }) (IsProcapWord-same h.1 word k.0 refl k.1) ∙ sym k.2

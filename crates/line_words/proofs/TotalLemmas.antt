@@ -1,7 +1,7 @@
 -- A word is of a kind, or of no such kind; words of given kinds come next, or one of them is the first bad one.
 use Rattle.std.proofs.Common.{◌^◌, ◌-◌, ℕ, List, [], ◌∷◌, ◌++◌, length, Some, ◌⊎◌, inl, inr, refl, arith}
 use Rattle.line_words.specs.declared.kinds.WordKind.{WordKind}
-use Rattle.line_words.specs.declared.kinds.WordKind.TheVariants.{Node, Target, Name, NewName, Offset, Len, Most, Data, Value, Who, Permission, Second, Issue, Cited, Signature, Procap, SignatureHex, ProcapHex}
+use Rattle.line_words.specs.declared.kinds.WordKind.TheVariants.{Node, Target, Name, NewName, Offset, Len, Most, Data, Value, Who, Permission, Second, Issue, Number, Cited, Signature, Procap, SignatureHex, ProcapHex}
 use Rattle.line_words.specs.declared.arguments.Arguments.{Arguments}
 use Rattle.line_words.specs.declared.procap_word.ProcapWord.TheVariants.{Procap as BySpelling}
 use Rattle.line_words.specs.Cutting.{first_cut}
@@ -27,6 +27,7 @@ set_or_outside Who word before = elim (principal_decided word) [ inl one ↦ inl
 set_or_outside Permission word before = elim (permission_decided word) [ inl one ↦ inl (record before { perm = one.0 }, (one.1, refl)) | inr none ↦ inr (λ b a h. none a.perm h.0) ]
 set_or_outside Second word before = elim (second_decided word) [ inl one ↦ inl (record before { second = one.0 }, (one.1, refl)) | inr none ↦ inr (λ b a h. none a.second h.0) ]
 set_or_outside Issue word before = elim (issue_decided word) [ inl one ↦ inl (record before { issue = one.0 }, (one.1, refl)) | inr none ↦ inr (λ b a h. none a.issue h.0) ]
+set_or_outside Number word before = elim (number_decided (2 ^ 32) (omega arith) word) [ inl one ↦ inl (record before { number = one.0 }, (one.1, refl)) | inr none ↦ inr (λ b a h. none a.number h.0) ]
 set_or_outside Cited word before = elim (cited_decided word) [ inl one ↦ inl (record before { cited = one.0 }, (one.1, refl)) | inr none ↦ inr (λ b a h. none a.cited h.0) ]
 set_or_outside Signature word before = elim (signed_decided word) [ inl one ↦ inl (record before { signature = one.0 }, (one.1, refl)) | inr none ↦ inr (λ b a h. none a.signature h.0) ]
 set_or_outside Procap word before = elim (procap_decided word) [

@@ -1,7 +1,7 @@
 -- What a word of each kind writes (this project's own).
 use Rattle.std.specs.Prelude.{◌≡◌, Bool, if◌then◌else◌, pos, ℕ, List, [], ◌∷◌, ◌++◌, codes, None, Some}
 use Rattle.bl_syntax.specs.declared.terms.Perm.TheVariants.{Read}
-use Rattle.line_words.specs.Numbers.{IsSecond, IsLongNumber, IsCount, IsFile, IsIssue}
+use Rattle.line_words.specs.Numbers.{IsSecond, IsNumber, IsLongNumber, IsCount, IsFile, IsIssue}
 use Rattle.line_words.specs.Cited.{IsCited}
 use Rattle.line_words.specs.Procaps.{IsProcapHex, IsProcapWord}
 use Rattle.procap.specs.declared.procap.Procap.{Procap as Sealed}
@@ -9,7 +9,7 @@ use Rattle.line_words.specs.Grammar.{IsName, IsPrincipal, IsData, IsQuoted, IsPe
 use Rattle.line_words.specs.declared.procap_word.ProcapWord.{ProcapWord}
 use Rattle.line_words.specs.declared.procap_word.ProcapWord.TheVariants.{Procap as BySpelling}
 use Rattle.line_words.specs.declared.kinds.WordKind.{WordKind}
-use Rattle.line_words.specs.declared.kinds.WordKind.TheVariants.{Node, Target, Name, NewName, Offset, Len, Most, Data, Value, Who, Permission, Second, Issue, Cited, Signature, Procap, SignatureHex, ProcapHex}
+use Rattle.line_words.specs.declared.kinds.WordKind.TheVariants.{Node, Target, Name, NewName, Offset, Len, Most, Data, Value, Who, Permission, Second, Issue, Number, Cited, Signature, Procap, SignatureHex, ProcapHex}
 use Rattle.line_words.specs.declared.arguments.Arguments.{Arguments}
 
 -- where no word was read
@@ -27,6 +27,7 @@ blank = record {
   perm = Read;
   second = pos 0;
   issue = 0;
+  number = 0;
   cited = [];
   signature = None;
   procaps = [];
@@ -47,6 +48,7 @@ Sets Who word before after = IsPrincipal word after.who × (after ≡ record bef
 Sets Permission word before after = IsPermission word after.perm × (after ≡ record before { perm = after.perm })
 Sets Second word before after = IsSecond word after.second × (after ≡ record before { second = after.second })
 Sets Issue word before after = IsIssue word after.issue × (after ≡ record before { issue = after.issue })
+Sets Number word before after = IsNumber word after.number × (after ≡ record before { number = after.number })
 Sets Cited word before after = IsCited word after.cited × (after ≡ record before { cited = after.cited })
 Sets Signature word before after = IsSigned word after.signature × (after ≡ record before { signature = after.signature })
 Sets Procap word before after = (given : ProcapWord) × IsProcapWord word given × (after ≡ record before { procaps = before.procaps ++ given ∷ [] })
@@ -72,6 +74,7 @@ kind_in out Who = Who
 kind_in out Permission = Permission
 kind_in out Second = Second
 kind_in out Issue = Issue
+kind_in out Number = Number
 kind_in out Cited = Cited
 kind_in out Signature = if out then SignatureHex else Signature
 kind_in out Procap = if out then ProcapHex else Procap

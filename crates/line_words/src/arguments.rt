@@ -6,7 +6,7 @@ ghost use Rattle.line_words.specs.Kinds.{blank, Sets, IsOutside};
 use crate::cited::cited_numbers;
 use crate::kinds::WordKind;
 use crate::named::{data, name, permission, principal, quoted_text, signature, signature_hex};
-use crate::numerals::{count, file, issue, long_number, second};
+use crate::numerals::{count, file, issue, long_number, number, second};
 use crate::procap_word::{ProcapWord, ProcapWords, procap_of_hex, procap_word};
 use bl_syntax::{Bytes, NoMemory, NodeId, Numbers, Perm, Principal, Text};
 use std::alloc::Global;
@@ -26,6 +26,7 @@ pub struct Arguments {
     pub perm: Perm,
     pub second: i64,
     pub issue: u64,
+    pub number: u32,
     pub cited: Numbers,
     pub signature: Option<Bytes>,
     pub procaps: ProcapWords,
@@ -64,6 +65,7 @@ impl Arguments {
             perm: Perm::Read,
             second: 0,
             issue: 0,
+            number: 0,
             cited: Numbers::new(alloc),
             signature: None,
             procaps: ProcapWords::new(alloc),
@@ -140,6 +142,7 @@ impl Arguments {
             WordKind::Permission => Ok(put(&mut self.perm, permission(word))),
             WordKind::Second => Ok(put(&mut self.second, second(word))),
             WordKind::Issue => Ok(put(&mut self.issue, issue(word))),
+            WordKind::Number => Ok(put(&mut self.number, number(word))),
             WordKind::Cited => Ok(put(&mut self.cited, cited_numbers(alloc, word)?)),
             WordKind::Signature => Ok(put(&mut self.signature, signature(alloc, word)?)),
             WordKind::Procap => self.add_procap(alloc, word),

@@ -32,6 +32,8 @@ pub enum WordKind {
     Second,
     /// The number of an issue, from 1.
     Issue,
+    /// The number of a statement, below 2^32.
+    Number,
     /// The numbers of 1 to 64 statements, strictly rising, with commas between them.
     Cited,
     /// A signature of 1 to 32,768 bytes in hexadecimal, or `-` for the ring's key.

@@ -4,7 +4,7 @@ use Rattle.std.proofs.lemmas.Bool.{false≢true}
 use Rattle.line_forms.specs.declared.mode.Mode.{Mode}
 use Rattle.line_forms.specs.declared.mode.Mode.TheVariants.{Operator, Guest, User, Inquiry}
 use Rattle.line_forms.specs.declared.forms.Form.{Form}
-use Rattle.line_forms.specs.declared.forms.Form.TheVariants.{At, As, Login, Register, Procap, Checkpoint, Verify, Check, Do, Statement, Goal}
+use Rattle.line_forms.specs.declared.forms.Form.TheVariants.{At, As, Login, Register, Withdraw, Procap, Checkpoint, Verify, Check, Do, Statement, Goal}
 use Rattle.line_forms.specs.declared.forms.Operation.{Operation}
 use Rattle.line_forms.specs.declared.forms.Operation.TheVariants.{Read, Write, Truncate, List as ListOf, Lookup, Create, Mkdir, Unlink, Rename, Getattr, Setattr, Delattr, Chown}
 use Rattle.line_forms.specs.Heads.{by_form, operation_head, do_head, head_in}
@@ -30,6 +30,7 @@ name_of At = codes "at"
 name_of As = codes "as"
 name_of Login = codes "login"
 name_of Register = codes "register"
+name_of Withdraw = codes "withdraw"
 name_of Procap = codes "procap"
 name_of Checkpoint = codes "checkpoint"
 name_of Verify = codes "verify"
@@ -69,6 +70,7 @@ head_said mode At x is = form_is At (32 ∷ x) (is_in mode (modes_of At)) is
 head_said mode As x is = form_is As (32 ∷ x) (is_in mode (modes_of As)) is
 head_said mode Login x is = form_is Login (32 ∷ x) (is_in mode (modes_of Login)) is
 head_said mode Register x is = form_is Register (32 ∷ x) (is_in mode (modes_of Register)) is
+head_said mode Withdraw x is = form_is Withdraw (32 ∷ x) (is_in mode (modes_of Withdraw)) is
 head_said mode Procap x is = form_is Procap (32 ∷ x) (is_in mode (modes_of Procap)) is
 head_said mode Checkpoint x is = form_is Checkpoint (32 ∷ x) (is_in mode (modes_of Checkpoint)) is
 head_said mode Verify x is = form_is Verify (32 ∷ x) (is_in mode (modes_of Verify)) is

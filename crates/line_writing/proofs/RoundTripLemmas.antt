@@ -6,7 +6,7 @@ use Rattle.line_words.specs.declared.arguments.Arguments.{Arguments}
 use Rattle.line_forms.specs.declared.asked.Line.{Line}
 use Rattle.line_forms.specs.declared.mode.Mode.{Mode}
 use Rattle.line_forms.specs.declared.forms.Form.{Form}
-use Rattle.line_forms.specs.declared.forms.Form.TheVariants.{At, As, Login, Register, Procap, Checkpoint, Verify, Check, Do, Statement, Goal}
+use Rattle.line_forms.specs.declared.forms.Form.TheVariants.{At, As, Login, Register, Withdraw, Procap, Checkpoint, Verify, Check, Do, Statement, Goal}
 use Rattle.line_forms.specs.declared.forms.Operation.{Operation}
 use Rattle.line_forms.specs.declared.forms.Operation.TheVariants.{Read, Write, Truncate, List as ListOf, Lookup, Create, Mkdir, Unlink, Rename, Getattr, Setattr, Delattr, Chown}
 use Rattle.line_forms.specs.Forms.{kinds_of, has_text}
@@ -49,6 +49,7 @@ IsBehindName At behind = IsSpaced behind
 IsBehindName As behind = IsSpaced behind
 IsBehindName Login behind = IsSpaced behind
 IsBehindName Register behind = IsSpaced behind
+IsBehindName Withdraw behind = IsSpaced behind
 IsBehindName Procap behind = IsSpaced behind
 IsBehindName Checkpoint behind = behind ≡ []
 IsBehindName Verify behind = IsSpaced behind
@@ -62,6 +63,7 @@ spaced out At vs a text asked h = refl
 spaced out As vs a text asked h = refl
 spaced out Login vs a text asked h = refl
 spaced out Register vs a text asked h = refl
+spaced out Withdraw vs a text asked h = refl
 spaced out Procap vs a text asked h = refl
 spaced out Checkpoint vs a text asked h = ap tail_of h
 spaced out Verify vs a text asked h = refl
@@ -78,6 +80,7 @@ head_is mode At behind at is = spaced_head mode At behind at is
 head_is mode As behind at is = spaced_head mode As behind at is
 head_is mode Login behind at is = spaced_head mode Login behind at is
 head_is mode Register behind at is = spaced_head mode Register behind at is
+head_is mode Withdraw behind at is = spaced_head mode Withdraw behind at is
 head_is mode Procap behind at is = spaced_head mode Procap behind at is
 head_is mode Checkpoint behind at is = subst (λ (b : List ℕ). head_in mode (name_of Checkpoint ++ b) ≡ Ok (Checkpoint, b)) (sym at) (head_ends mode is)
 head_is mode Verify behind at is = spaced_head mode Verify behind at is

@@ -3,7 +3,7 @@ use Rattle.std.proofs.Common.{◌≡◌, ℕ, Bool, true, false, List, [], ◌�
 use Rattle.std.specs.Fmt.{decimal, signed_decimal}
 use Rattle.line_text.specs.HexWord.{hex_word}
 use Rattle.procap.specs.Procap.{procap_spelling}
-use Rattle.line_writing.specs.WordTexts.{procap_text}
+use Rattle.line_writing.specs.WordTexts.{signature_text, procap_text}
 use Rattle.bl_syntax.specs.declared.terms.NodeId.{NodeId}
 use Rattle.line_text.specs.Words.{is_word_end}
 use Rattle.bl_syntax.specs.Statement.{StatementView}
@@ -20,7 +20,7 @@ use Rattle.line_forms.specs.declared.command.Command.TheVariants as commands
 use Rattle.line_forms.specs.declared.asked.Line.{Line}
 use Rattle.line_forms.specs.declared.asked.Line.TheVariants as lines
 use Rattle.line_forms.specs.declared.forms.Form.{Form}
-use Rattle.line_forms.specs.declared.forms.Form.TheVariants.{At, As, Login, Register, Procap, Checkpoint, Verify, Check, Do, Statement, Goal}
+use Rattle.line_forms.specs.declared.forms.Form.TheVariants.{At, As, Login, Register, Withdraw, Procap, Checkpoint, Verify, Check, Do, Statement, Goal}
 use Rattle.line_forms.specs.declared.forms.Operation.{Operation}
 use Rattle.line_forms.specs.declared.forms.Operation.TheVariants.{Read, Write, Truncate, List as ListOf, Lookup, Create, Mkdir, Unlink, Rename, Getattr, Setattr, Delattr, Chown}
 use Rattle.line_forms.specs.Forms.{kinds_of, has_text}
@@ -37,6 +37,7 @@ abbrev command_tail : Command → List ℕ
 command_tail (commands.At second) = []
 command_tail (commands.As who) = []
 command_tail (commands.Register signature statement) = codes " " ++ statement_text statement
+command_tail (commands.Withdraw number signature) = []
 command_tail (commands.Procap number) = []
 command_tail commands.Checkpoint = []
 command_tail (commands.Verify goal numbers proof) = codes " " ++ proof_text proof
@@ -53,6 +54,7 @@ command_ends : (command : Command) → IsTrue (is_word_end 32 (command_tail comm
 command_ends (commands.At second) = refl
 command_ends (commands.As who) = refl
 command_ends (commands.Register signature statement) = refl
+command_ends (commands.Withdraw number signature) = refl
 command_ends (commands.Procap number) = refl
 command_ends commands.Checkpoint = refl
 command_ends (commands.Verify goal numbers proof) = refl
@@ -76,6 +78,7 @@ retold As a text asked h = subst (IsRetold As a) (sym h) (record { asks = refl; 
 retold Login a text asked h = subst (IsRetold Login a) (sym h) (record { asks = refl; counted = refl })
 retold Register a text asked h =
     subst (IsRetold Register a) (sym h.2) (record { asks = (h.0, printed_statement h.0 (statement_spellable h.1), refl); counted = refl })
+retold Withdraw a text asked h = subst (IsRetold Withdraw a) (sym h) (record { asks = refl; counted = refl })
 retold Procap a text asked h = subst (IsRetold Procap a) (sym h) (record { asks = refl; counted = refl })
 retold Checkpoint a text asked h = subst (IsRetold Checkpoint a) (sym h) (record { asks = refl; counted = refl })
 retold Verify a text asked h =
@@ -105,6 +108,10 @@ last_word front word = ap (λ (w : List ℕ). front ++ w) (sym (append-nil word)
 register_row : (out : Bool) (vs : Values (kinds_in out (kinds_of Register))) (statement : StatementView) → IsText out Register vs (lines.Command (commands.Register (with_values out Register vs).signature statement))
 register_row true vs statement = refl
 register_row false vs statement = refl
+
+withdraw_row : (out : Bool) (vs : Values (kinds_in out (kinds_of Withdraw))) → IsText out Withdraw vs (lines.Command (commands.Withdraw (with_values out Withdraw vs).number (with_values out Withdraw vs).signature))
+withdraw_row true vs = ap (λ (w : List ℕ). codes "withdraw " ++ (decimal vs.0 ++ (codes " " ++ w))) (sym (append-nil (hex_word vs.1.0)))
+withdraw_row false vs = ap (λ (w : List ℕ). codes "withdraw " ++ (decimal vs.0 ++ (codes " " ++ w))) (sym (append-nil (signature_text vs.1.0)))
 
 -- a node, a name and a value between quotes
 quoted_row : (node : NodeId) (name value rest : List ℕ) → named_text (codes " #") node name (value_text value rest) ≡ codes " #" ++ (decimal node.0 ++ (codes " " ++ (name ++ (codes " " ++ ((34 ∷ (value ++ 34 ∷ [])) ++ rest)))))
@@ -143,6 +150,7 @@ row out At vs text asked h = subst (IsText out At vs) (sym h) (last_word (codes 
 row out As vs text asked h = subst (IsText out As vs) (sym h) (last_word (codes "as ") vs.0)
 row out Login vs text asked h = subst (IsText out Login vs) (sym h) (ap (λ (w : List ℕ). codes "login " ++ (vs.0 ++ (codes " " ++ w))) (sym (append-nil (hex_word vs.1.0))))
 row out Register vs text asked h = subst (IsText out Register vs) (sym h.2) (register_row out vs h.0)
+row out Withdraw vs text asked h = subst (IsText out Withdraw vs) (sym h) (withdraw_row out vs)
 row out Procap vs text asked h = subst (IsText out Procap vs) (sym h) (last_word (codes "procap ") (decimal vs.0))
 row out Checkpoint vs text asked h = subst (IsText out Checkpoint vs) (sym h) refl
 row out Verify vs text asked h = subst (IsText out Verify vs) (sym h.2) refl

@@ -82,6 +82,7 @@ shown kinds.Who word v h = record { named = subst (λ (w : List ℕ). IsTrue (is
 shown kinds.Permission word v h = refl
 shown kinds.Second word v h = second_shown v (IsMoment-second word h)
 shown kinds.Issue word v h = record { number_is = below_shown (2 ^ 64) word v h.number_is; some = h.some }
+shown kinds.Number word v h = below_shown (2 ^ 32) word v h
 shown kinds.Cited word v h = record { joined = subst (λ (w : List ℕ). AreJoined w v) (more_joined h.joined) h.joined; citable = h.citable }
 shown kinds.Signature word v h = subst (λ (w : List ℕ). IsSigned w v) (signed_word h) h
 shown kinds.Procap word v h = subst (λ (w : List ℕ). IsProcapWord w v) (procap_word h) h
@@ -198,6 +199,7 @@ cut_whole kinds.Who v h = clean_cut v (principal_clean v h.named)
 cut_whole kinds.Permission v h = clean_cut (permission_text v) (permission_clean v)
 cut_whole kinds.Second v h = clean_cut (signed_decimal v) (second_clean v (IsMoment-second (signed_decimal v) h))
 cut_whole kinds.Issue v h = clean_cut (decimal v) (number_clean (2 ^ 64) (omega arith) (decimal v) v h.number_is)
+cut_whole kinds.Number v h = clean_cut (decimal v) (number_clean (2 ^ 32) (omega arith) (decimal v) v h)
 cut_whole kinds.Cited v h = clean_cut (cited_text v) (clean_all is_cited_byte refl refl (cited_text v) (cited_bytes h.joined))
 cut_whole kinds.Signature v h = clean_cut (signature_text v) (signed_clean h)
 cut_whole kinds.Procap v h = clean_cut (procap_text v) (procap_clean h)

@@ -10,7 +10,7 @@ use Rattle.procap.specs.Procap.{procap_spelling}
 use Rattle.line_words.specs.Cited.{IsCited}
 use Rattle.line_words.specs.Grammar.{IsName, IsPrincipal, IsData, IsQuoted, IsPermission, IsSigned, IsSignatureHex}
 use Rattle.line_words.specs.Kinds.{Sets}
-use Rattle.line_words.specs.Numbers.{IsSecond, IsLongNumber, IsCount, IsFile, IsIssue}
+use Rattle.line_words.specs.Numbers.{IsSecond, IsNumber, IsLongNumber, IsCount, IsFile, IsIssue}
 use Rattle.line_words.specs.Procaps.{IsProcapHex, IsProcapWord}
 use Rattle.line_words.specs.declared.arguments.Arguments.{Arguments}
 use Rattle.line_words.specs.declared.kinds.WordKind.{WordKind}
@@ -35,6 +35,7 @@ Value kinds.Who = List ℕ
 Value kinds.Permission = Perm
 Value kinds.Second = ℤ
 Value kinds.Issue = ℕ
+Value kinds.Number = ℕ
 Value kinds.Cited = List ℕ
 Value kinds.Signature = Option (List ℕ)
 Value kinds.Procap = ProcapWord
@@ -55,6 +56,7 @@ put kinds.Who v a = record a { who = v }
 put kinds.Permission v a = record a { perm = v }
 put kinds.Second v a = record a { second = v }
 put kinds.Issue v a = record a { issue = v }
+put kinds.Number v a = record a { number = v }
 put kinds.Cited v a = record a { cited = v }
 put kinds.Signature v a = record a { signature = v }
 put kinds.Procap v a = record a { procaps = a.procaps ++ v ∷ [] }
@@ -76,6 +78,7 @@ Writes kinds.Who word v = IsPrincipal word v
 Writes kinds.Permission word v = IsPermission word v
 Writes kinds.Second word v = IsSecond word v
 Writes kinds.Issue word v = IsIssue word v
+Writes kinds.Number word v = IsNumber word v
 Writes kinds.Cited word v = IsCited word v
 Writes kinds.Signature word v = IsSigned word v
 Writes kinds.Procap word v = IsProcapWord word v
@@ -97,6 +100,7 @@ word_of kinds.Who v = v
 word_of kinds.Permission v = permission_text v
 word_of kinds.Second v = signed_decimal v
 word_of kinds.Issue v = decimal v
+word_of kinds.Number v = decimal v
 word_of kinds.Cited v = cited_text v
 word_of kinds.Signature v = signature_text v
 word_of kinds.Procap v = procap_text v
@@ -117,6 +121,7 @@ from_sets kinds.Who word before after h = (after.who, h.0, h.1)
 from_sets kinds.Permission word before after h = (after.perm, h.0, h.1)
 from_sets kinds.Second word before after h = (after.second, h.0, h.1)
 from_sets kinds.Issue word before after h = (after.issue, h.0, h.1)
+from_sets kinds.Number word before after h = (after.number, h.0, h.1)
 from_sets kinds.Cited word before after h = (after.cited, h.0, h.1)
 from_sets kinds.Signature word before after h = (after.signature, h.0, h.1)
 from_sets kinds.Procap word before after h = h
@@ -137,6 +142,7 @@ to_sets kinds.Who word v before h = (h, refl)
 to_sets kinds.Permission word v before h = (h, refl)
 to_sets kinds.Second word v before h = (h, refl)
 to_sets kinds.Issue word v before h = (h, refl)
+to_sets kinds.Number word v before h = (h, refl)
 to_sets kinds.Cited word v before h = (h, refl)
 to_sets kinds.Signature word v before h = (h, refl)
 to_sets kinds.Procap word v before h = (v, h, refl)

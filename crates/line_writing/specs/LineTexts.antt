@@ -10,7 +10,7 @@ use Rattle.line_text.specs.HexWord.{hex_word}
 use Rattle.proof_term.specs.Proof.{ProofView}
 use Rattle.proof_text.specs.Printed.{proof_text}
 use Rattle.line_forms.specs.declared.command.Command.{Command}
-use Rattle.line_forms.specs.declared.command.Command.TheVariants.{At, As, Register, Procap, Checkpoint, Verify, Check, Do}
+use Rattle.line_forms.specs.declared.command.Command.TheVariants.{At, As, Register, Withdraw, Procap, Checkpoint, Verify, Check, Do}
 use Rattle.line_forms.specs.declared.asked.Line.{Line}
 use Rattle.line_forms.specs.declared.asked.Line.TheVariants as lines
 use Rattle.line_writing.specs.WordTexts.{cited_text, signature_text, procaps_text, goal_text}
@@ -47,6 +47,7 @@ abbrev pub command_text : Command → List ℕ
 command_text (At second) = codes "at " ++ signed_decimal second
 command_text (As who) = codes "as " ++ who
 command_text (Register signature statement) = codes "register " ++ (signature_text signature ++ (codes " " ++ statement_text statement))
+command_text (Withdraw number signature) = codes "withdraw " ++ (decimal number ++ (codes " " ++ signature_text signature))
 command_text (Procap number) = codes "procap " ++ decimal number
 command_text Checkpoint = codes "checkpoint"
 command_text (Verify goal numbers proof) = codes "verify " ++ cited_goal_text goal numbers proof

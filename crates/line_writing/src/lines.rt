@@ -46,6 +46,10 @@ fn put_command(alloc: Global, out: &mut Bytes, command: &Command) -> Result<(), 
             put_text(out, " ")?;
             print_statement(statement, out)
         }
+        Command::Withdraw(number, signature) => {
+            put_counted(out, "withdraw ", u64::from(*number))?;
+            put_signature(alloc, out, " ", signature)
+        }
         Command::Procap(number) => put_counted(out, "procap ", *number),
         Command::Checkpoint => put_text(out, "checkpoint"),
         Command::Verify(goal, numbers, proof) => {

@@ -10,6 +10,9 @@ use Rattle.bl_syntax.specs.Statement.{StatementView, IsStatement}
 use Rattle.bl_syntax.specs.TimeOrder.{IsMoment}
 use Rattle.bl_syntax.specs.Grant.{GrantView}
 use Rattle.policy_statement.specs.Messages.{statement_message}
+use Rattle.policy_statement.specs.Withdrawal.{MayWithdraw}
+use Rattle.policy_statement.specs.declared.registry.WithdrawFault.{WithdrawFault}
+use Rattle.policy_statement.specs.declared.registry.WithdrawFault.TheVariants as withdrawals
 use Rattle.policy_statement.specs.Registered.{RegisteredView}
 use Rattle.policy_statement.specs.Registry.{MayRegister}
 use Rattle.policy_statement.specs.Ring.{is_accepted}
@@ -28,20 +31,20 @@ use Rattle.file_world.specs.declared.operation.Op.{Op}
 use Rattle.file_world.specs.Effect.{IsOperation, refusal}
 use Rattle.file_world.specs.Needs.{needs}
 use Rattle.access_history.specs.declared.event.Event.{Event}
-use Rattle.access_history.specs.declared.event.Event.TheVariants.{Registered, Issued, Acted}
+use Rattle.access_history.specs.declared.event.Event.TheVariants.{Registered, Withdrawn, Issued, Acted}
 use Rattle.access_history.specs.declared.reply.StepReply.{StepReply}
 use Rattle.access_history.specs.declared.request.StepRequest.TheVariants.{Act}
 use Rattle.access_history.specs.Admission.{IsAdmitted, IsNeedMet}
 use Rattle.access_history.specs.Answer.{Answers, moment_of, denied, refused, acted}
-use Rattle.access_history.specs.Authority.{Authority, CanRegister, IsSignedStatement, MayBeRegistered, sayings}
+use Rattle.access_history.specs.Authority.{Authority, CanRegister, IsSignedStatement, IsSignedWithdrawal, MayBeRegistered, sayings}
 use Rattle.access_history.specs.Base.{BaseView}
 use Rattle.bl_syntax.specs.Citable.{AreCitable}
-use Rattle.access_history.specs.Books.{whole_book}
-use Rattle.access_history.specs.Citing.{AreFound, IsAbsent, IsGoodIssue, IsGrantedFrom, MayBeIssued, numbers_of}
+use Rattle.access_history.specs.Books.{Book, book_of, live_book, whole_book}
+use Rattle.access_history.specs.Citing.{AreFound, IsAbsent, IsGoodIssue, IsGrantedFrom, IsHeld, MayBeIssued, MayBeWithdrawn, numbers_of}
 use Rattle.access_history.specs.History.{HistoryView, authority_of, state_of, addition_of, IsReadyFor}
 use Rattle.access_history.specs.Lawful.{IsLawfulBase, MayAct}
 use Rattle.access_history.proofs.AdmissionLemmas.{AreDerived-admitted}
-use Rattle.access_history.proofs.CitingLemmas.{MayBeIssued-good, AreCitable-numbers, AreCited-numbers, absent_not_found, granted_as, granted_is, refused_grants_none, said_length, same_cites}
+use Rattle.access_history.proofs.CitingLemmas.{MayBeIssued-found, MayBeIssued-good, AreCitable-numbers, AreCited-numbers, absent_not_found, found_held, granted_as, granted_is, live_from_registry, none_in_registry, one_held, refused_grants_none, said_length, same_cites, stand_registered}
 use Rattle.access_history.proofs.NumberedLemmas.{Contains-numbered, none_fails, first_failing}
 use Rattle.op_gate.specs.declared.damage.Damage.{Damage}
 use Rattle.op_gate.specs.declared.damage.Damage.TheVariants.{Shape, Unsigned, Unproved, NotAdmitted, MomentFalls, Duplicate}
@@ -49,11 +52,11 @@ use Rattle.op_gate.specs.declared.damage.AdmitFault.{AdmitFault}
 use Rattle.op_gate.specs.declared.damage.AdmitFault.TheVariants.{Damaged, NoMemory}
 use Rattle.op_gate.specs.declared.planned.Pending.{Pending}
 use Rattle.op_gate.specs.declared.planned.Planned.TheVariants.{Answer, Keep}
-use Rattle.op_gate.specs.Admits.{FindsCited, IsPendingAs, GivesPending, IsTimely, IsCheckedAs, GivesChecked, GivesIssue, LacksNext, pending_issue, pending_statement, proof_damage, register_damage}
-use Rattle.op_gate.specs.Damage.{HasShape, TakesEffect, IsFreeOf, IsDamagedBy, MayComeNext, TellsDamage, event_damages}
+use Rattle.op_gate.specs.Admits.{FindsCited, IsPendingAs, GivesPending, IsTimely, IsCheckedAs, GivesChecked, GivesIssue, LacksNext, pending_issue, pending_statement, pending_withdrawal, proof_damage, register_damage, withdraw_damage}
+use Rattle.op_gate.specs.Damage.{HasShape, IsWithdrawalSigned, TakesEffect, IsFreeOf, IsDamagedBy, MayComeNext, TellsDamage, event_damages}
 use Rattle.op_gate.specs.DamageLaws.{IsTypedEvent}
 use Rattle.op_gate.specs.Decision.{IsPlanned}
-use Rattle.op_gate.proofs.RegistryLemmas.{said_from_registry, may_register}
+use Rattle.op_gate.proofs.RegistryLemmas.{said_from_registry, may_register, may_withdraw}
 
 -- ---- the first damage, kind by kind
 
@@ -65,27 +68,49 @@ first_after authority state event before damage behind parts free fails =
 pub damaged_shape : (authority : Authority) (state : BaseView) (event : Event) → (HasShape state event → ⊥) → IsDamagedBy authority state event Shape
 damaged_shape authority state event fails = first_after authority state event [] Shape (Unsigned ∷ Unproved ∷ MomentFalls ∷ NotAdmitted ∷ Duplicate ∷ []) refl tt fails
 
+-- an event without moment, that withdraws nothing
+shape_registered : (state : BaseView) → state.count < 2 ^ 48 - 1 → (pass : ℕ) (statement : StatementView) (signature : List ℕ) → HasShape state (Registered pass statement signature)
+shape_registered state counted pass statement signature = record { counted = counted; in_range = tt; live = tt }
+
+shape_withdrawn : (state : BaseView) → state.count < 2 ^ 48 - 1 → (pass number : ℕ) (signature : List ℕ) → IsHeld (book_of state) number → HasShape state (Withdrawn pass number signature)
+shape_withdrawn state counted pass number signature live = record { counted = counted; in_range = tt; live = live }
+
+shape_issued : (state : BaseView) → state.count < 2 ^ 48 - 1 → (pass : ℕ) (cited : List ℕ) (proof : ProofView) (g : GrantView) → HasShape state (Issued pass cited proof g)
+shape_issued state counted pass cited proof g = record { counted = counted; in_range = tt; live = tt }
+
+shape_acted : (state : BaseView) → state.count < 2 ^ 48 - 1 → (pass : ℕ) (caller : List ℕ) (op : Op) (procaps : List Procap) (moment : ℤ) → IsMoment moment → HasShape state (Acted pass caller op procaps moment)
+shape_acted state counted pass caller op procaps moment in_range = record { counted = counted; in_range = in_range; live = tt }
+
 module _ (authority : Authority) (state : BaseView) (counted : state.count < 2 ^ 48 - 1) where
+  -- no statement stands under the number
+  damaged_absent : (pass number : ℕ) (signature : List ℕ) → (IsHeld (book_of state) number → ⊥) → IsDamagedBy authority state (Withdrawn pass number signature) Shape
+  damaged_absent pass number signature none = damaged_shape authority state (Withdrawn pass number signature) (λ has. none has.live)
+
+  -- the withdrawal is not signed
+  damaged_withdrawal : (pass number : ℕ) (signature : List ℕ) → IsHeld (book_of state) number → (IsWithdrawalSigned authority (book_of state) number signature → ⊥) → IsDamagedBy authority state (Withdrawn pass number signature) Unsigned
+  damaged_withdrawal pass number signature live fails =
+      first_after authority state (Withdrawn pass number signature) (Shape ∷ []) Unsigned (Unproved ∷ MomentFalls ∷ NotAdmitted ∷ Duplicate ∷ []) refl (shape_withdrawn state counted pass number signature live, tt) fails
+
   damaged_unsigned : (pass : ℕ) (statement : StatementView) (signature : List ℕ) → (IsSignedStatement authority statement signature → ⊥) → IsDamagedBy authority state (Registered pass statement signature) Unsigned
   damaged_unsigned pass statement signature fails =
-      first_after authority state (Registered pass statement signature) (Shape ∷ []) Unsigned (Unproved ∷ MomentFalls ∷ NotAdmitted ∷ Duplicate ∷ []) refl ((counted, tt), tt) fails
+      first_after authority state (Registered pass statement signature) (Shape ∷ []) Unsigned (Unproved ∷ MomentFalls ∷ NotAdmitted ∷ Duplicate ∷ []) refl (shape_registered state counted pass statement signature, tt) fails
 
   damaged_duplicate : (pass : ℕ) (statement : StatementView) (signature : List ℕ) → IsSignedStatement authority statement signature → (CanRegister (sayings state.statements) statement → ⊥) → IsDamagedBy authority state (Registered pass statement signature) Duplicate
   damaged_duplicate pass statement signature signed fails =
-      first_after authority state (Registered pass statement signature) (Shape ∷ Unsigned ∷ Unproved ∷ MomentFalls ∷ NotAdmitted ∷ []) Duplicate [] refl ((counted, tt), (signed, (tt, (tt, (tt, tt))))) fails
+      first_after authority state (Registered pass statement signature) (Shape ∷ Unsigned ∷ Unproved ∷ MomentFalls ∷ NotAdmitted ∷ []) Duplicate [] refl (shape_registered state counted pass statement signature, (signed, (tt, (tt, (tt, tt))))) fails
 
   pub damaged_unproved : (pass : ℕ) (cited : List ℕ) (proof : ProofView) (g : GrantView) → (MayBeIssued state (record { cited = cited; proof = proof; grant = g }) → ⊥) → IsDamagedBy authority state (Issued pass cited proof g) Unproved
   damaged_unproved pass cited proof g fails =
-      first_after authority state (Issued pass cited proof g) (Shape ∷ Unsigned ∷ []) Unproved (MomentFalls ∷ NotAdmitted ∷ Duplicate ∷ []) refl ((counted, tt), (tt, tt)) fails
+      first_after authority state (Issued pass cited proof g) (Shape ∷ Unsigned ∷ []) Unproved (MomentFalls ∷ NotAdmitted ∷ Duplicate ∷ []) refl (shape_issued state counted pass cited proof g, (tt, tt)) fails
 
   pub damaged_falls : (pass : ℕ) (caller : List ℕ) (op : Op) (procaps : List Procap) (moment : ℤ) → IsMoment moment → (state.moment ≤ℤ moment → ⊥) → IsDamagedBy authority state (Acted pass caller op procaps moment) MomentFalls
   damaged_falls pass caller op procaps moment in_range fails =
-      first_after authority state (Acted pass caller op procaps moment) (Shape ∷ Unsigned ∷ Unproved ∷ []) MomentFalls (NotAdmitted ∷ Duplicate ∷ []) refl ((counted, in_range), (tt, (tt, tt))) fails
+      first_after authority state (Acted pass caller op procaps moment) (Shape ∷ Unsigned ∷ Unproved ∷ []) MomentFalls (NotAdmitted ∷ Duplicate ∷ []) refl (shape_acted state counted pass caller op procaps moment in_range, (tt, (tt, tt))) fails
 
   pub damaged_not_admitted : (pass : ℕ) (caller : List ℕ) (op : Op) (procaps : List Procap) (moment : ℤ) → IsMoment moment → state.moment ≤ℤ moment → (TakesEffect authority.key state caller op procaps moment → ⊥) →
       IsDamagedBy authority state (Acted pass caller op procaps moment) NotAdmitted
   damaged_not_admitted pass caller op procaps moment in_range not_before fails =
-      first_after authority state (Acted pass caller op procaps moment) (Shape ∷ Unsigned ∷ Unproved ∷ MomentFalls ∷ []) NotAdmitted (Duplicate ∷ []) refl ((counted, in_range), (tt, (tt, (not_before, tt)))) fails
+      first_after authority state (Acted pass caller op procaps moment) (Shape ∷ Unsigned ∷ Unproved ∷ MomentFalls ∷ []) NotAdmitted (Duplicate ∷ []) refl (shape_acted state counted pass caller op procaps moment in_range, (tt, (tt, (not_before, tt)))) fails
 
 -- ---- statements
 
@@ -119,15 +144,41 @@ registered_damaged h pass statement signature (registry.Duplicate number) counte
     (λ can. can.new (Contains-numbered (sayings (state_of h).statements) number statement (said_from_registry (state_of h).statements number statement may.1)))
 registered_damaged h pass statement signature registry.NoMemory counted may = tt
 
+-- ---- withdrawals
+
+-- a withdrawal that the registry takes
+pub withdrawn_pending : (h : HistoryView) (pass number : ℕ) (signature : List ℕ) (told : Unit {0}) (pending : Pending) → MayWithdraw (is_accepted h.ring) (state_of h).statements number signature (Ok told) →
+    pending ≡ pending_withdrawal pass number signature → IsPendingAs h h (Withdrawn pass number signature) pending
+withdrawn_pending h pass number signature told pending may pending_is = record {
+  follows = may_withdraw h.key h.ring (state_of h).statements number signature told may;
+  event_is = ap (λ (p : Pending). p.event) pending_is;
+  addition_is = ap (λ (p : Pending). p.addition) pending_is;
+  ready = tt;
+}
+
+-- and one that it does not take
+pub withdrawn_damaged : (h : HistoryView) (pass number : ℕ) (signature : List ℕ) (fault : WithdrawFault) → (state_of h).count < 2 ^ 48 - 1 →
+    MayWithdraw (is_accepted h.ring) (state_of h).statements number signature (Err fault) → GivesPending h h (Withdrawn pass number signature) (Err (withdraw_damage fault))
+withdrawn_damaged h pass number signature withdrawals.Absent counted may =
+    damaged_absent (authority_of h) (state_of h) counted pass number signature (none_in_registry (state_of h).statements number may)
+withdrawn_damaged h pass number signature withdrawals.BadSignature counted may =
+    let live = live_from_registry (state_of h).statements number may.0 may.1 in
+    damaged_withdrawal (authority_of h) (state_of h) counted pass number signature (may.0, live) (λ all. false≢true (sym may.2 ∙ all may.0 live))
+withdrawn_damaged h pass number signature withdrawals.NoMemory counted may = tt
+
 -- ---- issues
 
 -- the numbers of a good issue can be cited
 pub good_citable : (statements : List StatementView) (cited : List ℕ) (proof : ProofView) (g : GrantView) → IsGoodIssue statements (record { cited = cited; proof = proof; grant = g }) → AreCitable cited
 good_citable statements cited proof g good = subst AreCitable (sym good.cited) (AreCitable-numbers good.cites good.rising)
 
+-- they are found among the statements
+pub good_cites : (statements : List StatementView) (cited : List ℕ) (proof : ProofView) (g : GrantView) (good : IsGoodIssue statements (record { cited = cited; proof = proof; grant = g })) → AreFound (whole_book statements) cited good.cites
+good_cites statements cited proof g good = record { numbers_are = sym good.cited; stand = good.stand }
+
 -- and none of them is absent
 pub good_found : (statements : List StatementView) (cited : List ℕ) (proof : ProofView) (g : GrantView) (number : ℕ) → IsGoodIssue statements (record { cited = cited; proof = proof; grant = g }) → IsAbsent (whole_book statements) cited number → ⊥
-good_found statements cited proof g number good absent = absent_not_found (whole_book statements) cited number good.cites absent (record { numbers_are = sym good.cited; stand = good.stand })
+good_found statements cited proof g number good absent = absent_not_found (whole_book statements) cited number good.cites absent (good_cites statements cited proof g good)
 
 -- a checked proof with this grant
 pub same_checked : (checked : CheckedView) (g : GrantView) → IsChecked checked → checked.goal ≡ g.goal → checked.grant ≡ g → IsCheckedAs checked.cited checked.proof g checked
@@ -183,37 +234,43 @@ pub good_granted : (statements : List StatementView) (cited : List ℕ) (proof :
 good_granted statements cited proof g cites found good =
     subst (λ (cs : List Cite). IsGrantedFrom cs proof g) (same_cites (whole_book statements) good.cites cites (sym good.cited ∙ sym found.numbers_are) good.stand found.stand) good.granted
 
+-- what is found among the statements that stand is found among those that are registered
+found_registered : (state : BaseView) (cited : List ℕ) (cites : List Cite) → AreFound (book_of state) cited cites → AreFound (whole_book (sayings state.statements)) cited cites
+found_registered state cited cites found = record { numbers_are = found.numbers_are; stand = stand_registered state cites found.stand }
+
 -- what is found of an issue whose statements were looked up
 pub issued_found : (h : HistoryView) (pass : ℕ) (cited : List ℕ) (proof : ProofView) (g : GrantView) (cites : List Cite) (told : Result Pending AdmitFault) → (state_of h).count < 2 ^ 48 - 1 → AreCitable cited →
-    AreFound (whole_book (sayings (state_of h).statements)) cited cites → GivesIssue pass cites proof g told → GivesPending h h (Issued pass cited proof g) told
+    AreFound (book_of (state_of h)) cited cites → GivesIssue pass cites proof g told → GivesPending h h (Issued pass cited proof g) told
 issued_found h pass cited proof g cites (Ok pending) counted citable found gives =
+    let held = found_held (book_of (state_of h)) cited cites found in
     let is : pending ≡ pending_issue pass cited proof g = gives.1 ∙ ap (λ (ns : List ℕ). pending_issue pass ns proof g) found.numbers_are in
     record {
-      follows = MayBeIssued-good (state_of h) (record { cited = cited; proof = proof; grant = g }) (good_issue (sayings (state_of h).statements) cited proof g cites citable found gives.0);
+      follows = MayBeIssued-good (state_of h) (record { cited = cited; proof = proof; grant = g }) (good_issue (sayings (state_of h).statements) cited proof g cites citable (found_registered (state_of h) cited cites found) gives.0) held;
       event_is = ap (λ (p : Pending). p.event) is;
       addition_is = ap (λ (p : Pending). p.addition) is;
       ready = tt;
     }
 issued_found h pass cited proof g cites (Err (Damaged damage)) counted citable found gives =
     subst (λ (d : Damage). IsDamagedBy (authority_of h) (state_of h) (Issued pass cited proof g) d) (sym gives.0)
-    (damaged_unproved (authority_of h) (state_of h) counted pass cited proof g (λ may. gives.1 (good_granted (sayings (state_of h).statements) cited proof g cites found may.good)))
+    (damaged_unproved (authority_of h) (state_of h) counted pass cited proof g (λ may. gives.1 (good_granted (sayings (state_of h).statements) cited proof g cites (found_registered (state_of h) cited cites found) may.good)))
 issued_found h pass cited proof g cites (Err NoMemory) counted citable found gives = tt
 
 -- what is found of an issue whose statements were looked up, or not found
 pub issued_cited : (h : HistoryView) (pass : ℕ) (cited : List ℕ) (proof : ProofView) (g : GrantView) (cites : List Cite) (told : Result Pending AdmitFault) (shown : List RegisteredView) (numbers : List ℕ) → (state_of h).count < 2 ^ 48 - 1 → shown ≡ (state_of h).statements → numbers ≡ cited →
-    FindsCited (sayings shown) numbers (Ok cites) → GivesIssue pass cites proof g told → GivesPending h h (Issued pass cited proof g) told
+    FindsCited (live_book shown) numbers (Ok cites) → GivesIssue pass cites proof g told → GivesPending h h (Issued pass cited proof g) told
 issued_cited h pass cited proof g cites told shown numbers counted shown_is numbers_are finds gives =
-    let all : AreCitable cited × AreFound (whole_book (sayings (state_of h).statements)) cited cites =
-    subst (λ (ns : List ℕ). AreCitable ns × AreFound (whole_book (sayings (state_of h).statements)) ns cites) numbers_are (subst (λ (es : List RegisteredView). AreCitable numbers × AreFound (whole_book (sayings es)) numbers cites) shown_is finds) in
+    let all : AreCitable cited × AreFound (book_of (state_of h)) cited cites =
+    subst (λ (ns : List ℕ). AreCitable ns × AreFound (book_of (state_of h)) ns cites) numbers_are (subst (λ (es : List RegisteredView). AreCitable numbers × AreFound (live_book es) numbers cites) shown_is finds) in
     issued_found h pass cited proof g cites told counted all.0 all.1 gives
 
 pub issued_uncited : (h : HistoryView) (pass : ℕ) (cited : List ℕ) (proof : ProofView) (g : GrantView) (fault : AdmitFault) (shown : List RegisteredView) (numbers : List ℕ) → (state_of h).count < 2 ^ 48 - 1 → shown ≡ (state_of h).statements → numbers ≡ cited →
-    FindsCited (sayings shown) numbers (Err fault) → GivesPending h h (Issued pass cited proof g) (Err fault)
+    FindsCited (live_book shown) numbers (Err fault) → GivesPending h h (Issued pass cited proof g) (Err fault)
 issued_uncited h pass cited proof g (Damaged damage) shown numbers counted shown_is numbers_are finds =
     subst (λ (d : Damage). IsDamagedBy (authority_of h) (state_of h) (Issued pass cited proof g) d) (sym finds.0)
     (damaged_unproved (authority_of h) (state_of h) counted pass cited proof g
-    (λ may. finds.1 proof g (subst (λ (ns : List ℕ). IsGoodIssue (sayings shown) (record { cited = ns; proof = proof; grant = g })) (sym numbers_are)
-    (subst (λ (es : List RegisteredView). IsGoodIssue (sayings es) (record { cited = cited; proof = proof; grant = g })) (sym shown_is) may.good))))
+    (λ may. finds.1 may.good.cites (subst AreCitable (sym numbers_are) (good_citable (sayings (state_of h).statements) cited proof g may.good))
+    (subst (λ (ns : List ℕ). AreFound (live_book shown) ns may.good.cites) (sym numbers_are)
+    (subst (λ (es : List RegisteredView). AreFound (live_book es) cited may.good.cites) (sym shown_is) (MayBeIssued-found (state_of h) (record { cited = cited; proof = proof; grant = g }) may)))))
 issued_uncited h pass cited proof g NoMemory shown numbers counted shown_is numbers_are finds = tt
 
 -- ---- the gate
@@ -227,7 +284,7 @@ none_pending (Some p) is = absurd cc
 pub lacks_next : (authority : Authority) (state shown : BaseView) (event : Event) (fault : AdmitFault) → shown ≡ state → LacksNext shown fault → TellsDamage authority state event (Err fault)
 lacks_next authority state shown event (Damaged damage) same lacks =
     subst (λ (d : Damage). IsDamagedBy authority state event d) (sym lacks.0)
-    (damaged_shape authority state event (λ has. omega (arith, has.0, lacks.1, ap (λ (s : BaseView). s.count) same)))
+    (damaged_shape authority state event (λ has. omega (arith, has.counted, lacks.1, ap (λ (s : BaseView). s.count) same)))
 lacks_next authority state shown event NoMemory same lacks = tt
 
 -- what is reported of the event that is kept, and of one that is not
@@ -294,14 +351,24 @@ acted_damaged before after pass caller op procaps moment reply counted timely pl
 
 -- ---- laws
 
+-- who said the statement that stands signed its withdrawal
+signed_of : (authority : Authority) (book : Book) (number : ℕ) (signature : List ℕ) → MayBeWithdrawn authority book number signature → IsWithdrawalSigned authority book number signature
+signed_of authority book number signature may statement live =
+    subst (λ (s : StatementView). IsSignedWithdrawal authority s signature) (one_held book number may.statement statement may.live live) may.signed
+
 all_free : (authority : Authority) (state : BaseView) (event : Event) → MayComeNext authority state event → AllByRecursion (IsFreeOf authority state event) event_damages
 all_free authority state (Registered pass statement signature) may =
     let follows : MayBeRegistered authority state.statements statement signature = may.follows in
-    ((may.counted, tt), (follows.signed, (tt, (tt, (tt, (follows.can, tt))))))
-all_free authority state (Issued pass cited proof g) may = ((may.counted, tt), (tt, (may.follows, (tt, (tt, (tt, tt))))))
+    (shape_registered state may.counted pass statement signature, (follows.signed, (tt, (tt, (tt, (follows.can, tt))))))
+all_free authority state (Withdrawn pass number signature) may =
+    let follows : MayBeWithdrawn authority (book_of state) number signature = may.follows in (
+      shape_withdrawn state may.counted pass number signature (follows.statement, follows.live),
+      (signed_of authority (book_of state) number signature follows, (tt, (tt, (tt, (tt, tt))))),
+    )
+all_free authority state (Issued pass cited proof g) may = (shape_issued state may.counted pass cited proof g, (tt, (may.follows, (tt, (tt, (tt, tt))))))
 all_free authority state (Acted pass caller op procaps moment) may =
     let follows : MayAct authority state caller op procaps moment = may.follows in (
-      (may.counted, follows.in_range),
+      shape_acted state may.counted pass caller op procaps moment follows.in_range,
       (tt, (tt, (follows.not_before, (record { brought = follows.formed.brought; admitted = follows.admitted; not_refused = follows.not_refused }, (tt, tt))))),
     )
 
@@ -313,15 +380,18 @@ damaged_not_next authority state event damage damaged may = none_fails (IsFreeOf
 
 pub free_next : (authority : Authority) (state : BaseView) (event : Event) → IsLawfulBase authority state → IsTypedEvent event → AllByRecursion (IsFreeOf authority state event) event_damages → MayComeNext authority state event
 free_next authority state (Registered pass statement signature) base typed free =
-    record { counted = free.0.0; follows = record { statement = typed; signed = free.1.0; can = free.1.1.1.1.1.0 } }
-free_next authority state (Issued pass cited proof g) base typed free = record { counted = free.0.0; follows = free.1.1.0 }
+    record { counted = free.0.counted; follows = record { statement = typed; signed = free.1.0; can = free.1.1.1.1.1.0 } }
+free_next authority state (Withdrawn pass number signature) base typed free =
+    let live : IsHeld (book_of state) number = free.0.live in
+    record { counted = free.0.counted; follows = record { statement = live.0; live = live.1; signed = free.1.0 live.0 live.1 } }
+free_next authority state (Issued pass cited proof g) base typed free = record { counted = free.0.counted; follows = free.1.1.0 }
 free_next authority state (Acted pass caller op procaps moment) base typed free =
     let takes : TakesEffect authority.key state caller op procaps moment = free.1.1.1.1.0 in
     record {
-      counted = free.0.0;
+      counted = free.0.counted;
       follows = record {
         not_before = free.1.1.1.0;
-        in_range = free.0.1;
+        in_range = free.0.in_range;
         formed = record { named = typed.0; operation = typed.1; brought = takes.brought };
         admitted = takes.admitted;
         not_refused = takes.not_refused;

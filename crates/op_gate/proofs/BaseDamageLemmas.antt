@@ -21,7 +21,7 @@ use Rattle.access_history.specs.Books.{whole_book}
 use Rattle.access_history.specs.Citing.{AreFound, IsGoodIssue, IsGrantedFrom}
 use Rattle.access_history.specs.History.{authority_with}
 use Rattle.access_history.specs.Lawful.{IsLawfulBase}
-use Rattle.access_history.proofs.CitingLemmas.{said_length, sayings-more}
+use Rattle.access_history.proofs.CitingLemmas.{said_length, sayings-push}
 use Rattle.access_history.proofs.ListLemmas.{AllByRecursion-contains, Contains-cons_cases}
 use Rattle.access_history.proofs.NumberedLemmas.{Contains-numbered, none_fails, first_failing}
 use Rattle.bl_syntax.specs.Citable.{AreCitable}
@@ -34,11 +34,10 @@ use Rattle.op_gate.specs.Admits.{FindsCited, GivesChecked, register_damage}
 use Rattle.op_gate.specs.BaseDamage.{IsBaseShaped, AreNew, IsBaseFreeOf, IsDamagedBase, TellsBase, base_damages}
 use Rattle.op_gate.specs.BaseTests.{IsSignedIn, IsFormed, TellsTest}
 use Rattle.op_gate.specs.DamageLaws.{IsTypedBase}
-use Rattle.op_gate.proofs.AdmitLemmas.{good_issue, good_granted}
+use Rattle.op_gate.proofs.AdmitLemmas.{good_citable, good_cites, good_issue, good_granted}
 use Rattle.op_gate.proofs.RegistryLemmas.{can_register, said_from_registry}
 use Rattle.std.proofs.lemmas.Bool.{false≢true}
 use Rattle.proof_term.specs.Proof.{ProofView}
-use Rattle.bl_syntax.specs.Grant.{GrantView}
 use Rattle.proof_verifier.specs.CheckedView.{CheckedView}
 
 -- ---- laws
@@ -99,7 +98,7 @@ told_by_item P name items place item fault within is told = told_by (P item) (Al
 -- one more statement, which is new among these
 AreNew-push : (entries : List RegisteredView) (entry : RegisteredView) → AreNew entries → CanRegister (sayings entries) entry.statement → AreNew (entries ++ entry ∷ [])
 AreNew-push entries entry are new = record {
-  differ = subst (λ (ss : List StatementView). AreDistinct ss) (sym (sayings-more entries entry.statement entry.signature)) (AreDistinct-push (sayings entries) entry.statement are.differ new.new);
+  differ = subst (λ (ss : List StatementView). AreDistinct ss) (sym (sayings-push entries entry)) (AreDistinct-push (sayings entries) entry.statement are.differ new.new);
   fit = omega (arith, new.room, said_length entries, length-append entries (entry ∷ []));
 }
 
@@ -164,18 +163,18 @@ not_new ring entries entry shown signature fault shown_is signature_is signed ma
 
 -- ---- issues
 
-found_of : (statements : List StatementView) (numbers cited : List ℕ) (cites : List Cite) → numbers ≡ cited → FindsCited statements numbers (Ok cites) → AreCitable cited × AreFound (whole_book statements) cited cites
+found_of : (statements : List StatementView) (numbers cited : List ℕ) (cites : List Cite) → numbers ≡ cited → FindsCited (whole_book statements) numbers (Ok cites) → AreCitable cited × AreFound (whole_book statements) cited cites
 found_of statements numbers cited cites numbers_are finds = subst (λ (ns : List ℕ). AreCitable ns × AreFound (whole_book statements) ns cites) numbers_are finds
 
 -- an issue whose statements are found and whose proof is checked
-pub issue_good : (statements : List StatementView) (issue : Issue) (numbers : List ℕ) (proof : ProofView) (cites : List Cite) (checked : CheckedView) → numbers ≡ issue.cited → proof ≡ issue.proof → FindsCited statements numbers (Ok cites) →
+pub issue_good : (statements : List StatementView) (issue : Issue) (numbers : List ℕ) (proof : ProofView) (cites : List Cite) (checked : CheckedView) → numbers ≡ issue.cited → proof ≡ issue.proof → FindsCited (whole_book statements) numbers (Ok cites) →
     GivesChecked cites proof issue.grant (Ok checked) → IsGoodIssue statements issue
 issue_good statements issue numbers proof cites checked numbers_are proof_is finds gives =
     let found = found_of statements numbers issue.cited cites numbers_are finds in
     good_issue statements issue.cited issue.proof issue.grant cites found.0 found.1 (subst (λ (p : ProofView). IsGrantedFrom cites p issue.grant) proof_is gives.granted)
 
 -- whose proof is refused
-pub issue_unchecked : (statements : List StatementView) (issue : Issue) (numbers : List ℕ) (proof : ProofView) (cites : List Cite) (fault : AdmitFault) → numbers ≡ issue.cited → proof ≡ issue.proof → FindsCited statements numbers (Ok cites) →
+pub issue_unchecked : (statements : List StatementView) (issue : Issue) (numbers : List ℕ) (proof : ProofView) (cites : List Cite) (fault : AdmitFault) → numbers ≡ issue.cited → proof ≡ issue.proof → FindsCited (whole_book statements) numbers (Ok cites) →
     GivesChecked cites proof issue.grant (Err fault) → TellsTest (IsGoodIssue statements issue) Unproved (Err fault)
 issue_unchecked statements issue numbers proof cites (Damaged damage) numbers_are proof_is finds gives =
     let found = found_of statements numbers issue.cited cites numbers_are finds in (
@@ -184,13 +183,13 @@ issue_unchecked statements issue numbers proof cites (Damaged damage) numbers_ar
     )
 issue_unchecked statements issue numbers proof cites NoMemory numbers_are proof_is finds gives = tt
 
-abbrev issue_with : List ℕ → ProofView → GrantView → Issue
-issue_with cited proof g = record { cited = cited; proof = proof; grant = g }
-
 -- of which a statement is not found
-pub issue_uncited : (statements : List StatementView) (issue : Issue) (numbers : List ℕ) (fault : AdmitFault) → numbers ≡ issue.cited → FindsCited statements numbers (Err fault) → TellsTest (IsGoodIssue statements issue) Unproved (Err fault)
-issue_uncited statements issue numbers (Damaged damage) numbers_are finds =
-    (finds.0, λ good. finds.1 issue.proof issue.grant (subst (λ (ns : List ℕ). IsGoodIssue statements (issue_with ns issue.proof issue.grant)) (sym numbers_are) good))
+pub issue_uncited : (statements : List StatementView) (issue : Issue) (numbers : List ℕ) (fault : AdmitFault) → numbers ≡ issue.cited → FindsCited (whole_book statements) numbers (Err fault) → TellsTest (IsGoodIssue statements issue) Unproved (Err fault)
+issue_uncited statements issue numbers (Damaged damage) numbers_are finds = (
+  finds.0,
+  λ good. finds.1 good.cites (subst AreCitable (sym numbers_are) (good_citable statements issue.cited issue.proof issue.grant good))
+      (subst (λ (ns : List ℕ). AreFound (whole_book statements) ns good.cites) (sym numbers_are) (good_cites statements issue.cited issue.proof issue.grant good)),
+)
 issue_uncited statements issue numbers NoMemory numbers_are finds = tt
 
 -- ---- the first damage

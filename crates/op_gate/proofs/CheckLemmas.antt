@@ -1,6 +1,7 @@
 -- The first test that a procap does not pass, over plain values.
 use Rattle.std.proofs.Common.{◌≡◌, ◌<◌, ◌+◌, ℕ, List, [], ◌∷◌, ◌++◌, length, get_or, refl, ap, subst, sym, ◌∙◌, arith, append_assoc, Option, Some, None}
-use Rattle.std.specs.Prelude.{ℤ, Contains, MatchOption}
+use Rattle.std.specs.Prelude.{ℤ, Contains}
+use Rattle.std.proofs.lemmas.Option.{none-some}
 use Rattle.std.specs.Prelude.{Bool, true, false, IsTrue, ◌↔◌}
 use Rattle.std.specs.List.{AllByRecursion}
 use Rattle.std.proofs.lemmas.List.{length-append}
@@ -18,8 +19,9 @@ use Rattle.file_world.specs.Facts.{facts}
 use Rattle.access_history.specs.declared.reply.DenialCause.{DenialCause}
 use Rattle.access_history.specs.declared.reply.DenialCause.TheVariants as causes
 use Rattle.access_history.specs.Base.{BaseView}
-use Rattle.access_history.specs.Admission.{Admits, Denies, Passes, causes_from}
-use Rattle.op_gate.specs.Checks.{FailsAt, condition_checks, name_checks}
+use Rattle.access_history.specs.Gone.{gone}
+use Rattle.access_history.specs.Admission.{Admits, Denies, Passes, causes_from, condition_causes, withdrawal_causes}
+use Rattle.op_gate.specs.Checks.{FailsAt, name_checks}
 
 -- what holds of two lists holds of them joined
 pub all_joined : {A : Type 0} (P : A → Type 0) (xs ys : List A) → AllByRecursion P xs → AllByRecursion P ys → AllByRecursion P (xs ++ ys)
@@ -93,28 +95,53 @@ FailsAt-cause {A} P Q cause from items place c under over f = (
 -- its seal is not right
 pub denied_seal : (key : List ℕ) (state : BaseView) (moment : ℤ) (wanted : Goal) (p : Procap) → (IsGenuine key p → ⊥) → Denies key state moment wanted p causes.Seal
 denied_seal key state moment wanted p other =
-    let first = FailsAt-head (Passes key state moment wanted p) causes.Seal (name_checks ++ condition_checks p.grant) other in
+    let first = FailsAt-head (Passes key state moment wanted p) causes.Seal (name_checks ++ (condition_causes p.grant ++ withdrawal_causes (gone state p.grant))) other in
     record { place = first.0; first = first.1 }
 
 -- its seal is right, and it does not have the names
 pub denied_name : (key : List ℕ) (state : BaseView) (moment : ℤ) (wanted : Goal) (p : Procap) (cause : DenialCause) → IsGenuine key p → FailsAt (Passes key state moment wanted p) name_checks cause → Denies key state moment wanted p cause
 denied_name key state moment wanted p cause sealed fails =
     let P = Passes key state moment wanted p in
-    let first = FailsAt-behind P (causes.Seal ∷ []) (name_checks ++ condition_checks p.grant) cause (sealed, tt) (FailsAt-front P name_checks (condition_checks p.grant) cause fails) in
+    let rest = condition_causes p.grant ++ withdrawal_causes (gone state p.grant) in
+    let first = FailsAt-behind P (causes.Seal ∷ []) (name_checks ++ rest) cause (sealed, tt) (FailsAt-front P name_checks rest cause fails) in
     record { place = first.0; first = first.1 }
 
 -- it has the names, and a condition fails
 pub denied_condition : (key : List ℕ) (state : BaseView) (moment : ℤ) (wanted : Goal) (p : Procap) (cause : DenialCause) → IsGenuine key p → AllByRecursion (Passes key state moment wanted p) name_checks →
-    FailsAt (Passes key state moment wanted p) (condition_checks p.grant) cause → Denies key state moment wanted p cause
+    FailsAt (Passes key state moment wanted p) (condition_causes p.grant) cause → Denies key state moment wanted p cause
 denied_condition key state moment wanted p cause sealed names fails =
     let P = Passes key state moment wanted p in
-    let first = FailsAt-behind P (causes.Seal ∷ []) (name_checks ++ condition_checks p.grant) cause (sealed, tt) (FailsAt-behind P name_checks (condition_checks p.grant) cause names fails) in
+    let last = withdrawal_causes (gone state p.grant) in
+    let rest = condition_causes p.grant ++ last in
+    let first = FailsAt-behind P (causes.Seal ∷ []) (name_checks ++ rest) cause (sealed, tt) (FailsAt-behind P name_checks rest cause names (FailsAt-front P (condition_causes p.grant) last cause fails)) in
     record { place = first.0; first = first.1 }
 
+gone_fails : (key : List ℕ) (state : BaseView) (moment : ℤ) (wanted : Goal) (p : Procap) (number : ℕ) → gone state p.grant ≡ Some number → FailsAt (Passes key state moment wanted p) (withdrawal_causes (gone state p.grant)) (causes.Withdrawn number)
+gone_fails key state moment wanted p number is =
+    let P = Passes key state moment wanted p in
+    subst (λ (found : Option ℕ). FailsAt P (withdrawal_causes found) (causes.Withdrawn number)) (sym is) (FailsAt-head P (causes.Withdrawn number) [] (λ none. none-some number (sym none ∙ is)))
+
+-- its conditions hold, and its grant is gone
+pub denied_withdrawn : (key : List ℕ) (state : BaseView) (moment : ℤ) (wanted : Goal) (p : Procap) (number : ℕ) → IsGenuine key p → AllByRecursion (Passes key state moment wanted p) name_checks → AllByRecursion (Passes key state moment wanted p) (condition_causes p.grant) →
+    gone state p.grant ≡ Some number → Denies key state moment wanted p (causes.Withdrawn number)
+denied_withdrawn key state moment wanted p number sealed names conditions is =
+    let P = Passes key state moment wanted p in
+    let last = withdrawal_causes (gone state p.grant) in
+    let rest = condition_causes p.grant ++ last in
+    let cause = causes.Withdrawn number in
+    let first = FailsAt-behind P (causes.Seal ∷ []) (name_checks ++ rest) cause (sealed, tt) (FailsAt-behind P name_checks rest cause names (FailsAt-behind P (condition_causes p.grant) last cause conditions (gone_fails key state moment wanted p number is))) in
+    record { place = first.0; first = first.1 }
+
+none_gone : (key : List ℕ) (state : BaseView) (moment : ℤ) (wanted : Goal) (p : Procap) → gone state p.grant ≡ None → AllByRecursion (Passes key state moment wanted p) (withdrawal_causes (gone state p.grant))
+none_gone key state moment wanted p is = subst (λ (found : Option ℕ). AllByRecursion (Passes key state moment wanted p) (withdrawal_causes found)) (sym is) tt
+
 -- it passes all
-pub admitted_all : (key : List ℕ) (state : BaseView) (moment : ℤ) (wanted : Goal) (p : Procap) → IsGenuine key p → AllByRecursion (Passes key state moment wanted p) name_checks → AllByRecursion (Passes key state moment wanted p) (condition_checks p.grant) →
-    Admits key state moment wanted p
-admitted_all key state moment wanted p sealed names conditions = (sealed, all_joined (Passes key state moment wanted p) name_checks (condition_checks p.grant) names conditions)
+pub admitted_all : (key : List ℕ) (state : BaseView) (moment : ℤ) (wanted : Goal) (p : Procap) → IsGenuine key p → AllByRecursion (Passes key state moment wanted p) name_checks → AllByRecursion (Passes key state moment wanted p) (condition_causes p.grant) →
+    gone state p.grant ≡ None → Admits key state moment wanted p
+admitted_all key state moment wanted p sealed names conditions is =
+    let P = Passes key state moment wanted p in
+    let last = withdrawal_causes (gone state p.grant) in
+    (sealed, all_joined P name_checks (condition_causes p.grant ++ last) names (all_joined P (condition_causes p.grant) last conditions (none_gone key state moment wanted p is)))
 
 -- ---- the names, by the grant's goal
 
@@ -142,14 +169,14 @@ names_all key state moment wanted goal p same who file perm =
 -- ---- the conditions
 
 pub condition_time : (key : List ℕ) (state : BaseView) (moment : ℤ) (wanted : Goal) (p : Procap) (place : ℕ) (c : Constraint) → IsFirstFailing (HoldsAt moment) p.grant.times place c →
-    FailsAt (Passes key state moment wanted p) (condition_checks p.grant) (causes.Time (place + 1) c)
+    FailsAt (Passes key state moment wanted p) (condition_causes p.grant) (causes.Time (place + 1) c)
 condition_time key state moment wanted p place c first =
     let P = Passes key state moment wanted p in
     FailsAt-front P (causes_from causes.Time 1 p.grant.times) (causes_from causes.State 1 p.grant.states) (causes.Time (place + 1) c)
     (FailsAt-cause P (HoldsAt moment) causes.Time 1 p.grant.times place c (λ n x h. h) (λ n x h. h) first)
 
 pub condition_state : (key : List ℕ) (state : BaseView) (moment : ℤ) (wanted : Goal) (p : Procap) (place : ℕ) (s : StatePred) → AllByRecursion (HoldsAt moment) p.grant.times → IsFirstFailing (Contains (facts state.world)) p.grant.states place s →
-    FailsAt (Passes key state moment wanted p) (condition_checks p.grant) (causes.State (place + 1) s)
+    FailsAt (Passes key state moment wanted p) (condition_causes p.grant) (causes.State (place + 1) s)
 condition_state key state moment wanted p place s times first =
     let P = Passes key state moment wanted p in
     FailsAt-behind P (causes_from causes.Time 1 p.grant.times) (causes_from causes.State 1 p.grant.states) (causes.State (place + 1) s)
@@ -157,7 +184,7 @@ condition_state key state moment wanted p place s times first =
     (FailsAt-cause P (Contains (facts state.world)) causes.State 1 p.grant.states place s (λ n x h. h) (λ n x h. h) first)
 
 pub conditions_hold : (key : List ℕ) (state : BaseView) (moment : ℤ) (wanted : Goal) (p : Procap) → AllByRecursion (HoldsAt moment) p.grant.times → AllByRecursion (Contains (facts state.world)) p.grant.states →
-    AllByRecursion (Passes key state moment wanted p) (condition_checks p.grant)
+    AllByRecursion (Passes key state moment wanted p) (condition_causes p.grant)
 conditions_hold key state moment wanted p times states =
     let P = Passes key state moment wanted p in
     all_joined P (causes_from causes.Time 1 p.grant.times) (causes_from causes.State 1 p.grant.states)
@@ -195,8 +222,3 @@ file_same a b e = cc
 
 pub perm_same : (a b : Perm) → terms.Perm a ≡ terms.Perm b → a ≡ b
 perm_same a b e = cc
-
--- what follows of an option from what holds of it
-pub MatchOption-map : {A : Type 0} {N M : Type 0} {P Q : A → Type 0} (o : Option A) → (N → M) → ((x : A) → P x → Q x) → MatchOption o N P → MatchOption o M Q
-MatchOption-map None none some holds = none holds
-MatchOption-map (Some x) none some holds = some x holds

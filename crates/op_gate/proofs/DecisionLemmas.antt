@@ -1,24 +1,25 @@
 -- What was decided is an answer, over plain values.
-use Rattle.std.proofs.Common.{◌≡◌, ◌+◌, ℕ, List, length, ap, subst, sym, Some}
+use Rattle.std.proofs.Common.{◌≡◌, ◌+◌, ℕ, List, length, ap, subst, sym, refl, Some}
 use Rattle.std.specs.Prelude.{ℤ}
 use Rattle.std.specs.List.{AllByRecursion}
 use Rattle.bl_syntax.specs.Statement.{StatementView}
 use Rattle.proof_verifier.specs.Cited.{AreCited}
 use Rattle.proof_verifier.specs.CheckedView.{CheckedView, IsChecked}
 use Rattle.access_history.specs.declared.event.Event.{Event}
-use Rattle.access_history.specs.declared.event.Event.TheVariants.{Registered, Issued}
+use Rattle.access_history.specs.declared.event.Event.TheVariants.{Registered, Withdrawn, Issued}
 use Rattle.access_history.specs.declared.request.StepRequest.{StepRequest}
 use Rattle.access_history.specs.declared.request.StepRequest.TheVariants as requests
 use Rattle.access_history.specs.declared.reply.StepReply.{StepReply}
 use Rattle.access_history.specs.declared.reply.StepReply.TheVariants as replies
-use Rattle.access_history.specs.Citing.{StandsUnderNumber, issued_grant, numbers_of}
+use Rattle.access_history.specs.Citing.{MayBeWithdrawn, StandsUnderNumber, issued_grant, numbers_of}
 use Rattle.access_history.specs.Authority.{MayBeRegistered}
 use Rattle.access_history.specs.Books.{book_of}
 use Rattle.access_history.specs.History.{HistoryView, authority_of, state_of, addition_of, IsReadyFor}
-use Rattle.access_history.specs.Answer.{Answers, registered, issued}
+use Rattle.access_history.specs.Answer.{Answers, registered, withdrawn, issued}
 use Rattle.op_gate.specs.declared.planned.Planned.{Planned}
 use Rattle.op_gate.specs.declared.planned.Planned.TheVariants.{Answer, Keep, NoMemory}
 use Rattle.op_gate.specs.declared.planned.Pending.{Pending}
+use Rattle.op_gate.specs.Admits.{pending_withdrawal}
 use Rattle.op_gate.specs.Decision.{IsPlanned, Keeps}
 
 -- what keeps the event of the answer is decided so
@@ -41,6 +42,12 @@ registered_decided h pass clock statement signature number planned may number_is
     kept_decided h h pass clock (requests.Register statement signature) (replies.Statement (number + 1)) (Registered pass statement signature) planned
     (subst (λ (n : ℕ). Answers (authority_of h) (state_of h) pass clock (requests.Register statement signature) (replies.Statement (n + 1)) (Some (Registered pass statement signature))) (sym number_is) (registered statement signature may))
     tt keeps
+
+-- a statement is withdrawn
+pub withdrawn_decided : (h : HistoryView) (pass : ℕ) (clock : ℤ) (number : ℕ) (signature : List ℕ) (pending : Pending) → MayBeWithdrawn (authority_of h) (book_of (state_of h)) number signature → pending ≡ pending_withdrawal pass number signature →
+    IsPlanned h pass clock (requests.Withdraw number signature) (Keep replies.Withdrawn pending) h
+withdrawn_decided h pass clock number signature pending may pending_is =
+    kept_decided h h pass clock (requests.Withdraw number signature) replies.Withdrawn (Withdrawn pass number signature) (Keep replies.Withdrawn pending) (withdrawn number signature may) tt (refl, pending_is)
 
 -- a grant is issued
 pub issued_decided : (h : HistoryView) (pass : ℕ) (clock : ℤ) (checked : CheckedView) (issues : ℕ) (planned : Planned) → AreCited checked.cited → IsChecked checked → AllByRecursion (StandsUnderNumber (book_of (state_of h))) checked.cited →

@@ -98,7 +98,7 @@ not_met : (key : List ℕ) (state : BaseView) (caller : List ℕ) (procaps : Lis
 not_met key state caller procaps moment wanted p cause brought denies met =
     let same : met.procap ≡ p = numbered_item procaps wanted.place met.procap p met.brought brought in
     let admits : Admits key state moment (wanted_goal caller wanted) p = subst (λ (q : Procap). Admits key state moment (wanted_goal caller wanted) q) same met.admits in
-    none_fails (Passes key state moment (wanted_goal caller wanted) p) (denial_causes p.grant) denies.place cause admits denies.first
+    none_fails (Passes key state moment (wanted_goal caller wanted) p) (denial_causes state p.grant) denies.place cause admits denies.first
 
 -- the first need that is not met
 pub denied_at : (key : List ℕ) (state : BaseView) (caller : List ℕ) (op : Op) (procaps : List Procap) (moment : ℤ) (pairs : List Pair) (place : ℕ) (pair : Pair) (p : Procap) (cause : DenialCause) → placed 1 pairs ≡ needs state.world op →

@@ -1,6 +1,6 @@
 -- What the registry and the history tell of statements and issues, over plain values.
-use Rattle.std.proofs.Common.{◌≡◌, ◌≤◌, ◌<◌, ◌-◌, ℕ, zero, suc, List, length, get_or, refl, sym, subst, ◌∙◌, arith, Some, Bool}
-use Rattle.std.specs.Prelude.{Contains, ℤ, Result, Ok, Err, IsTrue, MatchOption}
+use Rattle.std.proofs.Common.{◌≡◌, ◌≤◌, ◌<◌, ℕ, zero, suc, List, length, refl, sym, subst, ◌∙◌, arith, Some, Bool, false}
+use Rattle.std.specs.Prelude.{◌↔◌, Contains, ℤ, Result, Ok, Err, IsTrue, MatchOption}
 use Rattle.std.specs.List.{slice_get}
 use Rattle.std.proofs.lemmas.Option.{slice_get-map, slice_get_read}
 use Rattle.bl_syntax.specs.Statement.{StatementView, IsStatement}
@@ -11,21 +11,23 @@ use Rattle.policy_statement.specs.Registry.{MayRegister}
 use Rattle.policy_statement.specs.Ring.{KeyView, is_accepted}
 use Rattle.policy_statement.specs.declared.registry.RegisterFault.{RegisterFault as Fault}
 use Rattle.policy_statement.specs.declared.registry.RegisterFault.TheVariants as faults
+use Rattle.policy_statement.specs.Withdrawal.{MayWithdraw}
+use Rattle.policy_statement.specs.declared.registry.WithdrawFault.{WithdrawFault}
+use Rattle.policy_statement.specs.declared.registry.WithdrawFault.TheVariants as withdrawals
 use Rattle.access_history.specs.declared.reply.StepReply.TheVariants as replies
 use Rattle.access_history.specs.declared.request.StepRequest.TheVariants as requests
-use Rattle.access_history.specs.Answer.{unsigned, duplicate, registry_full}
+use Rattle.access_history.specs.Answer.{unsigned, duplicate, registry_full, not_live, unsigned_withdrawal}
 use Rattle.access_history.specs.Authority.{CanRegister, MayBeRegistered, sayings}
-use Rattle.access_history.specs.Books.{whole_book}
+use Rattle.access_history.specs.Books.{Book, live_book}
 use Rattle.access_history.specs.History.{HistoryView, authority_with, state_of}
 use Rattle.op_gate.specs.Rejection.{rejection_of}
-use Rattle.op_gate.specs.Decision.{IsPlanned}
+use Rattle.op_gate.specs.Decision.{IsPlanned, plan_of_withdrawal}
 use Rattle.op_gate.specs.declared.planned.Planned.{Planned}
 use Rattle.op_gate.specs.declared.planned.Planned.TheVariants.{Answer, NoMemory}
 use Rattle.std.proofs.lemmas.Bool.{false≢true}
 use Rattle.access_history.specs.Numbered.{IsNumbered}
-use Rattle.access_history.specs.Citing.{StandsUnderNumber}
-use Rattle.access_history.proofs.CitingLemmas.{entry_held, one_held, said_length}
-use Rattle.access_history.proofs.NumberedLemmas.{numbered_in}
+use Rattle.access_history.specs.Citing.{IsHeld, MayBeWithdrawn, StandsUnderNumber}
+use Rattle.access_history.proofs.CitingLemmas.{live_from_registry, none_in_registry, one_held, said_length}
 use Rattle.proof_verifier.specs.declared.cites.Cite.{Cite}
 
 abbrev statement_of : RegisteredView → StatementView
@@ -42,16 +44,16 @@ new_to_registry entries s new here =
     let found : slice_get (sayings entries) here.0 ≡ Some s = slice_get_read (sayings entries) (length (sayings entries)) here.0 s refl here.1 (sym here.2) in
     new (suc here.0) (sym (slice_get-map statement_of entries here.0) ∙ found)
 
--- a statement is the one of the entry that was read under its number, or not
-pub stands_as_entry : (entries : List RegisteredView) (cite : Cite) (entry : RegisteredView) (is_same : Bool) → (cite.number ≡ 0 → ⊥) → cite.number ≤ length entries → entry ≡ get_or entries (cite.number - 1) entry →
-    (IsTrue is_same → entry.statement ≡ cite.statement) × (entry.statement ≡ cite.statement → IsTrue is_same) →
-    (IsTrue is_same → StandsUnderNumber (whole_book (sayings entries)) cite) × (StandsUnderNumber (whole_book (sayings entries)) cite → IsTrue is_same)
-stands_as_entry entries cite entry is_same some within at decides =
-    let book = whole_book (sayings entries) in
-    let held : IsNumbered book cite.number (Some entry.statement) = entry_held entries cite.number entry (numbered_in entries entries cite.number entry refl some within at) in (
-      λ yes. subst (λ (s : StatementView). IsNumbered book cite.number (Some s)) (decides.0 yes) held,
-      λ stands. decides.1 (one_held book cite.number entry.statement cite.statement held stands),
-    )
+-- a statement is the one that its number holds, or not
+pub stands_as : (book : Book) (cite : Cite) (s : StatementView) (is_same : Bool) → IsNumbered book cite.number (Some s) → IsTrue is_same ↔ (s ≡ cite.statement) → IsTrue is_same ↔ StandsUnderNumber book cite
+stands_as book cite s is_same held decides = (
+  λ yes. subst (λ (t : StatementView). IsNumbered book cite.number (Some t)) (decides.0 yes) held,
+  λ stands. decides.1 (one_held book cite.number s cite.statement held stands),
+)
+
+-- its number holds none
+pub stands_nowhere : (book : Book) (cite : Cite) → (IsHeld book cite.number → ⊥) → IsTrue false ↔ StandsUnderNumber book cite
+stands_nowhere book cite none = (λ yes. absurd (false≢true yes), λ stands. absurd (none (cite.statement, stands)))
 
 -- and can be added, if there is room
 pub can_register : (entries : List RegisteredView) (s : StatementView) → IsNewStatement entries s → length entries < 4096 → CanRegister (sayings entries) s
@@ -85,3 +87,25 @@ rejected_decided h pass clock statement signature (faults.Duplicate number) plan
     (duplicate statement signature number may.0 (said_from_registry (state_of h).statements number statement may.1))
 rejected_decided h pass clock statement signature faults.NoMemory planned may told =
     subst (λ (d : Planned). IsPlanned h pass clock (requests.Register statement signature) d h) (sym told) tt
+
+-- ---- withdrawals
+
+-- what the registry tells of a withdrawal, over what it is shown
+pub MayWithdraw-shown : (ring shown_ring : List KeyView) (entries shown_entries : List RegisteredView) (number : ℕ) (signature shown : List ℕ) (told : Result (Unit {0}) WithdrawFault) → shown_ring ≡ ring → shown ≡ signature → shown_entries ≡ entries →
+    MayWithdraw (is_accepted shown_ring) shown_entries number shown told → MayWithdraw (is_accepted ring) entries number signature told
+MayWithdraw-shown ring shown_ring entries shown_entries number signature shown told ring_is signature_is entries_are may =
+    subst (λ (r : List KeyView). MayWithdraw (is_accepted r) entries number signature told) ring_is
+    (subst (λ (s : List ℕ). MayWithdraw (is_accepted shown_ring) entries number s told) signature_is
+    (subst (λ (es : List RegisteredView). MayWithdraw (is_accepted shown_ring) es number shown told) entries_are may))
+
+-- a statement whose withdrawal the registry takes may be withdrawn
+pub may_withdraw : (key : List ℕ) (ring : List KeyView) (entries : List RegisteredView) (number : ℕ) (signature : List ℕ) (told : Unit {0}) → MayWithdraw (is_accepted ring) entries number signature (Ok told) → MayBeWithdrawn (authority_with key ring) (live_book entries) number signature
+may_withdraw key ring entries number signature told may = record { statement = may.0; live = live_from_registry entries number may.0 may.1; signed = may.2 }
+
+-- one that it does not take is refused
+pub withdrawal_refused : (h : HistoryView) (pass : ℕ) (clock : ℤ) (number : ℕ) (signature : List ℕ) (fault : WithdrawFault) → MayWithdraw (is_accepted h.ring) (state_of h).statements number signature (Err fault) →
+    IsPlanned h pass clock (requests.Withdraw number signature) (plan_of_withdrawal number fault) h
+withdrawal_refused h pass clock number signature withdrawals.Absent may = not_live number signature (none_in_registry (state_of h).statements number may)
+withdrawal_refused h pass clock number signature withdrawals.BadSignature may =
+    unsigned_withdrawal number signature may.0 (live_from_registry (state_of h).statements number may.0 may.1) (λ signed. false≢true (sym may.2 ∙ signed))
+withdrawal_refused h pass clock number signature withdrawals.NoMemory may = tt

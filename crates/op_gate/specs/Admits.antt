@@ -13,12 +13,14 @@ use Rattle.bl_syntax.specs.Grant.{GrantView}
 use Rattle.bl_syntax.specs.Statement.{StatementView}
 use Rattle.policy_statement.specs.declared.registry.RegisterFault.{RegisterFault}
 use Rattle.policy_statement.specs.declared.registry.RegisterFault.TheVariants as registry
+use Rattle.policy_statement.specs.declared.registry.WithdrawFault.{WithdrawFault}
+use Rattle.policy_statement.specs.declared.registry.WithdrawFault.TheVariants as withdrawals
 use Rattle.access_history.specs.declared.event.Addition.TheVariants as additions
 use Rattle.access_history.specs.declared.event.Event.{Event}
-use Rattle.access_history.specs.declared.event.Event.TheVariants.{Registered, Issued}
+use Rattle.access_history.specs.declared.event.Event.TheVariants.{Registered, Withdrawn, Issued}
 use Rattle.bl_syntax.specs.Citable.{AreCitable}
-use Rattle.access_history.specs.Books.{whole_book}
-use Rattle.access_history.specs.Citing.{AreFound, IsGoodIssue, IsGrantedFrom, numbers_of}
+use Rattle.access_history.specs.Books.{Book}
+use Rattle.access_history.specs.Citing.{AreFound, IsGrantedFrom, numbers_of}
 use Rattle.access_history.specs.History.{HistoryView, authority_of, state_of, addition_of, IsReadyFor}
 use Rattle.access_history.specs.Lawful.{MayFollow}
 use Rattle.access_history.specs.WellFormed.{BringsEnough}
@@ -51,6 +53,10 @@ pub record IsTimely (state : BaseView) (op : Op) (procaps : List Procap) (moment
 abbrev pub pending_statement : ℕ → StatementView → List ℕ → Pending
 pending_statement pass statement signature = record { event = Registered pass statement signature; addition = additions.Statement statement signature }
 
+-- what the state keeps of a withdrawal, pending with its event
+abbrev pub pending_withdrawal : ℕ → ℕ → List ℕ → Pending
+pending_withdrawal pass number signature = record { event = Withdrawn pass number signature; addition = additions.Withdrawal number }
+
 -- what the state keeps of an issue, pending with its event
 abbrev pub pending_issue : ℕ → List ℕ → ProofView → GrantView → Pending
 pending_issue pass cited proof g = record { event = Issued pass cited proof g; addition = additions.Issue (record { cited = cited; proof = proof; grant = g }) }
@@ -74,11 +80,11 @@ GivesIssue pass cites proof g (Ok pending) = IsGrantedFrom cites proof g × (pen
 GivesIssue pass cites proof g (Err (Damaged damage)) = (damage ≡ Unproved) × (IsGrantedFrom cites proof g → ⊥)
 GivesIssue pass cites proof g (Err NoMemory) = Unit {0}
 
--- the statements of these numbers, which can be cited; or there is no good issue that cites them; or there was no memory
-abbrev pub FindsCited : List StatementView → List ℕ → Result (List Cite) AdmitFault → Type 0
-FindsCited statements numbers (Ok cites) = AreCitable numbers × AreFound (whole_book statements) numbers cites
-FindsCited statements numbers (Err (Damaged damage)) = (damage ≡ Unproved) × ((proof : ProofView) (g : GrantView) → IsGoodIssue statements (record { cited = numbers; proof = proof; grant = g }) → ⊥)
-FindsCited statements numbers (Err NoMemory) = Unit {0}
+-- the statements of these numbers, which can be cited; or they cannot be cited, or are not all found; or there was no memory
+abbrev pub FindsCited : Book → List ℕ → Result (List Cite) AdmitFault → Type 0
+FindsCited book numbers (Ok cites) = AreCitable numbers × AreFound book numbers cites
+FindsCited book numbers (Err (Damaged damage)) = (damage ≡ Unproved) × ((cites : List Cite) → AreCitable numbers → AreFound book numbers cites → ⊥)
+FindsCited book numbers (Err NoMemory) = Unit {0}
 
 -- there is no number for one more event, or there was no memory
 abbrev pub LacksNext : BaseView → AdmitFault → Type 0
@@ -91,6 +97,12 @@ register_damage registry.BadSignature = Damaged Unsigned
 register_damage registry.RegistryFull = Damaged Duplicate
 register_damage (registry.Duplicate number) = Damaged Duplicate
 register_damage registry.NoMemory = NoMemory
+
+-- the damage of a withdrawal that the registry does not take
+abbrev pub withdraw_damage : WithdrawFault → AdmitFault
+withdraw_damage withdrawals.Absent = Damaged Shape
+withdraw_damage withdrawals.BadSignature = Damaged Unsigned
+withdraw_damage withdrawals.NoMemory = NoMemory
 
 -- the damage of an issue whose proof is refused
 abbrev pub proof_damage : CheckFault → AdmitFault

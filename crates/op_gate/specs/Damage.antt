@@ -1,15 +1,18 @@
 -- The damage of an event that was read from an area: the tests that it has to pass to come next, in their order, and the first that it does not pass (this project's own).
-use Rattle.std.specs.Prelude.{◌≡◌, ◌<◌, ◌-◌, ◌^◌, ◌≤ℤ◌, ℕ, ℤ, List, [], ◌∷◌, None, Result, Ok, Err}
+use Rattle.std.specs.Prelude.{◌≡◌, ◌<◌, ◌-◌, ◌^◌, ◌≤ℤ◌, ℕ, ℤ, List, [], ◌∷◌, Some, None, Result, Ok, Err}
 use Rattle.bl_syntax.specs.FirstFailing.{IsFirstFailing}
 use Rattle.procap.specs.declared.procap.Procap.{Procap}
 use Rattle.file_world.specs.declared.operation.Op.{Op}
 use Rattle.file_world.specs.Effect.{refusal}
 use Rattle.access_history.specs.declared.event.Event.{Event}
-use Rattle.access_history.specs.declared.event.Event.TheVariants.{Registered, Issued, Acted}
+use Rattle.access_history.specs.declared.event.Event.TheVariants.{Registered, Withdrawn, Issued, Acted}
 use Rattle.access_history.specs.Admission.{IsAdmitted}
-use Rattle.access_history.specs.Authority.{Authority, CanRegister, IsSignedStatement, sayings}
+use Rattle.bl_syntax.specs.Statement.{StatementView}
+use Rattle.access_history.specs.Authority.{Authority, CanRegister, IsSignedStatement, IsSignedWithdrawal, sayings}
 use Rattle.access_history.specs.Base.{BaseView}
-use Rattle.access_history.specs.Citing.{MayBeIssued}
+use Rattle.access_history.specs.Books.{Book, book_of}
+use Rattle.access_history.specs.Citing.{IsHeld, MayBeIssued}
+use Rattle.access_history.specs.Numbered.{IsNumbered}
 use Rattle.access_history.specs.Keeping.{HasMomentInRange}
 use Rattle.access_history.specs.Lawful.{MayFollow}
 use Rattle.access_history.specs.WellFormed.{BringsEnough}
@@ -20,13 +23,25 @@ use Rattle.op_gate.specs.declared.damage.AdmitFault.TheVariants.{Damaged, NoMemo
 
 -- ---- the tests, each of the events that it concerns; it holds of every other
 
--- there is a number for one more event, at most 2^48 - 1, and the event's moment lies in the range of moments
-abbrev pub HasShape : BaseView → Event → Type 0
-HasShape state event = (state.count < 2 ^ 48 - 1) × HasMomentInRange event
+-- a withdrawal names a statement that stands
+abbrev pub NamesLive : BaseView → Event → Type 0
+NamesLive state (Withdrawn pass number signature) = IsHeld (book_of state) number
+NamesLive state _ = Unit {0}
 
--- the signature of a statement is accepted from who says it
+-- there is a number for one more event, at most 2^48 - 1, the event's moment lies in the range of moments, and the statement that it withdraws stands
+pub record HasShape (state : BaseView) (event : Event) : Type 0 where
+  pub counted : state.count < 2 ^ 48 - 1
+  pub in_range : HasMomentInRange event
+  pub live : NamesLive state event
+
+-- the signature is accepted from who said the statement that stands under the number, under the message of its withdrawal
+abbrev pub IsWithdrawalSigned : Authority → Book → ℕ → List ℕ → Type 0
+IsWithdrawalSigned authority book number signature = (statement : StatementView) → IsNumbered book number (Some statement) → IsSignedWithdrawal authority statement signature
+
+-- the signature of a statement is accepted from who says it, and that of a withdrawal from who said the statement
 abbrev pub IsSigned : Authority → BaseView → Event → Type 0
 IsSigned authority state (Registered pass statement signature) = IsSignedStatement authority statement signature
+IsSigned authority state (Withdrawn pass number signature) = IsWithdrawalSigned authority (book_of state) number signature
 IsSigned authority state _ = Unit {0}
 
 -- an issue cites 1 to 64 statements that stand, by strictly rising numbers, and its grant is granted by its proof from them

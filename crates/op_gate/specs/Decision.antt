@@ -7,6 +7,9 @@ use Rattle.file_world.specs.declared.refusal.OpFault.{OpFault}
 use Rattle.file_world.specs.declared.refusal.OpFault.TheVariants as faults
 use Rattle.file_world.specs.Needs.{needs}
 use Rattle.access_history.specs.declared.event.Event.{Event}
+use Rattle.policy_statement.specs.declared.registry.WithdrawFault.{WithdrawFault}
+use Rattle.policy_statement.specs.declared.registry.WithdrawFault.TheVariants as withdrawals
+use Rattle.access_history.specs.declared.reply.Rejection.TheVariants as rejections
 use Rattle.access_history.specs.declared.reply.Denial.{Denial}
 use Rattle.access_history.specs.declared.reply.StepReply.{StepReply}
 use Rattle.access_history.specs.declared.reply.StepReply.TheVariants as replies
@@ -35,6 +38,12 @@ Keeps reply event NoMemory = Unit {0}
 abbrev pub plan_of_fault : ℕ → OpFault → Planned
 plan_of_fault count (faults.Refused why) = Answer (replies.Refused why count)
 plan_of_fault count faults.NoMemory = NoMemory
+
+-- what is answered to a withdrawal that the registry does not take
+abbrev pub plan_of_withdrawal : ℕ → WithdrawFault → Planned
+plan_of_withdrawal number withdrawals.Absent = Answer (replies.Absent number)
+plan_of_withdrawal number withdrawals.BadSignature = Answer (replies.Rejected rejections.BadSignature)
+plan_of_withdrawal number withdrawals.NoMemory = NoMemory
 
 -- what is planned over a history is the answer, and the history after it is ready for the event that the answer keeps
 abbrev pub IsPlanned : HistoryView → ℕ → ℤ → StepRequest → Planned → HistoryView → Type 0

@@ -4,22 +4,22 @@ ghost use Rattle.std.specs.Prelude.{◌≡◌, ◌↔◌, ◌<◌, ◌-◌, ◌^
 ghost use Rattle.access_history.specs.declared.event.Event.TheVariants as events;
 ghost use Rattle.proof_verifier.specs.Cited.{AreCited};
 ghost use Rattle.access_history.specs.Citing.{numbers_of};
-ghost use Rattle.access_history.specs.Authority.{sayings};
 ghost use Rattle.access_history.specs.History.{authority_of, state_of};
-ghost use Rattle.op_gate.specs.Admits.{FindsCited, GivesChecked, GivesPending, GivesIssue, IsTimely, LacksNext, pending_issue, pending_statement, proof_damage, register_damage};
+ghost use Rattle.op_gate.specs.Admits.{FindsCited, GivesChecked, GivesPending, GivesIssue, IsTimely, LacksNext, pending_issue, pending_statement, proof_damage, register_damage, withdraw_damage};
+ghost use Rattle.op_gate.specs.Citations.{book_among};
 ghost use Rattle.op_gate.specs.Damage.{IsDamagedBy};
 
 use crate::act::decide_act;
 use crate::brings::{brings_enough, is_formed};
-use crate::cite::{Citation, cite};
+use crate::cite::{Among, Citation, cite};
 use crate::damage::{AdmitFault, Damage};
-use crate::decide::{issue_parts, pend_issue, registered};
+use crate::decide::{issue_parts, pend_issue, registered, withdrawn};
 use crate::planned::{Pending, Planned};
 use access_history::{Event, History, Procaps};
 use bl_syntax::limits::MOST_EVENTS;
 use bl_syntax::{Bytes, Grant, Numbers, Principal, Statement, are_citable, is_moment};
 use file_world::Op;
-use policy_statement::{RegisterFault as RegistryFault, Registered};
+use policy_statement::{RegisterFault as RegistryFault, Registered, WithdrawFault};
 use procap::Procap;
 use proof_term::ProofTree;
 use proof_verifier::{CheckFault, Checked, Cites, verify};
@@ -69,6 +69,35 @@ fn admit_registered(
     match registry.test(alloc, history.ring(), &statement, signature.as_slice()) {
         Ok(()) => register_again(alloc, pass, statement, signature),
         Err(fault) => Err(register_damage(fault)),
+    }
+}
+
+// Why a statement may not be withdrawn, as damage.
+fn withdraw_damage(fault: WithdrawFault) -> AdmitFault
+    ensures { result ≡ withdraw_damage fault }
+{
+    match fault {
+        WithdrawFault::Absent => AdmitFault::Damaged(Damage::Shape),
+        WithdrawFault::BadSignature => AdmitFault::Damaged(Damage::Unsigned),
+        WithdrawFault::NoMemory => AdmitFault::NoMemory,
+    }
+}
+
+// A statement that was withdrawn: that it stands and the signature are tested again.
+fn admit_withdrawn(
+    alloc: Global,
+    history: &History,
+    pass: u64,
+    number: u32,
+    signature: Bytes,
+) -> Result<Pending, AdmitFault>
+    requires { (state_of history.now).count < 2 ^ 48 - 1 }
+    ensures { GivesPending history.now history.now (events.Withdrawn pass number signature) result }
+{
+    let registry = history.registry();
+    match registry.test_withdrawal(alloc, history.ring(), number, signature.as_slice()) {
+        Ok(()) => Ok(withdrawn(pass, number, signature)),
+        Err(fault) => Err(withdraw_damage(fault)),
     }
 }
 
@@ -141,22 +170,24 @@ fn issue_again(
 /// The statements of these numbers, as an issue cites them.
 pub fn find_cited(
     alloc: Global,
-    statements: &[Registered],
+    entries: &[Registered],
+    among: Among,
     numbers: &[u32],
 ) -> Result<Cites, AdmitFault>
-    ensures { FindsCited (sayings statements.now) numbers.now result }
+    ensures { FindsCited (book_among among entries.now) numbers.now result }
 {
     if !are_citable(numbers) {
         return Err(AdmitFault::Damaged(Damage::Unproved));
     }
-    match cite(alloc, statements, numbers) {
+    match cite(alloc, entries, among, numbers) {
         Ok(Citation::Cited(cites)) => Ok(cites),
         Ok(Citation::Absent(_)) => Err(AdmitFault::Damaged(Damage::Unproved)),
         Err(_) => Err(AdmitFault::NoMemory),
     }
 }
 
-// A grant that was issued: the statements that it cites are looked up, and its proof is checked again.
+// A grant that was issued: the statements that it cites are looked up among those that stand, and its proof is checked
+// again.
 fn admit_issued(
     alloc: Global,
     history: &History,
@@ -168,7 +199,7 @@ fn admit_issued(
     requires { (state_of history.now).count < 2 ^ 48 - 1 }
     ensures { GivesPending history.now history.now (events.Issued pass cited.now proof grant.now) result }
 {
-    match find_cited(alloc, history.statements(), cited.as_slice()) {
+    match find_cited(alloc, history.statements(), Among::Live, cited.as_slice()) {
         Ok(cites) => issue_again(alloc, pass, cites, proof, grant),
         Err(fault) => Err(fault),
     }
@@ -268,6 +299,11 @@ pub fn admit(alloc: Global, history: &mut History, event: Event) -> Result<Pendi
             statement,
             signature,
         } => admit_registered(alloc, history, pass, statement, signature),
+        Event::Withdrawn {
+            pass,
+            number,
+            signature,
+        } => admit_withdrawn(alloc, history, pass, number, signature),
         Event::Issued {
             pass,
             cited,

@@ -9,6 +9,7 @@ ghost use Rattle.op_gate.specs.BaseDamage.{AreNew, IsBaseShaped, TellsBase};
 ghost use Rattle.op_gate.specs.BaseTests.{IsFormed, IsSignedIn, TellsTest};
 
 use crate::admit::{check_again, find_cited, register_damage};
+use crate::cite::Among;
 use crate::damage::{AdmitFault, Damage};
 use access_history::{Base, Issue, keep_copy};
 use bl_syntax::is_moment;
@@ -57,11 +58,11 @@ fn test_signatures(alloc: Global, ring: &Keyring, entries: &[Registered]) -> Res
     Ok(())
 }
 
-// Whether the issue is good: the statements that it cites are looked up, and its proof is checked.
+// Whether the issue is good: the statements that it cites are looked up, withdrawn ones too, and its proof is checked.
 fn test_issue(alloc: Global, entries: &[Registered], issue: &Issue) -> Result<(), AdmitFault>
     ensures { TellsTest (IsGoodIssue (sayings entries.now) issue.now) Damage.Unproved result }
 {
-    match find_cited(alloc, entries, issue.cited.as_slice()) {
+    match find_cited(alloc, entries, Among::Registered, issue.cited.as_slice()) {
         Ok(cites) => match issue.proof.copy(alloc) {
             Ok(proof) => match check_again(alloc, cites, proof, &issue.grant) {
                 Ok(_) => Ok(()),

@@ -4,9 +4,9 @@ ghost use Rattle.std.specs.Prelude.{ℕ, ℤ, List, MatchOption};
 ghost use Rattle.std.specs.List.{AllByRecursion};
 ghost use Rattle.bl_syntax.specs.declared.grant.Goal.{Goal as GoalView};
 ghost use Rattle.access_history.specs.Base.{BaseView};
-ghost use Rattle.access_history.specs.Admission.{Admits, Denies, Passes};
+ghost use Rattle.access_history.specs.Admission.{Admits, Denies, Passes, condition_causes};
 ghost use Rattle.access_history.specs.History.{state_of};
-ghost use Rattle.op_gate.specs.Checks.{FailsAt, condition_checks, name_checks};
+ghost use Rattle.op_gate.specs.Checks.{FailsAt, name_checks};
 
 use access_history::{DenialCause, History};
 use bl_syntax::{Goal, Term};
@@ -14,7 +14,8 @@ use condition_set::{first_failing_state, first_failing_time};
 use procap::Procap;
 
 /// The first test that the procap does not pass for what is wanted, in the history's state at the moment: its seal, the
-/// names in its grant, and then its conditions; none exactly if it passes all. It takes no memory.
+/// names in its grant, its conditions, and then that its grant is not gone; none exactly if it passes all. It takes no
+/// memory, and goes over no issues.
 pub fn denial_cause(
     history: &History,
     procap: &Procap,
@@ -29,7 +30,13 @@ pub fn denial_cause(
     if let Some(cause) = other_name(procap, wanted) {
         return Some(cause);
     }
-    failing_condition(history, procap, moment)
+    if let Some(cause) = failing_condition(history, procap, moment) {
+        return Some(cause);
+    }
+    match history.gone(procap) {
+        Some(number) => Some(DenialCause::Withdrawn(number)),
+        None => None,
+    }
 }
 
 // The first name that the procap does not have as it is wanted.
@@ -50,7 +57,7 @@ fn other_name(procap: &Procap, wanted: &Goal) -> Option<DenialCause>
 
 // The first condition of the procap that does not hold in the history's state at the moment.
 fn failing_condition(history: &History, procap: &Procap, moment: i64) -> Option<DenialCause>
-    ensures { (wanted : GoalView) → MatchOption result (AllByRecursion (Passes history.now.key (state_of history.now) moment wanted procap.now) (condition_checks procap.now.grant)) (FailsAt (Passes history.now.key (state_of history.now) moment wanted procap.now) (condition_checks procap.now.grant)) }
+    ensures { (wanted : GoalView) → MatchOption result (AllByRecursion (Passes history.now.key (state_of history.now) moment wanted procap.now) (condition_causes procap.now.grant)) (FailsAt (Passes history.now.key (state_of history.now) moment wanted procap.now) (condition_causes procap.now.grant)) }
 {
     let grant = &procap.grant;
     let times = grant.times();

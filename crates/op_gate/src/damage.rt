@@ -9,14 +9,14 @@ pub enum Damage {
     #[error("the header is wrong, or the image is cut or too long")]
     Header,
     /// The bytes are no image or event, or they are cut or too long; a moment lies outside the range, or the image's count
-    /// or the event's number would.
-    #[error("the bytes are no image or event, or a moment or number lies outside its range")]
+    /// or the event's number would; or no statement stands that is withdrawn.
+    #[error("the bytes are no image or event, or a moment or number lies outside its range, or what is withdrawn does not stand")]
     Shape,
     /// A signature is not accepted.
     #[error("a signature is not accepted")]
     Unsigned,
     /// A proof does not grant what was issued by it, or the numbers that it cites are not 1 to 64 numbers of statements,
-    /// strictly rising.
+    /// strictly rising; or a statement that an event cites does not stand.
     #[error("a proof does not grant what was issued, or its statements cannot be cited")]
     Unproved,
     /// An operation is denied or refused, or it does not bring one procap for each slot, or it brings too many bytes.

@@ -6,7 +6,7 @@ ghost use Rattle.access_history.specs.declared.request.StepRequest.TheVariants a
 ghost use Rattle.access_history.specs.Answer.{Answers, MaySee};
 ghost use Rattle.access_history.specs.Citing.{issued_grant, numbers_of};
 ghost use Rattle.access_history.specs.History.{authority_of, state_of};
-ghost use Rattle.op_gate.specs.Decision.{IsPlanned, Keeps};
+ghost use Rattle.op_gate.specs.Decision.{IsPlanned, Keeps, plan_of_withdrawal};
 ghost use Rattle.access_history.specs.Numbered.{HasNone};
 ghost use Rattle.op_gate.specs.Issued.{IsProcapOf};
 ghost use Rattle.op_gate.specs.Rejection.{rejection_of};
@@ -15,7 +15,7 @@ use crate::cite::{cited_numbers, first_moved};
 use crate::planned::{Pending, Planned};
 use access_history::{Addition, Event, History, Issue, Rejection, StepReply};
 use bl_syntax::{Bytes, Grant, NoMemory, Numbers, Principal, Statement};
-use policy_statement::RegisterFault as RegistryFault;
+use policy_statement::{RegisterFault as RegistryFault, WithdrawFault};
 use procap::Procap;
 use proof_verifier::Checked;
 use std::alloc::Global;
@@ -107,6 +107,50 @@ pub fn decide_register(
             keep_statement(alloc, pass, number, statement, signature)
         }
         Err(fault) => rejection(fault),
+    }
+}
+
+/// The event that withdraws the statement of that number, and what the registry keeps of it.
+pub fn withdrawn(pass: u64, number: u32, signature: Bytes) -> Pending
+    ensures { result ≡ record { event = Event.Withdrawn pass number signature; addition = Addition.Withdrawal number } }
+{
+    Pending {
+        event: Event::Withdrawn {
+            pass,
+            number,
+            signature,
+        },
+        addition: Addition::Withdrawal(number),
+    }
+}
+
+// The answer to a withdrawal that the registry does not take, or out of memory.
+fn refused_withdrawal(number: u32, fault: WithdrawFault) -> Planned
+    ensures { result ≡ plan_of_withdrawal number fault }
+{
+    match fault {
+        WithdrawFault::Absent => Planned::Answer(StepReply::Absent(number as u64)),
+        WithdrawFault::BadSignature => {
+            Planned::Answer(StepReply::Rejected(Rejection::BadSignature))
+        }
+        WithdrawFault::NoMemory => Planned::NoMemory,
+    }
+}
+
+/// Whether the statement of that number is withdrawn under a signature.
+pub fn decide_withdraw(
+    alloc: Global,
+    history: &History,
+    pass: u64,
+    number: u32,
+    signature: Bytes,
+) -> Planned
+    ensures { (clock : ℤ) → IsPlanned history.now pass clock (requests.Withdraw number signature) result history.now }
+{
+    let registry = history.registry();
+    match registry.test_withdrawal(alloc, history.ring(), number, signature.as_slice()) {
+        Ok(()) => Planned::Keep(StepReply::Withdrawn, withdrawn(pass, number, signature)),
+        Err(fault) => refused_withdrawal(number, fault),
     }
 }
 

@@ -7,9 +7,9 @@ ghost use Rattle.access_history.specs.WellFormed.{IsWellFormed};
 use crate::act::{decide_act, deny};
 use crate::admit::{admit, reserve_next};
 use crate::base::test_base;
-use crate::cite::{Citation, cite};
+use crate::cite::{Among, Citation, cite};
 use crate::damage::AdmitFault;
-use crate::decide::{decide_issue, decide_register, decide_show, issued_procap};
+use crate::decide::{decide_issue, decide_register, decide_show, decide_withdraw, issued_procap};
 use crate::planned::{Pending, Planned};
 use access_history::{Base, Denial, Event, History, Procaps, StepReply, StepRequest};
 use bl_syntax::{NoMemory, Principal};
@@ -84,6 +84,9 @@ fn decide_request(
     match request {
         StepRequest::Register(statement, signature) => {
             decide_register(alloc, history, pass, statement, signature)
+        }
+        StepRequest::Withdraw(number, signature) => {
+            decide_withdraw(alloc, history, pass, number, signature)
         }
         StepRequest::Issue(checked) => decide_issue(alloc, history, pass, checked),
         StepRequest::Act(caller, op, procaps) => {
@@ -172,12 +175,12 @@ impl Gate {
         issued_procap(alloc, &self.history, number)
     }
 
-    /// The statements of these numbers, in memory of their own. The numbers strictly rise and are 1 to 64.
+    /// The statements of these numbers that stand, in memory of their own. The numbers strictly rise and are 1 to 64.
     pub fn cite(&self, alloc: Global, numbers: &[u32]) -> Result<Citation, NoMemory>
         requires { AreCitable numbers.now }
         ensures { IfOk result (λ citation. AreStatements (book_of (replay self.now.base self.now.events)) numbers.now citation) }
     {
-        cite(alloc, self.history.statements(), numbers)
+        cite(alloc, self.history.statements(), Among::Live, numbers)
     }
 
     /// The denial of the caller's operation at the moment that the clock shows; none exactly if it is admitted. There is
@@ -216,8 +219,8 @@ impl Gate {
     }
 
     /// Keeps an event that was read from an area, exactly if it may come next; otherwise it reports the event's first damage.
-    /// Its signature, its proof, its procaps with their seals and conditions, and its effect are tested again. What was
-    /// pending is dropped.
+    /// Its signature, its proof, its procaps with their seals and conditions, its effect, and which statements stand are
+    /// tested again. What was pending is dropped.
     pub fn admit_event(&mut self, alloc: Global, event: Event) -> Result<(), AdmitFault>
         ensures key { self.new.key ≡ self.old.key }
         ensures ring { self.new.ring ≡ self.old.ring }

@@ -1,31 +1,42 @@
 -- The credentials of events, over the state before each.
-use Rattle.std.proofs.Common.{◌≡◌, ◌<◌, ◌≤◌, ◌+◌, ℕ, List, [], ◌∷◌, ◌++◌, length, take, get_or, map, refl, sym, ap, subst, ◌∙◌, arith, Bool, true, false, Some, ⊎_elim}
-use Rattle.std.specs.Prelude.{Contains, IsTrue, ℤ, ◌↔◌, ◌&&◌}
+use Rattle.std.proofs.Common.{◌≡◌, ◌<◌, ◌≤◌, ◌+◌, ◌-◌, ℕ, List, [], ◌∷◌, ◌++◌, length, take, get_or, map, refl, sym, ap, subst, ◌∙◌, arith, Bool, true, false, cond, suc, Option, Some, None, is_some, ⊎_elim}
+use Rattle.std.specs.Prelude.{Contains, IsTrue, ℤ, find, ◌↔◌, ◌&&◌}
 use Rattle.std.specs.List.{AllByRecursion, slice_get}
+use Rattle.std.specs.Option.{option_map_or}
+use Rattle.std.specs.Borrow.{Bor}
 use Rattle.std.proofs.lemmas.Bool.{false≢true}
-use Rattle.std.proofs.lemmas.List.{get_or-map, length-map, take_all, take_more}
+use Rattle.std.proofs.lemmas.List.{get_or-map, get_or-take, length-map, length-take, take_all, take_more}
 use Rattle.bl_syntax.specs.Grant.{GrantView}
 use Rattle.bl_syntax.specs.Statement.{StatementView}
 use Rattle.bl_syntax.proofs.GrantLemmas.{AllByRecursion-push}
-use Rattle.policy_statement.specs.Messages.{statement_message}
+use Rattle.policy_statement.specs.Messages.{statement_message, withdraw_message}
+use Rattle.policy_statement.specs.Registered.{RegisteredView}
+use Rattle.policy_statement.specs.Withdrawal.{is_withdrawn}
 use Rattle.procap.specs.Genuine.{IsGenuine}
 use Rattle.procap.specs.declared.procap.Procap.{Procap}
 use Rattle.proof_term.specs.Proof.{ProofView}
 use Rattle.file_world.specs.declared.operation.Op.{Op}
 use Rattle.access_history.specs.declared.event.Issue.{Issue}
 use Rattle.access_history.specs.declared.event.Event.{Event}
-use Rattle.access_history.specs.declared.event.Event.TheVariants.{Registered, Issued, Acted}
+use Rattle.access_history.specs.declared.event.Event.TheVariants.{Registered, Withdrawn, Issued, Acted}
 use Rattle.access_history.specs.Authority.{Authority, CanRegister, sayings}
 use Rattle.access_history.specs.Base.{BaseView}
-use Rattle.access_history.specs.Citing.{IsGoodIssue}
+use Rattle.access_history.specs.Books.{book_of, live_book}
+use Rattle.access_history.specs.Citing.{IsGoodIssue, IsHeld, MayBeIssued, MayBeWithdrawn}
+use Rattle.access_history.specs.Numbered.{IsNumbered}
 use Rattle.access_history.specs.Lawful.{WasIssued}
-use Rattle.access_history.proofs.CitingLemmas.{MayBeIssued-good}
+use Rattle.access_history.proofs.CitingLemmas.{IsNumbered-whole, MayBeIssued-good, have_numbers, live_entry, live_said, stand_if_none, stands_if}
 use Rattle.access_history.proofs.ListLemmas.{AllByRecursion-parts, AllByRecursion-weaker, IsImage-from_map}
+use Rattle.access_history.proofs.NumberedLemmas.{HasNumber-item, no_zero, numbered_in, numbered_item}
 use Rattle.pcfs_audit.specs.declared.credentials.Credentials.{Credentials}
+use Rattle.pcfs_audit.specs.Ends.{CouldBeWithdrawn, first_end, is_ended, is_past}
 use Rattle.pcfs_audit.specs.Credentials.{HasCredentials, HasCredentialsAt, IsOfIssues}
-use Rattle.pcfs_audit.specs.Papers.{grants_in}
+use Rattle.pcfs_audit.specs.Papers.{grants_in, shown}
 use Rattle.pcfs_audit.specs.Report.{authority_by}
+use Rattle.pcfs_audit.proofs.CitesLemmas.{is_false}
+use Rattle.pcfs_audit.proofs.EndsLemmas.{first_end_tells}
 use Rattle.pcfs_audit.proofs.FirstsLemmas.{slice_get_push}
+use Rattle.pcfs_audit.proofs.ReferenceLemmas.{length-shown, shown_read}
 
 -- ---- statements
 
@@ -41,21 +52,114 @@ registered_credentials key accepts state pass statement signature said credentia
   issued = (λ yes. tt, λ none. issued);
 }
 
+-- ---- statements that stand
+
+-- a statement that stands was not withdrawn
+not_withdrawn : (entries : List RegisteredView) (number : ℕ) (s : StatementView) → IsNumbered (live_book entries) number (Some s) → is_withdrawn entries number ≡ false
+not_withdrawn entries number s numbered =
+    let live = live_entry entries number s numbered in
+    let at : number ≡ suc live.numbered.place = omega (arith, live.numbered.from_one) in
+    ap (is_withdrawn entries) at ∙ (ap (λ (found : Option RegisteredView). option_map_or (λ (entry : RegisteredView). entry.withdrawn) found false) live.numbered.found ∙ live.stands)
+
+module _ (state : BaseView) (ends : List (Option ℕ)) (place : ℕ) (ended_are : (number : ℕ) → is_withdrawn state.statements number ≡ is_ended ends number place) where
+  withdrawn_told : (accepts : List ℕ → List ℕ → List ℕ → Bool) (key : List ℕ) (number : ℕ) (signature : List ℕ) → CouldBeWithdrawn accepts (sayings state.statements) ends place number signature → MayBeWithdrawn (authority_by key accepts) (book_of state) number signature
+  withdrawn_told accepts key number signature could = record {
+    statement = could.statement;
+    live = stands_if state.statements number could.statement (IsNumbered-whole (sayings state.statements) number could.statement could.registered) (ended_are number ∙ could.stands);
+    signed = could.signed;
+  }
+
+  told_withdrawn : (accepts : List ℕ → List ℕ → List ℕ → Bool) (key : List ℕ) (number : ℕ) (signature : List ℕ) → MayBeWithdrawn (authority_by key accepts) (book_of state) number signature → CouldBeWithdrawn accepts (sayings state.statements) ends place number signature
+  told_withdrawn accepts key number signature may = record {
+    statement = may.statement;
+    registered = live_said state.statements number may.statement may.live;
+    stands = sym (ended_are number) ∙ not_withdrawn state.statements number may.statement may.live;
+    signed = may.signed;
+  }
+
+  none_found : (numbers : List ℕ) → AllByRecursion (IsHeld (book_of state)) numbers → find (λ (number : ℕ). is_ended ends number place) numbers ≡ None
+  none_found [] held = refl
+  none_found (number ∷ numbers) held =
+      let stands : is_ended ends number place ≡ false = sym (ended_are number) ∙ not_withdrawn state.statements number held.0.0 held.0.1 in
+      ap (λ (b : Bool). cond b (Some number) (find (λ (n : ℕ). is_ended ends n place) numbers)) stands ∙ none_found numbers held.1
+
+  find_withdrawn : (numbers : List ℕ) → find (is_withdrawn state.statements) numbers ≡ find (λ (number : ℕ). is_ended ends number place) numbers
+  find_withdrawn [] = refl
+  find_withdrawn (number ∷ numbers) =
+      ap (λ (b : Bool). cond b (Some number) (find (is_withdrawn state.statements) numbers)) (ended_are number)
+      ∙ ap (λ (found : Option ℕ). cond (is_ended ends number place) (Some number) found) (find_withdrawn numbers)
+
+  none_of_false : (found : Option ℕ) → is_some found ≡ false → found ≡ None
+  none_of_false None is = refl
+  none_of_false (Some number) is = absurd (false≢true (sym is))
+
+  -- an issue that cites a withdrawn statement may not come
+  pub issued_past : (issue : Issue) → is_past (first_end ends issue.cited) place ≡ true → MayBeIssued state issue → ⊥
+  issued_past issue past may =
+      let none : is_past (first_end ends issue.cited) place ≡ false = first_end_tells ends issue.cited place ∙ ap is_some (none_found issue.cited may.held) in
+      false≢true (sym none ∙ past)
+
+  cited_held : (issue : Issue) → is_past (first_end ends issue.cited) place ≡ false → IsGoodIssue (sayings state.statements) issue → AllByRecursion (IsHeld (book_of state)) issue.cited
+  cited_held issue stands good =
+      let none : find (is_withdrawn state.statements) issue.cited ≡ None = find_withdrawn issue.cited ∙ none_of_false (find (λ (n : ℕ). is_ended ends n place) issue.cited) (sym (first_end_tells ends issue.cited place) ∙ stands) in
+      let live = stand_if_none state.statements good.cites good.stand (subst (λ (ns : List ℕ). find (is_withdrawn state.statements) ns ≡ None) good.cited none) in
+      subst (AllByRecursion (IsHeld (book_of state))) (sym good.cited) (have_numbers (book_of state) good.cites live)
+
+  -- an issue that cites none may come if it is good
+  pub issued_standing : (issue : Issue) (test : Bool) → is_past (first_end ends issue.cited) place ≡ false → (IsTrue test ↔ IsGoodIssue (sayings state.statements) issue) → IsTrue test ↔ MayBeIssued state issue
+  issued_standing issue test stands decides =
+      (λ yes. let good = decides.0 yes in MayBeIssued-good state issue good (cited_held issue stands good), λ may. decides.1 may.good)
+
+  -- the credentials of a withdrawal
+  pub withdrawn_credentials : (key : List ℕ) (accepts : List ℕ → List ℕ → List ℕ → Bool) (pass number : ℕ) (signature : List ℕ) (said : List StatementView) (credentials : Credentials) → sayings state.statements ≡ said →
+      (IsTrue credentials.genuine ↔ CouldBeWithdrawn accepts said ends place number signature) → IsTrue credentials.issued → HasCredentials (authority_by key accepts) state (Withdrawn pass number signature) credentials
+  withdrawn_credentials key accepts pass number signature said credentials is genuine issued = record {
+    genuine = (
+      λ yes. withdrawn_told accepts key number signature (subst (λ (ss : List StatementView). CouldBeWithdrawn accepts ss ends place number signature) (sym is) (genuine.0 yes)),
+      λ may. genuine.1 (subst (λ (ss : List StatementView). CouldBeWithdrawn accepts ss ends place number signature) is (told_withdrawn accepts key number signature may)),
+    );
+    issued = (λ yes. tt, λ none. issued);
+  }
+
+-- ---- withdrawals that could be, and that could not
+
+-- a statement that is read by its number
+pub numbered_front : (references : List (Bor StatementView)) (earlier number : ℕ) (reference : Bor StatementView) → (number ≡ 0 → ⊥) → number ≤ earlier → earlier ≤ length references → reference ≡ get_or references (number - 1) reference →
+    IsNumbered (take earlier (shown references)) number reference.now
+numbered_front references earlier number reference some le within read =
+    let said : List StatementView = take earlier (shown references) in
+    let at : number - 1 < length references = omega (arith, some, le, within) in
+    let low : number - 1 < earlier = omega (arith, some, le) in
+    let count : number ≤ length said = omega (arith, le, within, length-take earlier (shown references), length-shown references) in
+    numbered_in said said number reference.now refl some count (shown_read references (number - 1) reference at read ∙ sym (get_or-take earlier (shown references) (number - 1) reference.now low))
+
+-- no statement has the number 0
+pub no_withdrawal_zero : (accepts : List ℕ → List ℕ → List ℕ → Bool) (said : List StatementView) (ends : List (Option ℕ)) (place number : ℕ) (signature : List ℕ) → number ≡ 0 → IsTrue false ↔ CouldBeWithdrawn accepts said ends place number signature
+no_withdrawal_zero accepts said ends place number signature zero = is_false (λ could. no_zero said number zero (HasNumber-item said number could.statement could.registered))
+
+pub no_withdrawal_beyond : (accepts : List ℕ → List ℕ → List ℕ → Bool) (said : List StatementView) (ends : List (Option ℕ)) (place number : ℕ) (signature : List ℕ) → length said < number → IsTrue false ↔ CouldBeWithdrawn accepts said ends place number signature
+no_withdrawal_beyond accepts said ends place number signature beyond =
+    is_false (λ could. let has = HasNumber-item said number could.statement could.registered in omega (arith, beyond, has.1))
+
+pub no_withdrawal_ended : (accepts : List ℕ → List ℕ → List ℕ → Bool) (said : List StatementView) (ends : List (Option ℕ)) (place number : ℕ) (signature : List ℕ) → is_ended ends number place ≡ true → IsTrue false ↔ CouldBeWithdrawn accepts said ends place number signature
+no_withdrawal_ended accepts said ends place number signature ended = is_false (λ could. false≢true (sym could.stands ∙ ended))
+
+-- the statement of the number decides it by the signature
+pub withdrawal_by_signature : (accepts : List ℕ → List ℕ → List ℕ → Bool) (said : List StatementView) (ends : List (Option ℕ)) (place number : ℕ) (signature : List ℕ) (statement : StatementView) (accepted : Bool) → IsNumbered said number statement →
+    is_ended ends number place ≡ false → accepted ≡ accepts statement.who (withdraw_message statement) signature → IsTrue accepted ↔ CouldBeWithdrawn accepts said ends place number signature
+withdrawal_by_signature accepts said ends place number signature statement accepted numbered stands is = (
+  λ yes. record { statement = statement; registered = numbered; stands = stands; signed = sym is ∙ yes },
+  λ could.
+      let same : could.statement ≡ statement = numbered_item said number could.statement statement could.registered numbered in
+      is ∙ subst (λ (s : StatementView). IsTrue (accepts s.who (withdraw_message s) signature)) same could.signed,
+)
+
 -- ---- issues
 
-abbrev issue_of : List ℕ → ProofView → GrantView → Issue
-issue_of cited proof g = record { cited = cited; proof = proof; grant = g }
-
-pub issued_credentials : (key : List ℕ) (accepts : List ℕ → List ℕ → List ℕ → Bool) (state : BaseView) (pass : ℕ) (cited : List ℕ) (proof : ProofView) (g : GrantView) (said : List StatementView) (credentials : Credentials) →
-    sayings state.statements ≡ said → (IsTrue credentials.genuine ↔ IsGoodIssue said (record { cited = cited; proof = proof; grant = g })) → IsTrue credentials.issued →
-    HasCredentials (authority_by key accepts) state (Issued pass cited proof g) credentials
-issued_credentials key accepts state pass cited proof g said credentials is genuine issued = record {
-  genuine = (
-    λ yes. MayBeIssued-good state (issue_of cited proof g) (subst (λ (ss : List StatementView). IsGoodIssue ss (issue_of cited proof g)) (sym is) (genuine.0 yes)),
-    λ may. genuine.1 (subst (λ (ss : List StatementView). IsGoodIssue ss (issue_of cited proof g)) is may.good),
-  );
-  issued = (λ yes. tt, λ none. issued);
-}
+-- the credentials of an issue
+pub issued_credentials : (key : List ℕ) (accepts : List ℕ → List ℕ → List ℕ → Bool) (state : BaseView) (pass : ℕ) (cited : List ℕ) (proof : ProofView) (g : GrantView) (credentials : Credentials) →
+    (IsTrue credentials.genuine ↔ MayBeIssued state (record { cited = cited; proof = proof; grant = g })) → IsTrue credentials.issued → HasCredentials (authority_by key accepts) state (Issued pass cited proof g) credentials
+issued_credentials key accepts state pass cited proof g credentials genuine issued = record { genuine = genuine; issued = (λ yes. tt, λ none. issued) }
 
 -- ---- operations
 

@@ -1,6 +1,6 @@
 -- What threads may share of a history, and of a ring.
 use denote.Param.Send.{IsSync, sendable}
-use denote.Param.SendFields.{declared_sync, as_row_sync}
+use denote.Param.SendFields.{declared_sync, as_row_sync, variants_sync}
 use denote.Ref.{NamedLft}
 use Rattle.std.proofs.Crossing.{crosses}
 use Rattle.pcfs_audit.specs.contracts.dossier.Dossier as Dossier
@@ -44,8 +44,20 @@ statement_sync = search (sendable, as_row_sync, declared_sync, crosses, formula.
 pub tree_sync : IsSync ProofTree.the_row
 tree_sync = search (sendable, as_row_sync, declared_sync, crosses, proof.sync-Proof, marks) depth 40 fits 20000
 
+ruleset fields = (sequence.the_sync, principal.the_sync, statement_sync, tree_sync, grant.the_sync)
+
+-- of each variant, field by field
 pub event_sync : IsSync Event.the_row
-event_sync = search (sendable, as_row_sync, declared_sync, crosses, statement_sync, tree_sync, formula.sync-Formula, proof.sync-Proof, procap.the_sync, op.the_sync, marks) depth 60 fits 20000
+event_sync = variants_sync Event.enum (
+  search (sendable, as_row_sync, crosses, fields) depth 40 fits 20000,
+  (
+    search (sendable, as_row_sync, crosses, fields) depth 40 fits 20000,
+    (
+      search (sendable, as_row_sync, crosses, fields) depth 40 fits 20000,
+      (search (sendable, as_row_sync, declared_sync, crosses, fields, procap.the_sync, op.the_sync, marks) depth 40 fits 20000, tt),
+    ),
+  ),
+)
 
 pub base_sync : IsSync Base.the_row
 base_sync = search (sendable, as_row_sync, declared_sync, crosses, statement_sync, tree_sync, formula.sync-Formula, proof.sync-Proof, world.the_sync, marks) depth 60 fits 20000

@@ -1,5 +1,5 @@
 -- The first places of digests, and what they tell.
-use Rattle.std.proofs.Common.{◌≡◌, ◌≢◌, ◌⊎◌, ◌<◌, ◌≤◌, ◌+◌, ℕ, zero, suc, List, [], ◌∷◌, ◌++◌, length, take, get_or, map, refl, sym, ap, subst, ◌∙◌, inl, inr, ⊎_elim, arith, Option, Some, None, Bool, true, false}
+use Rattle.std.proofs.Common.{◌≡◌, ◌≢◌, ◌⊎◌, ◌<◌, ◌≤◌, ◌+◌, ℕ, zero, suc, List, [], ◌∷◌, ◌++◌, length, take, get_or, map, refl, sym, ap, subst, ◌∙◌, inl, inr, ⊎_elim, arith, Option, Some, None, Bool, true, false, ltb}
 use Rattle.std.specs.Prelude.{Contains, IsTrue, is_some, not, unwrap_or, ◌↔◌}
 use Rattle.std.specs.BTreeMap.{is_at}
 use Rattle.std.specs.Cmp.{Equal-is}
@@ -8,14 +8,16 @@ use Rattle.std.specs.Ordering.{nat_cmp}
 use Rattle.std.specs.Borrow.{Bor}
 use Rattle.std.specs.List.{slice_get}
 use Rattle.std.specs.Option.{option_map}
-use Rattle.std.proofs.lemmas.Bool.{cases_Bool, cases_eq, false≢true}
-use Rattle.std.proofs.lemmas.List.{length-take-le, take_all, take_more}
-use Rattle.std.proofs.lemmas.Option.{same_Some, slice_get-map, none-some}
+use Rattle.std.proofs.lemmas.Bool.{cases_Bool, cases_eq, false≢true, ltb-true, ltb-false}
+use Rattle.std.proofs.lemmas.List.{get_or-take, length-take, length-take-le, take_all, take_more}
+use Rattle.std.proofs.lemmas.Option.{same_Some, slice_get-map, slice_get_read, slice_get_within, get_or_from_slice_get, none-some}
+use Rattle.bl_syntax.specs.Grant.{GrantView}
 use Rattle.bl_syntax.specs.Statement.{StatementView}
 use Rattle.pcfs_audit.specs.Firsts.{AreBelow, AreFirsts, HasFirst, first_of}
 use Rattle.access_history.specs.Authority.{CanRegister}
 use Rattle.pcfs_audit.specs.Papers.{shown}
-use Rattle.pcfs_audit.proofs.ReferenceLemmas.{placed_before, shown_take}
+use Rattle.pcfs_audit.specs.Supports.{IsFirstOf}
+use Rattle.pcfs_audit.proofs.ReferenceLemmas.{length-shown, placed_before, shown_read, shown_take}
 
 -- ---- entering
 
@@ -131,3 +133,52 @@ not_accepted accepted said statement is = (λ yes. absurd (false≢true yes), λ
 
 pub no_room : (accepted : Bool) (said : List StatementView) (statement : StatementView) → 4096 ≤ length said → IsTrue false ↔ (IsTrue accepted × CanRegister said statement)
 no_room accepted said statement full = (λ yes. absurd (false≢true yes), λ both. absurd (omega (arith, full, both.1.room)))
+
+-- ---- the first of equal ones
+
+-- no item has the digest, or its first place is beyond all
+module _ {A : Type 0} (f : A → ℕ) (items : List A) (entries : Entries) (are : AreFirsts (map f items) entries) (item : A) where
+  pub not_any_none : first_of entries (f item) ≡ None → Contains items item → ⊥
+  not_any_none none here = not_among_none f items entries are item (length items) none (subst (λ (xs : List A). Contains xs item) (sym (take_all (length items) items (omega arith))) here)
+
+  pub not_any_beyond : (first : ℕ) → first_of entries (f item) ≡ Some first → length items ≤ first → Contains items item → ⊥
+  not_any_beyond first found beyond here =
+      not_among_later f items entries are item (length items) first found beyond (subst (λ (xs : List A). Contains xs item) (sym (take_all (length items) items (omega arith))) here)
+
+  -- an item before which none has its digest is the first of those that are equal
+  pub first_by_digest : (first place : ℕ) → first_of entries (f item) ≡ Some first → slice_get items place ≡ Some item → first ≤ place
+  first_by_digest first place found at =
+      let has = are place (f item) (slice_get-map f items place ∙ ap (option_map f) at) in
+      let same : first ≡ has.first = same_Some first has.first (sym found ∙ has.entered) in
+      omega (arith, same, has.not_after)
+
+contains_early : {A : Type 0} (items : List A) (count place : ℕ) (item : A) → place < count → slice_get items place ≡ Some item → Contains (take count items) item
+contains_early items count place item before at =
+    let within : place < length items = slice_get_within items place item at in
+    let there : place < length (take count items) = omega (arith, within, before, length-take count items) in
+    (place, there, get_or-take count items place item before ∙ get_or_from_slice_get items place item item at)
+
+-- an item that none of those before it is, is the first
+pub first_of_equals : {A : Type 0} (items : List A) (place other : ℕ) (item : A) → (Contains (take place items) item → ⊥) → slice_get items other ≡ Some item → place ≤ other
+first_of_equals items place other item none at =
+    ⊎_elim
+    (λ early. absurd (none (contains_early items place other item (ltb-true other place early) at)))
+    (λ late. ltb-false other place late)
+    (cases_Bool (ltb other place))
+
+-- the first of these references that shows the grant
+pub first_shown : (references : List (Bor GrantView)) (place : ℕ) (reference : Bor GrantView) (g : GrantView) → place < length references → reference ≡ get_or references place reference → reference.now ≡ g → (Contains (shown (take place references)) g → ⊥) →
+    IsFirstOf (shown references) g place
+first_shown references place reference g within read same none =
+    let there : place < length (shown references) = omega (arith, within, length-shown references) in
+    let at : slice_get (shown references) place ≡ Some reference.now = slice_get_read (shown references) (length (shown references)) place reference.now refl there (shown_read references place reference within read) in
+    let before : Contains (take place (shown references)) g → ⊥ = λ here. none (subst (λ (gs : List GrantView). Contains gs g) (sym (shown_take references place)) here) in
+    record { at = at ∙ ap (λ (h : GrantView). Some h) same; first = λ other found. first_of_equals (shown references) place other g before found }
+
+-- the place of a digest, if the grant there is the one
+pub first_entered : (f : GrantView → ℕ) (references : List (Bor GrantView)) (entries : Entries) (first : ℕ) (reference : Bor GrantView) (g : GrantView) → AreFirsts (map f (shown references)) entries → first_of entries (f g) ≡ Some first → first < length references →
+    reference ≡ get_or references first reference → reference.now ≡ g → IsFirstOf (shown references) g first
+first_entered f references entries first reference g are found within read same =
+    let there : first < length (shown references) = omega (arith, within, length-shown references) in
+    let at : slice_get (shown references) first ≡ Some reference.now = slice_get_read (shown references) (length (shown references)) first reference.now refl there (shown_read references first reference within read) in
+    record { at = at ∙ ap (λ (h : GrantView). Some h) same; first = λ other other_at. first_by_digest f (shown references) entries are g first other found other_at }

@@ -11,13 +11,16 @@ use Rattle.proof_term.specs.Proof.{ProofView}
 use Rattle.file_world.specs.declared.operation.Op.{Op}
 use Rattle.file_world.specs.Effect.{refusal, world_after}
 use Rattle.access_history.specs.declared.event.Event.{Event}
-use Rattle.access_history.specs.declared.event.Event.TheVariants.{Registered, Issued, Acted}
+use Rattle.access_history.specs.declared.event.Event.TheVariants.{Registered, Withdrawn, Issued, Acted}
 use Rattle.access_history.specs.Admission.{IsAdmitted}
-use Rattle.access_history.specs.Authority.{Authority}
+use Rattle.access_history.specs.Authority.{Authority, IsSignedWithdrawal}
 use Rattle.access_history.specs.Base.{BaseView}
+use Rattle.access_history.specs.Books.{Book, book_of}
+use Rattle.access_history.specs.Citing.{IsHeld, MayBeWithdrawn}
 use Rattle.access_history.specs.Replay.{next_state, replay}
+use Rattle.access_history.proofs.CitingLemmas.{one_held}
 use Rattle.access_history.proofs.ReplayLemmas.{replay-more, world_left-after}
-use Rattle.op_gate.specs.Damage.{TakesEffect}
+use Rattle.op_gate.specs.Damage.{IsWithdrawalSigned, TakesEffect}
 use Rattle.pcfs_audit.specs.declared.auditor.Auditor.{Auditor}
 use Rattle.pcfs_audit.specs.declared.credentials.Credentials.{Credentials}
 use Rattle.pcfs_audit.specs.declared.report.Finding.{Finding}
@@ -32,6 +35,16 @@ use Rattle.pcfs_audit.proofs.RowsLemmas.{AreRows-clean, AreRows-ended, AreRows-f
 
 -- ---- statements and issues
 
+-- a withdrawal that may come is signed by who said the statement, which stands
+pub withdrawn_clear : (authority : Authority) (book : Book) (number : ℕ) (signature : List ℕ) → MayBeWithdrawn authority book number signature → IsWithdrawalSigned authority book number signature × (Unit {0} × IsHeld book number)
+withdrawn_clear authority book number signature may = (
+  λ statement live. subst (λ (s : StatementView). IsSignedWithdrawal authority s signature) (one_held book number may.statement statement may.live live) may.signed,
+  (tt, (may.statement, may.live)),
+)
+
+pub clear_withdrawn : (authority : Authority) (book : Book) (number : ℕ) (signature : List ℕ) → IsWithdrawalSigned authority book number signature × (Unit {0} × IsHeld book number) → MayBeWithdrawn authority book number signature
+clear_withdrawn authority book number signature clear = record { statement = clear.1.1.0; live = clear.1.1.1; signed = clear.0 clear.1.1.0 clear.1.1.1 }
+
 -- what is told of an event whose credentials are all that it needs
 module _ (authority : Authority) (state : BaseView) (before after : Auditor) (credentials : Credentials) (found : Option Finding) (stands : StandsAt state before) (same : after ≡ before) where
   pub registered_followed : (pass : ℕ) (statement : StatementView) (signature : List ℕ) → HasCredentials authority state (Registered pass statement signature) credentials → (IsTrue credentials.genuine → found ≡ None) → (credentials.genuine ≡ false → found ≡ Some Unsigned) →
@@ -39,15 +52,32 @@ module _ (authority : Authority) (state : BaseView) (before after : Auditor) (cr
   registered_followed pass statement signature has none some = told credentials.genuine refl where
     told : (genuine : Bool) → credentials.genuine ≡ genuine → Follows authority state (Registered pass statement signature) found after
     told true is = record {
-      finds = subst (Finds authority state (Registered pass statement signature)) (sym (none is)) (has.genuine.0 is, (tt, (tt, ((tt, tt), (tt, tt)))));
+      finds = subst (Finds authority state (Registered pass statement signature)) (sym (none is)) (let both = has.genuine.0 is in ((both.0, (both.1, tt)), (tt, (tt, ((tt, tt), (tt, tt))))));
       stands = λ sound. subst (λ (a : Auditor). StandsAt (next_state state (Registered pass statement signature)) a) (sym same) (record { world_is = stands.world_is; moment_is = stands.moment_is });
     }
     told false is =
         let not : IsTrue credentials.genuine → ⊥ = λ yes. false≢true (sym is ∙ yes) in
         record {
           finds = subst (Finds authority state (Registered pass statement signature)) (sym (some is))
-              (record { place = 0; first = record { before = []; behind = Unproved ∷ MomentFalls ∷ NotAdmitted ∷ Unissued ∷ []; parts = refl; place_is = refl; holds_before = tt; fails = λ clear. not (has.genuine.1 clear) } });
-          stands = λ sound. absurd (not (has.genuine.1 sound.0));
+              (record { place = 0; first = record { before = []; behind = Unproved ∷ MomentFalls ∷ NotAdmitted ∷ Unissued ∷ []; parts = refl; place_is = refl; holds_before = tt; fails = λ clear. not (has.genuine.1 (clear.0, clear.1.0)) } });
+          stands = λ sound. absurd (not (has.genuine.1 (sound.0.0, sound.0.1.0)));
+        }
+
+  pub withdrawn_followed : (pass number : ℕ) (signature : List ℕ) → HasCredentials authority state (Withdrawn pass number signature) credentials → (IsTrue credentials.genuine → found ≡ None) → (credentials.genuine ≡ false → found ≡ Some Unsigned) →
+      Follows authority state (Withdrawn pass number signature) found after
+  withdrawn_followed pass number signature has none some = told credentials.genuine refl where
+    told : (genuine : Bool) → credentials.genuine ≡ genuine → Follows authority state (Withdrawn pass number signature) found after
+    told true is = record {
+      finds = subst (Finds authority state (Withdrawn pass number signature)) (sym (none is)) (withdrawn_clear authority (book_of state) number signature (has.genuine.0 is), (tt, (tt, ((tt, tt), (tt, tt)))));
+      stands = λ sound. subst (λ (a : Auditor). StandsAt (next_state state (Withdrawn pass number signature)) a) (sym same) (record { world_is = stands.world_is; moment_is = stands.moment_is });
+    }
+    told false is =
+        let not : IsTrue credentials.genuine → ⊥ = λ yes. false≢true (sym is ∙ yes) in
+        let wrong = λ (clear : IsWithdrawalSigned authority (book_of state) number signature × (Unit {0} × IsHeld (book_of state) number)). not (has.genuine.1 (clear_withdrawn authority (book_of state) number signature clear)) in
+        record {
+          finds = subst (Finds authority state (Withdrawn pass number signature)) (sym (some is))
+              (record { place = 0; first = record { before = []; behind = Unproved ∷ MomentFalls ∷ NotAdmitted ∷ Unissued ∷ []; parts = refl; place_is = refl; holds_before = tt; fails = wrong } });
+          stands = λ sound. absurd (wrong sound.0);
         }
 
   pub issued_followed : (pass : ℕ) (cited : List ℕ) (proof : ProofView) (g : GrantView) → HasCredentials authority state (Issued pass cited proof g) credentials → (IsTrue credentials.genuine → found ≡ None) → (credentials.genuine ≡ false → found ≡ Some Unproved) →
@@ -55,14 +85,14 @@ module _ (authority : Authority) (state : BaseView) (before after : Auditor) (cr
   issued_followed pass cited proof g has none some = told credentials.genuine refl where
     told : (genuine : Bool) → credentials.genuine ≡ genuine → Follows authority state (Issued pass cited proof g) found after
     told true is = record {
-      finds = subst (Finds authority state (Issued pass cited proof g)) (sym (none is)) ((tt, tt), (has.genuine.0 is, (tt, ((tt, tt), (tt, tt)))));
+      finds = subst (Finds authority state (Issued pass cited proof g)) (sym (none is)) ((tt, (tt, tt)), (has.genuine.0 is, (tt, ((tt, tt), (tt, tt)))));
       stands = λ sound. subst (λ (a : Auditor). StandsAt (next_state state (Issued pass cited proof g)) a) (sym same) (record { world_is = stands.world_is; moment_is = stands.moment_is });
     }
     told false is =
         let not : IsTrue credentials.genuine → ⊥ = λ yes. false≢true (sym is ∙ yes) in
         record {
           finds = subst (Finds authority state (Issued pass cited proof g)) (sym (some is))
-              (record { place = 1; first = record { before = Unsigned ∷ []; behind = MomentFalls ∷ NotAdmitted ∷ Unissued ∷ []; parts = refl; place_is = refl; holds_before = ((tt, tt), tt); fails = λ clear. not (has.genuine.1 clear) } });
+              (record { place = 1; first = record { before = Unsigned ∷ []; behind = MomentFalls ∷ NotAdmitted ∷ Unissued ∷ []; parts = refl; place_is = refl; holds_before = ((tt, (tt, tt)), tt); fails = λ clear. not (has.genuine.1 clear) } });
           stands = λ sound. absurd (not (has.genuine.1 sound.1.0));
         }
 
@@ -74,7 +104,7 @@ module _ (authority : Authority) (state : BaseView) (pass : ℕ) (caller : List 
   falls_followed after falls = record {
     finds = record {
       place = 2;
-      first = record { before = Unsigned ∷ Unproved ∷ []; behind = NotAdmitted ∷ Unissued ∷ []; parts = refl; place_is = refl; holds_before = ((tt, tt), (tt, tt)); fails = falls };
+      first = record { before = Unsigned ∷ Unproved ∷ []; behind = NotAdmitted ∷ Unissued ∷ []; parts = refl; place_is = refl; holds_before = ((tt, (tt, tt)), (tt, tt)); fails = falls };
     };
     stands = λ sound. absurd (falls sound.1.1.0);
   }
@@ -93,7 +123,7 @@ module _ (authority : Authority) (state : BaseView) (pass : ℕ) (caller : List 
             behind = Unissued ∷ [];
             parts = refl;
             place_is = refl;
-            holds_before = ((tt, tt), (tt, (not_before, tt)));
+            holds_before = ((tt, (tt, tt)), (tt, (not_before, tt)));
             fails = not;
           };
         };
@@ -113,7 +143,7 @@ module _ (authority : Authority) (state : BaseView) (pass : ℕ) (caller : List 
 
     told : (issued : Bool) → credentials.issued ≡ issued → Follows authority state (Acted pass caller op procaps moment) found after
     told true is = record {
-      finds = subst (Finds authority state (Acted pass caller op procaps moment)) (sym (none is)) ((tt, tt), (tt, (not_before, ((brought.in_range, takes), (has.issued.0 is, tt)))));
+      finds = subst (Finds authority state (Acted pass caller op procaps moment)) (sym (none is)) ((tt, (tt, tt)), (tt, (not_before, ((brought.in_range, takes), (has.issued.0 is, tt)))));
       stands = λ sound. next;
     }
     told false is = record {
@@ -125,7 +155,7 @@ module _ (authority : Authority) (state : BaseView) (pass : ℕ) (caller : List 
               behind = [];
               parts = refl;
               place_is = refl;
-              holds_before = ((tt, tt), (tt, (not_before, ((brought.in_range, takes), tt))));
+              holds_before = ((tt, (tt, tt)), (tt, (not_before, ((brought.in_range, takes), tt))));
               fails = λ clear. false≢true (sym is ∙ has.issued.1 clear);
             };
           });

@@ -12,10 +12,10 @@ use Rattle.proof_verifier.specs.Cited.{statements_of}
 use Rattle.proof_verifier.proofs.IsGrantedLemmas.{granted}
 use Rattle.access_history.specs.declared.event.Event.{Event}
 use Rattle.access_history.specs.declared.event.Issue.{Issue}
-use Rattle.access_history.specs.declared.event.Event.TheVariants.{Registered, Issued, Acted}
+use Rattle.access_history.specs.declared.event.Event.TheVariants.{Registered, Withdrawn, Issued, Acted}
 use Rattle.access_history.specs.Authority.{Authority, MayBeRegistered}
 use Rattle.access_history.specs.Base.{BaseView}
-use Rattle.access_history.specs.Books.{whole_book}
+use Rattle.access_history.specs.Books.{book_of, whole_book}
 use Rattle.access_history.specs.Citing.{IsGoodIssue, StandsUnderNumber}
 use Rattle.access_history.specs.Replay.{replay}
 use Rattle.access_history.specs.Lawful.{AreLawful, IsLawful, IsLawfulBase, MayAct, MayFollow, no_event, one_more}
@@ -33,6 +33,7 @@ use Rattle.pcfs_audit.specs.declared.report.ReportRow.{ReportRow}
 use Rattle.pcfs_audit.specs.Finding.{IsClearOf, IsFound, IsSound, all_findings, is_unissued}
 use Rattle.pcfs_audit.specs.Laws.{HasUnissuedRowsOnly, HasVerdict}
 use Rattle.pcfs_audit.specs.Report.{AreRows, AreSound, DoRowsRise, IsReport, number_after}
+use Rattle.pcfs_audit.proofs.FollowingLemmas.{clear_withdrawn, withdrawn_clear}
 use Rattle.pcfs_audit.proofs.RowsLemmas.{AreSound-more, AreSound-none, not_sound, sound_clean, sound_unissued}
 use Rattle.pcfs_audit.proofs.SplitLemmas.{nothing_parted, parted, past_one}
 
@@ -140,13 +141,14 @@ one_report authority base events first second is is' =
 sound_next : (authority : Authority) (state : BaseView) (event : Event) → MayFollow authority state event → IsSound authority state event
 sound_next authority state (Registered pass statement signature) may =
     let follows : MayBeRegistered authority state.statements statement signature = may in
-    ((follows.signed, follows.can), (tt, (tt, ((tt, tt), tt))))
-sound_next authority state (Issued pass cited proof g) may = ((tt, tt), (may, (tt, ((tt, tt), tt))))
+    ((follows.signed, (follows.can, tt)), (tt, (tt, ((tt, tt), tt))))
+sound_next authority state (Withdrawn pass number signature) may = (withdrawn_clear authority (book_of state) number signature may, (tt, (tt, ((tt, tt), tt))))
+sound_next authority state (Issued pass cited proof g) may = ((tt, (tt, tt)), (may, (tt, ((tt, tt), tt))))
 sound_next authority state (Acted pass caller op procaps moment) may =
     let follows : MayAct authority state caller op procaps moment = may in
     let takes : TakesEffect authority.key state caller op procaps moment =
     record { brought = follows.formed.brought; admitted = follows.admitted; not_refused = follows.not_refused } in
-    ((tt, tt), (tt, (follows.not_before, ((follows.in_range, takes), tt))))
+    ((tt, (tt, tt)), (tt, (follows.not_before, ((follows.in_range, takes), tt))))
 
 -- each event of a lawful history could come where it came
 follows_at : (authority : Authority) (base : BaseView) (events : List Event) → AreLawful authority base events → (earlier later : List Event) (event : Event) → events ≡ earlier ++ event ∷ later → MayFollow authority (replay base earlier) event
@@ -178,7 +180,8 @@ unissued_rows_only authority base events report lawful is row here =
 -- a sound event may come next over a lawful state
 next_sound : (authority : Authority) (state : BaseView) (event : Event) → IsLawfulBase authority state → IsTypedEvent event → IsSound authority state event → MayFollow authority state event
 next_sound authority state (Registered pass statement signature) base typed sound =
-    record { statement = typed; signed = sound.0.0; can = sound.0.1 }
+    record { statement = typed; signed = sound.0.0; can = sound.0.1.0 }
+next_sound authority state (Withdrawn pass number signature) base typed sound = clear_withdrawn authority (book_of state) number signature sound.0
 next_sound authority state (Issued pass cited proof g) base typed sound = sound.1.0
 next_sound authority state (Acted pass caller op procaps moment) base typed sound =
     let takes : TakesEffect authority.key state caller op procaps moment = sound.1.1.1.0.1 in

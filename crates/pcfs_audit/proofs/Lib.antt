@@ -1,5 +1,6 @@
 pub mod CitesLemmas
 pub mod CredentialLemmas
+pub mod EndsLemmas
 pub mod ExaminingLemmas
 pub mod FirstsLemmas
 pub mod FollowingLemmas
@@ -8,5 +9,6 @@ pub mod PapersLemmas
 pub mod ReferenceLemmas
 pub mod RowsLemmas
 pub mod SplitLemmas
+pub mod SupportsLemmas
 pub mod TakingLemmas
 pub mod CrossingLemmas

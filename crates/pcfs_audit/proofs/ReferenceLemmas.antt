@@ -100,6 +100,15 @@ values_more {A} {B} f references place reference so_far new value within read is
 pub values_all : {A B : Type 0} (f : A → B) (references : List (Bor A)) (place : ℕ) (so_far : List B) → length references ≤ place → so_far ≡ map f (shown (take place references)) → so_far ≡ map f (shown references)
 values_all {A} f references place so_far all is = is ∙ ap (λ (rs : List (Bor A)). map f (shown rs)) (take_all place references all)
 
+-- what a function gives of the items
+pub mapped_more : {A B : Type 0} (f : A → B) (items : List A) (place : ℕ) (item : A) (so_far new : List B) (value : B) → place < length items → item ≡ get_or items place item → value ≡ f item →
+    so_far ≡ map f (take place items) → new ≡ so_far ++ value ∷ [] → new ≡ map f (take (place + 1) items)
+mapped_more {A} {B} f items place item so_far new value within read is before pushed =
+    pushed ∙ ap (λ (xs : List B). xs ++ value ∷ []) before ∙ ap (λ (x : B). map f (take place items) ++ x ∷ []) (is ∙ ap f read) ∙ sym (map_more f items place item within)
+
+pub mapped_all : {A B : Type 0} (f : A → B) (items whole : List A) (place : ℕ) (so_far : List B) → length items ≤ place → items ≡ whole → so_far ≡ map f (take place items) → so_far ≡ map f whole
+mapped_all {A} f items whole place so_far all same is = is ∙ ap (λ (xs : List A). map f xs) (take_all place items all ∙ same)
+
 -- one reference at the end shows one item more
 pub shown_more : {A : Type 0} (references new : List (Bor A)) (reference : Bor A) (item : A) → new ≡ references ++ reference ∷ [] → reference.now ≡ item → shown new ≡ shown references ++ item ∷ []
 shown_more {A} references new reference item is points = ap shown is ∙ shown_push references reference ∙ ap (λ (x : A). shown references ++ x ∷ []) points

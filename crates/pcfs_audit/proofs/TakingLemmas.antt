@@ -1,5 +1,5 @@
 -- Whether an operation was admitted, as the audit tests it.
-use Rattle.std.proofs.Common.{◌≡◌, ◌<◌, ◌+◌, ℕ, zero, suc, List, [], ◌∷◌, length, get_or, refl, sym, ap, subst, ◌∙◌, arith}
+use Rattle.std.proofs.Common.{◌≡◌, ◌<◌, ◌+◌, ℕ, zero, suc, List, [], ◌∷◌, length, get_or, None, refl, sym, ap, subst, ◌∙◌, arith}
 use Rattle.std.specs.Prelude.{Contains, ℤ}
 use Rattle.std.specs.List.{AllByRecursion}
 use Rattle.std.proofs.lemmas.Option.{slice_get_read}
@@ -15,8 +15,9 @@ use Rattle.file_world.specs.Needs.{Need, need as need_at, needs}
 use Rattle.world_state.specs.Needed.{placed}
 use Rattle.access_history.specs.Admission.{Admits, IsAdmitted, IsNeedMet}
 use Rattle.access_history.specs.Base.{BaseView}
+use Rattle.access_history.specs.Gone.{gone}
 use Rattle.access_history.specs.Numbered.{IsNumbered}
-use Rattle.access_history.proofs.AdmissionLemmas.{Holds-admits}
+use Rattle.access_history.proofs.AdmissionLemmas.{Holds-admits, not_gone-admits}
 use Rattle.access_history.proofs.NumberedLemmas.{numbered_item}
 use Rattle.op_gate.proofs.CheckLemmas.{admitted_all, conditions_hold, names_all}
 
@@ -39,12 +40,15 @@ module _ (key : List ℕ) (state : BaseView) (moment : ℤ) (wanted : Goal) (p :
   pub admitted_states : Admits key state moment wanted p → AllByRecursion (Contains (facts state.world)) p.grant.states
   admitted_states admits = (Holds-admits key state moment wanted p admits).states
 
+  pub admitted_standing : Admits key state moment wanted p → gone state p.grant ≡ None
+  admitted_standing admits = not_gone-admits key state moment wanted p admits
+
   -- one that has all of it passes
-  pub admitted_by : IsGenuine key p → p.grant.goal ≡ wanted → AllByRecursion (HoldsAt moment) p.grant.times → AllByRecursion (Contains (facts state.world)) p.grant.states → Admits key state moment wanted p
-  admitted_by sealed goal times states =
+  pub admitted_by : IsGenuine key p → p.grant.goal ≡ wanted → AllByRecursion (HoldsAt moment) p.grant.times → AllByRecursion (Contains (facts state.world)) p.grant.states → gone state p.grant ≡ None → Admits key state moment wanted p
+  admitted_by sealed goal times states standing =
       admitted_all key state moment wanted p sealed
       (names_all key state moment wanted p.grant.goal p refl (ap (λ (g : Goal). g.who) goal) (ap (λ (g : Goal). g.file) goal) (ap (λ (g : Goal). g.perm) goal))
-      (conditions_hold key state moment wanted p times states)
+      (conditions_hold key state moment wanted p times states) standing
 
 -- ---- needs, one after the other
 

@@ -1,14 +1,19 @@
 -- Where an auditor stands, and what becomes of it with an event (this project's own).
-use Rattle.std.specs.Prelude.{◌≡◌, ◌+◌, List, ◌++◌, length, Bool, true, false, Option}
+use Rattle.std.specs.Prelude.{◌≡◌, ◌+◌, List, [], ◌∷◌, ◌++◌, length, Bool, true, false, Option}
 use Rattle.access_history.specs.declared.event.Event.{Event}
 use Rattle.access_history.specs.Authority.{Authority}
 use Rattle.access_history.specs.Base.{BaseView}
 use Rattle.access_history.specs.Replay.{replay, next_state}
 use Rattle.pcfs_audit.specs.declared.auditor.Auditor.{Auditor}
+use Rattle.pcfs_audit.specs.declared.credentials.Credentials.{Credentials}
+use Rattle.pcfs_audit.specs.declared.dossier.Dossier.{Dossier}
+use Rattle.pcfs_audit.specs.declared.supports.Supports.{Supports}
 use Rattle.pcfs_audit.specs.declared.report.Finding.{Finding}
 use Rattle.pcfs_audit.specs.declared.report.ReportRow.{ReportRow}
 use Rattle.pcfs_audit.specs.Finding.{Finds, IsSound}
+use Rattle.pcfs_audit.specs.Credentials.{HasCredentials}
 use Rattle.pcfs_audit.specs.Report.{AreRows, AreSound}
+use Rattle.pcfs_audit.specs.Supports.{TellsGone}
 
 -- the auditor has the world and the last moment of the state
 pub record StandsAt (state : BaseView) (auditor : Auditor) : Type 0 where
@@ -35,3 +40,18 @@ pub record HasEnded (authority : Authority) (base : BaseView) (events : List Eve
 abbrev pub Audits : Authority → BaseView → List Event → Bool → Auditor → Type 0
 Audits authority base events true auditor = HasAudited authority base events auditor
 Audits authority base events false auditor = HasEnded authority base events auditor.rows
+
+-- ---- what a call makes of the auditor, by the key of the dossier, the supports and the credentials of the event
+
+-- this is found with the event
+abbrev pub FindsWith : Dossier → Supports → Credentials → Event → Option Finding → Auditor → Auditor → Type 0
+FindsWith dossier supports credentials event found old new =
+    (authority : Authority) (state : BaseView) → authority.key ≡ dossier.key → StandsAt state old → TellsGone dossier supports state
+    → HasCredentials authority state event credentials → Follows authority state event found new
+
+-- the auditor follows it
+abbrev pub AuditsWith : Dossier → Supports → Credentials → Event → Bool → Auditor → Auditor → Type 0
+AuditsWith dossier supports credentials event goes_on old new =
+    (authority : Authority) (base : BaseView) (events : List Event) → authority.key ≡ dossier.key → HasAudited authority base events old
+    → TellsGone dossier supports (replay base events) → HasCredentials authority (replay base events) event credentials
+    → Audits authority base (events ++ event ∷ []) goes_on new

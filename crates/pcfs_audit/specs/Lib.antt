@@ -2,6 +2,7 @@ pub mod Cites
 pub mod Credentials
 pub mod Dossier
 pub mod DossierCredentials
+pub mod Ends
 pub mod Finding
 pub mod Firsts
 pub mod Following
@@ -9,4 +10,5 @@ pub mod Laws
 pub mod Papers
 pub mod Report
 pub mod ReportText
+pub mod Supports
 pub mod Taking

@@ -4,12 +4,13 @@ ghost use Rattle.std.specs.Prelude.{◌≡◌, ◌↔◌, length, Contains, IfOk
 ghost use Rattle.std.specs.List.{AllByRecursion};
 ghost use Rattle.bl_syntax.specs.Grant.{HoldsAt};
 ghost use Rattle.procap.specs.Genuine.{IsGenuine};
+ghost use Rattle.pcfs_audit.specs.Dossier.{IsDossier};
 ghost use Rattle.file_world.specs.Facts.{facts};
 ghost use Rattle.file_world.specs.Needs.{slots};
-ghost use Rattle.access_history.specs.Admission.{Admits, IsAdmitted};
-ghost use Rattle.access_history.specs.Base.{BaseView};
-ghost use Rattle.pcfs_audit.specs.Taking.{IsBrought, TakesPlace};
+ghost use Rattle.pcfs_audit.specs.Taking.{IsBrought, TakesPlace, TellsAdmits, TellsAdmitted};
 
+use crate::dossier::Dossier;
+use crate::supports::Supports;
 use bl_syntax::{Goal, Grant, NoMemory, Principal, is_moment};
 use condition_set::{first_failing_state, first_failing_time};
 use file_world::{Op, OpFault};
@@ -51,15 +52,17 @@ fn do_states_hold(grant: &Grant, world: &World) -> bool
 // Whether the procap passes all tests for what is wanted. That of its seal is left out if it is known to be right.
 fn passes(
     world: &World,
-    key: &SealKey,
+    dossier: &Dossier,
+    supports: &Supports,
     is_sealed: bool,
     procap: &Procap,
     wanted: &Goal,
     moment: i64,
 ) -> bool
-    ensures { (state : BaseView) → state.world ≡ world.now.world → (IsTrue is_sealed → IsGenuine key.now procap.now) → IsTrue result ↔ Admits key.now state moment wanted.now procap.now }
+    requires { IsDossier dossier.now }
+    ensures { TellsAdmits world.now.world dossier.now supports.now is_sealed procap.now wanted.now moment result }
 {
-    if !is_right(key, is_sealed, procap) {
+    if !is_right(&dossier.key, is_sealed, procap) {
         return false;
     }
     if !procap.grant.goal().is_same(wanted) {
@@ -68,22 +71,27 @@ fn passes(
     if !do_times_hold(&procap.grant, moment) {
         return false;
     }
-    do_states_hold(&procap.grant, world)
+    if !do_states_hold(&procap.grant, world) {
+        return false;
+    }
+    supports.does_stand(dossier, procap)
 }
 
 /// Whether the caller's operation is admitted under these procaps, one for each slot. Seals are tested unless they are
-/// known to be right.
+/// known to be right. A procap whose need falls away may be gone.
 pub fn is_admitted(
     world: &World,
-    key: &SealKey,
+    dossier: &Dossier,
+    supports: &Supports,
     are_sealed: bool,
     caller: &Principal,
     op: &Op,
     procaps: &[Procap],
     moment: i64,
 ) -> bool
-    requires { length procaps.now ≡ slots op.now }
-    ensures { (state : BaseView) → state.world ≡ world.now.world → (IsTrue are_sealed → AllByRecursion (IsGenuine key.now) procaps.now) → IsTrue result ↔ IsAdmitted key.now state caller.now op.now procaps.now moment }
+    requires dossier { IsDossier dossier.now }
+    requires slots { length procaps.now ≡ slots op.now }
+    ensures { TellsAdmitted world.now.world dossier.now supports.now are_sealed caller.now op.now procaps.now moment result }
 {
     let needs = world.needs(op);
     let pairs = needs.as_slice();
@@ -95,7 +103,9 @@ pub fn is_admitted(
             perm,
         };
         let procap = &procaps[place];
-        if !passes(world, key, are_sealed, procap, &wanted, moment) {
+        if !passes(
+            world, dossier, supports, are_sealed, procap, &wanted, moment,
+        ) {
             return false;
         }
     }

@@ -11,6 +11,7 @@ use crate::digests::{grant_digests, grant_digests_in_pieces};
 use crate::dossier::{Dossier, dossier_of};
 use crate::papers::papers_of;
 use crate::report::{Report, ReportRows, unissued_among};
+use crate::supports::base_supports;
 use access_history::{Base, Event};
 use bl_syntax::NoMemory;
 use pcfs_ports::Signatures;
@@ -24,18 +25,22 @@ fn report_rows(
     dossier: &Dossier,
     all: &[Credentials],
 ) -> Result<ReportRows, NoMemory>
+    requires dossier { IsDossier dossier.now }
     requires counted { dossier.now.base.now.count + length dossier.now.events.now ≤ 2 ^ 48 - 1 }
     requires all { length all.now ≡ length dossier.now.events.now }
     ensures { IfOk result (λ rows. (accepts : List ℕ → List ℕ → List ℕ → Bool) → AreCredentials (authority_by dossier.now.key accepts) dossier.now.base.now dossier.now.events.now all.now
         → AreRows (authority_by dossier.now.key accepts) dossier.now.base.now dossier.now.events.now rows) }
 {
     let mut auditor = auditor_at(alloc, dossier.base)?;
+    let mut supports = base_supports(alloc, dossier)?;
     let events = dossier.events;
     for place in 0..events.len() {
-        let goes_on = auditor.audit_event(alloc, &dossier.key, all[place], &events[place])?;
+        let event = &events[place];
+        let goes_on = auditor.audit_event(alloc, dossier, &supports, all[place], event)?;
         if !goes_on {
             return Ok(auditor.rows);
         }
+        supports.follow(dossier, event);
     }
     Ok(auditor.rows)
 }

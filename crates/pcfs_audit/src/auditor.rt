@@ -1,21 +1,20 @@
 //! The auditor: it follows the events in order, over a world of its own, up to the first with which something is wrong.
 
-ghost use Rattle.std.specs.Prelude.{◌≡◌, ◌<◌, ◌+◌, ◌-◌, ◌^◌, ◌∷◌, ◌++◌, [], ℕ, List, false, IfOk, IsTrue, OnOk, Some, None};
-ghost use Rattle.access_history.specs.declared.event.Event.{Event as EventView};
+ghost use Rattle.std.specs.Prelude.{◌≡◌, ◌<◌, ◌+◌, ◌-◌, ◌^◌, [], ℕ, false, IfOk, IsTrue, OnOk, Some, None};
 ghost use Rattle.access_history.specs.declared.event.Event.TheVariants as events;
 ghost use Rattle.access_history.specs.Authority.{Authority};
-ghost use Rattle.access_history.specs.Base.{BaseView};
-ghost use Rattle.access_history.specs.Replay.{replay};
-ghost use Rattle.pcfs_audit.specs.Credentials.{HasCredentials};
-ghost use Rattle.pcfs_audit.specs.Following.{Audits, Follows, HasAudited, StandsAt};
+ghost use Rattle.pcfs_audit.specs.Dossier.{IsDossier};
+ghost use Rattle.pcfs_audit.specs.Following.{AuditsWith, FindsWith, HasAudited};
 
 use crate::admission::{is_admitted, is_brought, take_place};
 use crate::credentials::Credentials;
+use crate::dossier::Dossier;
 use crate::report::{Finding, ReportRow, ReportRows, is_wrong};
+use crate::supports::Supports;
 use access_history::{Base, Event};
 use bl_syntax::{NoMemory, Principal, Sequence};
 use file_world::Op;
-use procap::{Procap, SealKey};
+use procap::Procap;
 use std::alloc::Global;
 use world_state::World;
 
@@ -54,15 +53,17 @@ impl Auditor {
     fn act(
         &mut self,
         alloc: Global,
-        key: &SealKey,
+        dossier: &Dossier,
+        supports: &Supports,
         credentials: Credentials,
         caller: &Principal,
         op: &Op,
         procaps: &[Procap],
         moment: i64,
     ) -> Result<Option<Finding>, NoMemory>
-        ensures found { IfOk result (λ found. (authority : Authority) (state : BaseView) (pass : ℕ) → authority.key ≡ key.now → StandsAt state self.old → HasCredentials authority state (events.Acted pass caller.now op.now procaps.now moment) credentials
-            → Follows authority state (events.Acted pass caller.now op.now procaps.now moment) found self.new) }
+        requires { IsDossier dossier.now }
+        ensures found { IfOk result (λ found. (pass : ℕ) →
+            FindsWith dossier.now supports.now credentials (events.Acted pass caller.now op.now procaps.now moment) found self.old self.new) }
         ensures count { OnOk result (self.new.count ≡ self.old.count) }
         ensures rows { OnOk result (self.new.rows ≡ self.old.rows) }
     {
@@ -73,7 +74,16 @@ impl Auditor {
             return Ok(Some(Finding::NotAdmitted));
         }
         let sealed = credentials.genuine;
-        if !is_admitted(&self.world, key, sealed, caller, op, procaps, moment) {
+        if !is_admitted(
+            &self.world,
+            dossier,
+            supports,
+            sealed,
+            caller,
+            op,
+            procaps,
+            moment,
+        ) {
             return Ok(Some(Finding::NotAdmitted));
         }
         if !take_place(alloc, &mut self.world, caller, op)? {
@@ -87,16 +97,19 @@ impl Auditor {
     fn find(
         &mut self,
         alloc: Global,
-        key: &SealKey,
+        dossier: &Dossier,
+        supports: &Supports,
         credentials: Credentials,
         event: &Event,
     ) -> Result<Option<Finding>, NoMemory>
-        ensures found { IfOk result (λ found. (authority : Authority) (state : BaseView) → authority.key ≡ key.now → StandsAt state self.old → HasCredentials authority state event.now credentials → Follows authority state event.now found self.new) }
+        requires { IsDossier dossier.now }
+        ensures found { IfOk result (λ found. FindsWith dossier.now supports.now credentials event.now found self.old self.new) }
         ensures count { OnOk result (self.new.count ≡ self.old.count) }
         ensures rows { OnOk result (self.new.rows ≡ self.old.rows) }
     {
         match event {
             Event::Registered { .. } => Ok(unless(credentials.genuine, Finding::Unsigned)),
+            Event::Withdrawn { .. } => Ok(unless(credentials.genuine, Finding::Unsigned)),
             Event::Issued { .. } => Ok(unless(credentials.genuine, Finding::Unproved)),
             Event::Acted {
                 caller,
@@ -106,7 +119,8 @@ impl Auditor {
                 ..
             } => self.act(
                 alloc,
-                key,
+                dossier,
+                supports,
                 credentials,
                 caller,
                 op,
@@ -120,16 +134,17 @@ impl Auditor {
     pub fn audit_event(
         &mut self,
         alloc: Global,
-        key: &SealKey,
+        dossier: &Dossier,
+        supports: &Supports,
         credentials: Credentials,
         event: &Event,
     ) -> Result<bool, NoMemory>
-        requires { self.old.count < 2 ^ 48 - 1 }
-        ensures audits { IfOk result (λ goes_on. (authority : Authority) (base : BaseView) (events : List EventView) → authority.key ≡ key.now → HasAudited authority base events self.old → HasCredentials authority (replay base events) event.now credentials
-            → Audits authority base (events ++ event.now ∷ []) goes_on self.new) }
+        requires dossier { IsDossier dossier.now }
+        requires counted { self.old.count < 2 ^ 48 - 1 }
+        ensures audits { IfOk result (λ goes_on. AuditsWith dossier.now supports.now credentials event.now goes_on self.old self.new) }
         ensures count { OnOk result (self.new.count ≡ self.old.count + 1) }
     {
-        let found = self.find(alloc, key, credentials, event)?;
+        let found = self.find(alloc, dossier, supports, credentials, event)?;
         self.count += 1;
         match found {
             None => Ok(true),

@@ -1,35 +1,36 @@
-//! What of an event rests on papers alone, and on no world: its signature, its proof, its seals, and whether its grants
-//! were issued. The events are tested each by itself, in any order.
+//! What of an event rests on papers alone, and on no world: its signature, its proof, its seals, which statements stood, and
+//! whether its grants were issued. The events are tested each by itself, in any order.
 
 ghost use Rattle.std.specs.Prelude.{◌≡◌, ◌↔◌, ◌≤◌, ◌<◌, ◌&&◌, length, take, IfOk, IsTrue};
 ghost use Rattle.std.specs.List.{AllByRecursion};
 ghost use Rattle.procap.specs.Genuine.{IsGenuine};
-ghost use Rattle.access_history.specs.Authority.{sayings};
-ghost use Rattle.access_history.specs.Base.{BaseView};
-ghost use Rattle.pcfs_audit.specs.Credentials.{AreCredentials, IsOfIssues, HasCredentials, HasCredentialsAt};
+ghost use Rattle.pcfs_audit.specs.Credentials.{AreCredentials, IsOfIssues, HasCredentialsAt, TellsCredentials, TellsIssue};
 ghost use Rattle.pcfs_audit.specs.Dossier.{IsDossier};
 ghost use Rattle.pcfs_audit.specs.DossierCredentials.{AreCredentialsIn, HasCredentialsIn};
-ghost use Rattle.pcfs_audit.specs.Papers.{grants_in, shown};
+ghost use Rattle.pcfs_audit.specs.Papers.{shown};
 ghost use Rattle.pcfs_audit.specs.Report.{authority_by};
 
 use crate::digests::tag_digest;
 use crate::dossier::Dossier;
+use crate::ends::{first_end, is_past};
 use crate::examining::{Examiner, examine_in_pieces};
 use crate::grants::was_issued;
 use crate::issues::is_good_issue;
 use crate::papers::Before;
-use crate::statements::could_be_registered;
+use crate::statements::{could_be_registered, could_be_withdrawn};
 use access_history::Event;
-use bl_syntax::NoMemory;
+use bl_syntax::{Grant, NoMemory};
 use pcfs_ports::Signatures;
 use procap::Procap;
+use proof_term::ProofTree;
 use std::alloc::Global;
 use std::thread::Threads;
 
 /// Whether what an event brings is genuine, and whether each grant that it uses was issued before.
 #[derive(Clone, Copy, Debug)]
 pub struct Credentials {
-    /// A statement is signed, new, and has room; an issue is good; procaps are sealed.
+    /// A statement is signed, new, and has room; one that is withdrawn stands, and its withdrawal is signed; an issue is good,
+    /// and cites statements that stand; procaps are sealed.
     pub genuine: bool,
     /// The grants of procaps were issued.
     pub issued: bool,
@@ -88,19 +89,41 @@ fn without_issues(genuine: bool) -> Credentials
     }
 }
 
-// The credentials of an event, after so many statements and issues.
+// Whether an issue is good, after so many statements, and what it cites stands before the event at that place.
+fn may_be_issued(
+    alloc: Global,
+    dossier: &Dossier,
+    before: Before,
+    place: usize,
+    cited: &[u32],
+    proof: &ProofTree,
+    grant: &Grant,
+) -> Result<bool, NoMemory>
+    requires { before.statements ≤ length dossier.now.papers.statements.items }
+    ensures { IfOk result (TellsIssue dossier.now.papers before place (record { cited = cited.now; proof = proof.now; grant = grant.now })) }
+{
+    let ends = dossier.papers.ends.as_slice();
+    if is_past(first_end(ends, cited), place) {
+        return Ok(false);
+    }
+    let statements = dossier.papers.statements.as_slice();
+    let earlier = &statements[..before.statements];
+    is_good_issue(alloc, earlier, cited, proof, grant)
+}
+
+// The credentials of the event at that place, after so many statements and issues.
 fn credentials_of<S: Signatures>(
     alloc: Global,
     dossier: &Dossier,
     ring: &S,
     before: Before,
+    place: usize,
     event: &Event,
 ) -> Result<Credentials, NoMemory>
     requires dossier { IsDossier dossier.now }
     requires statements_within { before.statements ≤ length dossier.now.papers.statements.items }
     requires grants_within { before.issues ≤ length dossier.now.papers.grants.items }
-    ensures { IfOk result (λ credentials. (state : BaseView) → sayings state.statements ≡ take before.statements (shown dossier.now.papers.statements.items) → grants_in state.issues ≡ take before.issues (shown dossier.now.papers.grants.items)
-        → HasCredentials (authority_by dossier.now.key (S.Signatures.accepted ring.now)) state event.now credentials) }
+    ensures { IfOk result (TellsCredentials (authority_by dossier.now.key (S.Signatures.accepted ring.now)) dossier.now.papers before place event.now) }
 {
     match event {
         Event::Registered {
@@ -121,15 +144,32 @@ fn credentials_of<S: Signatures>(
                 Err(refused) => Err(refused),
             }
         }
+        Event::Withdrawn {
+            number,
+            signature,
+            ..
+        } => {
+            match could_be_withdrawn(
+                alloc,
+                dossier,
+                ring,
+                before.statements,
+                place,
+                *number,
+                signature.as_slice(),
+            ) {
+                Ok(genuine) => Ok(without_issues(genuine)),
+                Err(refused) => Err(refused),
+            }
+        }
         Event::Issued {
             cited,
             proof,
             grant,
             ..
         } => {
-            let statements = dossier.papers.statements.as_slice();
-            let earlier = &statements[..before.statements];
-            match is_good_issue(alloc, earlier, cited.as_slice(), proof, grant) {
+            let cited = cited.as_slice();
+            match may_be_issued(alloc, dossier, before, place, cited, proof, grant) {
                 Ok(genuine) => Ok(without_issues(genuine)),
                 Err(refused) => Err(refused),
             }
@@ -152,7 +192,8 @@ fn credentials_at<S: Signatures>(
     ensures { IfOk result (HasCredentialsAt (authority_by dossier.now.key (S.Signatures.accepted ring.now)) dossier.now.base.now dossier.now.events.now place) }
 {
     let before = dossier.papers.before.as_slice();
-    credentials_of(alloc, dossier, ring, before[place], &dossier.events[place])
+    let event = &dossier.events[place];
+    credentials_of(alloc, dossier, ring, before[place], place, event)
 }
 
 /// The credentials of all events, in order.

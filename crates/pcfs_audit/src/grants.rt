@@ -1,9 +1,10 @@
 //! Grants that were issued, found by their digests.
 
-ghost use Rattle.std.specs.Prelude.{◌≡◌, ◌↔◌, ◌≤◌, length, take, IsTrue, Contains};
+ghost use Rattle.std.specs.Prelude.{◌≡◌, ◌↔◌, ◌≤◌, length, take, IsTrue, Contains, MatchOption};
 ghost use Rattle.pcfs_audit.specs.Dossier.{IsDossier};
 ghost use Rattle.pcfs_audit.specs.Firsts.{grant_digest};
 ghost use Rattle.pcfs_audit.specs.Papers.{shown};
+ghost use Rattle.pcfs_audit.specs.Supports.{IsFirstOf, IsRowFor};
 
 use crate::dossier::Dossier;
 use crate::firsts::first_place;
@@ -40,4 +41,36 @@ pub fn was_issued(dossier: &Dossier, earlier: usize, digest: u64, grant: &Grant)
         return true;
     }
     is_among(&grants[..earlier], grant)
+}
+
+// The place of the first of these that is the grant.
+fn find_among(grants: &[&Grant], grant: &Grant) -> Option<usize>
+    ensures { MatchOption result (Contains (shown grants.now) grant.now → ⊥) (IsFirstOf (shown grants.now) grant.now) }
+{
+    for place in 0..grants.len() {
+        if grants[place].is_same(grant) {
+            return Some(place);
+        }
+    }
+    None
+}
+
+/// The place of the first grant that is this one, of all that are ever issued; none exactly if none is. The digest has to be
+/// the grant's.
+pub fn row_of(dossier: &Dossier, digest: u64, grant: &Grant) -> Option<usize>
+    requires { IsDossier dossier.now }
+    ensures { IsRowFor dossier.now digest grant.now result }
+{
+    let first = match first_place(&dossier.grant_firsts, digest) {
+        Some(first) => first,
+        None => return None,
+    };
+    let grants = dossier.papers.grants.as_slice();
+    if grants.len() <= first {
+        return None;
+    }
+    if grants[first].is_same(grant) {
+        return Some(first);
+    }
+    find_among(grants, grant)
 }

@@ -2,7 +2,8 @@
 //! were not issued before.
 //!
 //! The report is a definition over the base, the events, the key of the seal and the ring; it ends with the first event with
-//! which something is wrong. It is the same in any number of pieces. The report on a lawful history has no wrong row. A history over a
+//! which something is wrong. Which statements stand before each event is read off the events alone, and with it which grants
+//! are gone. It is the same in any number of pieces. The report on a lawful history has no wrong row. A history over a
 //! lawful base whose report has none is lawful too, if its events are typed and it ends below event 2^48.
 #![tactic(auto)]
 
@@ -12,6 +13,7 @@ mod auditor;
 mod credentials;
 mod digests;
 mod dossier;
+mod ends;
 mod examining;
 mod firsts;
 mod grants;
@@ -21,6 +23,7 @@ mod papers;
 mod report;
 mod report_text;
 mod statements;
+mod supports;
 
 pub use auditing::{audit, audit_pieces};
 pub use report::{Finding, Report, ReportRow, ReportRows};

@@ -1,5 +1,5 @@
-//! The papers of a history: its statements and the grants that were issued, and how many of each there were before each
-//! event. Nothing of them is copied.
+//! The papers of a history: its statements, before which event each was withdrawn, the grants that were issued, and how many
+//! statements and issues there were before each event. Nothing of them is copied.
 
 ghost use Rattle.std.specs.Prelude.{◌≡◌, ◌∷◌, ◌++◌, [], List, IfOk};
 ghost use Rattle.access_history.specs.declared.event.Event.{Event as EventView};
@@ -7,6 +7,7 @@ ghost use Rattle.access_history.specs.Authority.{sayings};
 ghost use Rattle.access_history.specs.Base.{BaseView};
 ghost use Rattle.pcfs_audit.specs.Papers.{ArePapers, grants_in, shown};
 
+use crate::ends::{Ends, add_open_end, base_ends, end_statement, has_ended};
 use access_history::{Base, Event};
 use bl_syntax::{Grant, NoMemory, Statement};
 use std::alloc::Global;
@@ -18,12 +19,15 @@ pub struct Before {
     pub issues: usize,
 }
 
-/// The statements and the grants of issues, by their numbers from 1, and how many of each there were before each event.
+/// The statements and the grants of issues, by their numbers from 1, and how many of each there were before each event;
+/// before which event each statement was withdrawn, and whether one was.
 #[derive(Drop)]
 pub struct Papers<'a> {
     pub statements: Vec<&'a Statement>,
     pub grants: Vec<&'a Grant>,
     pub before: Vec<Before>,
+    pub ends: Ends,
+    pub has_ended: bool,
 }
 
 // The statements of a base.
@@ -56,10 +60,14 @@ fn base_papers<'a>(alloc: Global, base: &'a Base) -> Result<Papers<'a>, NoMemory
 {
     let statements = base_statements(alloc, base)?;
     let grants = base_grants(alloc, base)?;
+    let ends = base_ends(alloc, base)?;
+    let has_ended = has_ended(ends.as_slice());
     Ok(Papers {
         statements,
         grants,
         before: Vec::new(alloc),
+        ends,
+        has_ended,
     })
 }
 
@@ -76,6 +84,13 @@ fn with_event<'a>(papers: Papers<'a>, event: &'a Event) -> Result<Papers<'a>, No
     match event {
         Event::Registered { statement, .. } => {
             papers.statements.push(statement)?;
+            add_open_end(&mut papers.ends)?;
+            Ok(papers)
+        }
+        Event::Withdrawn { number, .. } => {
+            let place = papers.before.len();
+            end_statement(&mut papers.ends, *number, place);
+            papers.has_ended = true;
             Ok(papers)
         }
         Event::Issued { grant, .. } => {

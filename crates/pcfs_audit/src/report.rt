@@ -8,10 +8,11 @@ use bl_syntax::Sequence;
 /// What an audit finds with an event.
 #[derive(Clone, Copy, Debug, PartialEq, Eq)]
 pub enum Finding {
-    /// A statement's signature is not accepted, an equal statement is registered, or as many as may be are.
+    /// A statement's signature is not accepted, an equal statement is registered, or as many as may be are; or a statement
+    /// that is withdrawn does not stand, or the signature of its withdrawal is not accepted.
     Unsigned,
-    /// A proof does not grant what was issued by it, or the numbers that it cites are not 1 to 64 numbers of statements,
-    /// strictly rising.
+    /// A proof does not grant what was issued by it, or the numbers that it cites are not 1 to 64 numbers of statements that
+    /// stand, strictly rising.
     Unproved,
     /// An operation is denied or refused at its moment, it does not bring one procap for each slot, it brings too many
     /// bytes, or its moment lies outside the range.

@@ -1,4 +1,4 @@
-//! Statements that are registered: signed, new, and with room.
+//! Statements that are registered, signed, new, and with room; and that are withdrawn, standing, and signed once more.
 
 ghost use Rattle.std.specs.Prelude.{◌↔◌, ◌≤◌, length, map, take, IfOk, IsTrue, Contains};
 ghost use Rattle.policy_statement.specs.Digest.{digest_of};
@@ -6,15 +6,17 @@ ghost use Rattle.policy_statement.specs.Messages.{statement_message};
 ghost use Rattle.pcfs_audit.specs.Dossier.{IsDossier};
 ghost use Rattle.pcfs_audit.specs.Firsts.{AreFirsts};
 ghost use Rattle.access_history.specs.Authority.{CanRegister};
+ghost use Rattle.pcfs_audit.specs.Ends.{CouldBeWithdrawn};
 ghost use Rattle.pcfs_audit.specs.Papers.{shown};
 
 use crate::dossier::Dossier;
+use crate::ends::is_ended;
 use crate::firsts::{Firsts, first_place};
 use bl_syntax::limits::MOST_STATEMENTS;
 use bl_syntax::{NoMemory, Statement};
 use pcfs_ports::Signatures;
 use policy_statement::digest::digest;
-use policy_statement::statement_message;
+use policy_statement::{statement_message, withdraw_message};
 use std::alloc::Global;
 
 // Whether the statement is one of these.
@@ -71,4 +73,34 @@ pub fn could_be_registered<S: Signatures>(
     }
     let statements = dossier.papers.statements.as_slice();
     Ok(is_new(&dossier.statement_firsts, statements, earlier, statement))
+}
+
+/// Whether the statement of a number, which is one of so many, could be withdrawn before the event at that place: it was not
+/// withdrawn before, and the signature of its withdrawal is accepted from who said it.
+pub fn could_be_withdrawn<S: Signatures>(
+    alloc: Global,
+    dossier: &Dossier,
+    ring: &S,
+    earlier: usize,
+    place: usize,
+    number: u32,
+    signature: &[u8],
+) -> Result<bool, NoMemory>
+    requires { earlier ≤ length dossier.now.papers.statements.items }
+    ensures { IfOk result (λ could. IsTrue could ↔ CouldBeWithdrawn (S.Signatures.accepted ring.now) (take earlier (shown dossier.now.papers.statements.items))
+        dossier.now.papers.ends.items place number signature.now) }
+{
+    if number == 0 {
+        return Ok(false);
+    }
+    if earlier < number as usize {
+        return Ok(false);
+    }
+    if is_ended(dossier.papers.ends.as_slice(), number, place) {
+        return Ok(false);
+    }
+    let statements = dossier.papers.statements.as_slice();
+    let statement = statements[number as usize - 1];
+    let message = withdraw_message(alloc, statement)?;
+    Ok(ring.accepts(statement.who().bytes(), message.as_slice(), signature))
 }

@@ -81,6 +81,7 @@ statement_form forms.At arguments text s is = absurd cc
 statement_form forms.As arguments text s is = absurd cc
 statement_form forms.Login arguments text s is = absurd cc
 statement_form forms.Register arguments text s is = let other = is.2 in absurd cc
+statement_form forms.Withdraw arguments text s is = absurd cc
 statement_form forms.Procap arguments text s is = absurd cc
 statement_form forms.Checkpoint arguments text s is = absurd cc
 statement_form forms.Verify arguments text s is = let other = is.2 in absurd cc
@@ -94,6 +95,7 @@ goal_form forms.At arguments text goal proof is = absurd cc
 goal_form forms.As arguments text goal proof is = absurd cc
 goal_form forms.Login arguments text goal proof is = absurd cc
 goal_form forms.Register arguments text goal proof is = let other = is.2 in absurd cc
+goal_form forms.Withdraw arguments text goal proof is = absurd cc
 goal_form forms.Procap arguments text goal proof is = absurd cc
 goal_form forms.Checkpoint arguments text goal proof is = absurd cc
 goal_form forms.Verify arguments text goal proof is = let other = is.2 in absurd cc
@@ -103,14 +105,15 @@ goal_form forms.Statement arguments text goal proof is = let other = is.2 in abs
 goal_form forms.Goal arguments text goal proof is = refl
 
 -- the head of a line of an inquiry, by the tests of its first word
-abbrev head_by : List ℕ → ℕ → Bool → Bool → Bool → Bool → Bool → Bool → Bool → Bool → Bool → Bool → Bool → Result Head LineFault
-head_by behind whole is_do is_at is_as is_login is_register is_procap is_checkpoint is_verify is_check is_statement is_goal =
+abbrev head_by : List ℕ → ℕ → Bool → Bool → Bool → Bool → Bool → Bool → Bool → Bool → Bool → Bool → Bool → Bool → Result Head LineFault
+head_by behind whole is_do is_at is_as is_login is_register is_withdraw is_procap is_checkpoint is_verify is_check is_statement is_goal =
     if is_do then do_head Inquiry whole behind
     else by_form behind (known Inquiry
     (if is_at then Some forms.At else
     if is_as then Some forms.As else
     if is_login then Some forms.Login else
     if is_register then Some forms.Register else
+    if is_withdraw then Some forms.Withdraw else
     if is_procap then Some forms.Procap else
     if is_checkpoint then Some forms.Checkpoint else
     if is_verify then Some forms.Verify else
@@ -123,33 +126,35 @@ abbrev head_form : Result Head LineFault → Form
 head_form (Ok head) = head.0
 head_form (Err fault) = forms.At
 
-statement_by : (behind : List ℕ) (whole : ℕ) (a b c d e f k g h s t : Bool) (rest : List ℕ) → head_by behind whole a b c d e f k g h s t ≡ Ok (forms.Statement, rest) → s ≡ true
-statement_by behind whole true b c d e f k g h s t rest is = absurd cc
-statement_by behind whole false true c d e f k g h s t rest is = absurd cc
-statement_by behind whole false false true d e f k g h s t rest is = absurd cc
-statement_by behind whole false false false true e f k g h s t rest is = absurd cc
-statement_by behind whole false false false false true f k g h s t rest is = absurd cc
-statement_by behind whole false false false false false true k g h s t rest is = absurd cc
-statement_by behind whole false false false false false false true g h s t rest is = absurd cc
-statement_by behind whole false false false false false false false true h s t rest is = absurd cc
-statement_by behind whole false false false false false false false false true s t rest is = absurd cc
-statement_by behind whole false false false false false false false false false true t rest is = refl
-statement_by behind whole false false false false false false false false false false true rest is = let same : forms.Goal ≡ forms.Statement = ap head_form is in absurd cc
-statement_by behind whole false false false false false false false false false false false rest is = absurd cc
+statement_by : (behind : List ℕ) (whole : ℕ) (a b c d e w f k g h s t : Bool) (rest : List ℕ) → head_by behind whole a b c d e w f k g h s t ≡ Ok (forms.Statement, rest) → s ≡ true
+statement_by behind whole true b c d e w f k g h s t rest is = absurd cc
+statement_by behind whole false true c d e w f k g h s t rest is = absurd cc
+statement_by behind whole false false true d e w f k g h s t rest is = absurd cc
+statement_by behind whole false false false true e w f k g h s t rest is = absurd cc
+statement_by behind whole false false false false true w f k g h s t rest is = absurd cc
+statement_by behind whole false false false false false true f k g h s t rest is = absurd cc
+statement_by behind whole false false false false false false true k g h s t rest is = absurd cc
+statement_by behind whole false false false false false false false true g h s t rest is = absurd cc
+statement_by behind whole false false false false false false false false true h s t rest is = absurd cc
+statement_by behind whole false false false false false false false false false true s t rest is = absurd cc
+statement_by behind whole false false false false false false false false false false true t rest is = refl
+statement_by behind whole false false false false false false false false false false false true rest is = let same : forms.Goal ≡ forms.Statement = ap head_form is in absurd cc
+statement_by behind whole false false false false false false false false false false false false rest is = absurd cc
 
-goal_by : (behind : List ℕ) (whole : ℕ) (a b c d e f k g h s t : Bool) (rest : List ℕ) → head_by behind whole a b c d e f k g h s t ≡ Ok (forms.Goal, rest) → t ≡ true
-goal_by behind whole true b c d e f k g h s t rest is = absurd cc
-goal_by behind whole false true c d e f k g h s t rest is = absurd cc
-goal_by behind whole false false true d e f k g h s t rest is = absurd cc
-goal_by behind whole false false false true e f k g h s t rest is = absurd cc
-goal_by behind whole false false false false true f k g h s t rest is = absurd cc
-goal_by behind whole false false false false false true k g h s t rest is = absurd cc
-goal_by behind whole false false false false false false true g h s t rest is = absurd cc
-goal_by behind whole false false false false false false false true h s t rest is = absurd cc
-goal_by behind whole false false false false false false false false true s t rest is = absurd cc
-goal_by behind whole false false false false false false false false false true t rest is = let same : forms.Statement ≡ forms.Goal = ap head_form is in absurd cc
-goal_by behind whole false false false false false false false false false false true rest is = refl
-goal_by behind whole false false false false false false false false false false false rest is = absurd cc
+goal_by : (behind : List ℕ) (whole : ℕ) (a b c d e w f k g h s t : Bool) (rest : List ℕ) → head_by behind whole a b c d e w f k g h s t ≡ Ok (forms.Goal, rest) → t ≡ true
+goal_by behind whole true b c d e w f k g h s t rest is = absurd cc
+goal_by behind whole false true c d e w f k g h s t rest is = absurd cc
+goal_by behind whole false false true d e w f k g h s t rest is = absurd cc
+goal_by behind whole false false false true e w f k g h s t rest is = absurd cc
+goal_by behind whole false false false false true w f k g h s t rest is = absurd cc
+goal_by behind whole false false false false false true f k g h s t rest is = absurd cc
+goal_by behind whole false false false false false false true k g h s t rest is = absurd cc
+goal_by behind whole false false false false false false false true g h s t rest is = absurd cc
+goal_by behind whole false false false false false false false false true h s t rest is = absurd cc
+goal_by behind whole false false false false false false false false false true s t rest is = absurd cc
+goal_by behind whole false false false false false false false false false false true t rest is = let same : forms.Statement ≡ forms.Goal = ap head_form is in absurd cc
+goal_by behind whole false false false false false false false false false false false true rest is = refl
+goal_by behind whole false false false false false false false false false false false false rest is = absurd cc
 
 -- the first word of a line that says a statement, and of one with a goal
 pub statement_word : (line : List ℕ) (s : StatementView) → SaysStatement line s → (first_cut line).word ≡ codes "statement"
@@ -158,8 +163,8 @@ statement_word line s says =
     let form = statement_form says.form says.arguments _ s says.asked in
     let head : head_in Inquiry line ≡ Ok (forms.Statement, says.has_words.behind) = says.has_words.head_is ∙ ap (λ (f : Form). Ok (f, says.has_words.behind)) form in
     (bytes_eq-Decides word (codes "statement")).0
-    (statement_by (first_cut line).behind (length line) (bytes_eq word (codes "do")) (bytes_eq word (codes "at")) (bytes_eq word (codes "as")) (bytes_eq word (codes "login")) (bytes_eq word (codes "register")) (bytes_eq word (codes "procap"))
-    (bytes_eq word (codes "checkpoint")) (bytes_eq word (codes "verify")) (bytes_eq word (codes "check")) (bytes_eq word (codes "statement")) (bytes_eq word (codes "goal")) says.has_words.behind head)
+    (statement_by (first_cut line).behind (length line) (bytes_eq word (codes "do")) (bytes_eq word (codes "at")) (bytes_eq word (codes "as")) (bytes_eq word (codes "login")) (bytes_eq word (codes "register")) (bytes_eq word (codes "withdraw"))
+    (bytes_eq word (codes "procap")) (bytes_eq word (codes "checkpoint")) (bytes_eq word (codes "verify")) (bytes_eq word (codes "check")) (bytes_eq word (codes "statement")) (bytes_eq word (codes "goal")) says.has_words.behind head)
 
 pub goal_word : (line : List ℕ) (goal : Goal) (proof : ProofView) → IsLineIn Inquiry line (asked.Goal goal proof) → (first_cut line).word ≡ codes "goal"
 goal_word line goal proof asks =
@@ -167,8 +172,8 @@ goal_word line goal proof asks =
     let form = goal_form asks.form asks.arguments _ goal proof asks.asked in
     let head : head_in Inquiry line ≡ Ok (forms.Goal, asks.has_words.behind) = asks.has_words.head_is ∙ ap (λ (f : Form). Ok (f, asks.has_words.behind)) form in
     (bytes_eq-Decides word (codes "goal")).0
-    (goal_by (first_cut line).behind (length line) (bytes_eq word (codes "do")) (bytes_eq word (codes "at")) (bytes_eq word (codes "as")) (bytes_eq word (codes "login")) (bytes_eq word (codes "register")) (bytes_eq word (codes "procap"))
-    (bytes_eq word (codes "checkpoint")) (bytes_eq word (codes "verify")) (bytes_eq word (codes "check")) (bytes_eq word (codes "statement")) (bytes_eq word (codes "goal")) asks.has_words.behind head)
+    (goal_by (first_cut line).behind (length line) (bytes_eq word (codes "do")) (bytes_eq word (codes "at")) (bytes_eq word (codes "as")) (bytes_eq word (codes "login")) (bytes_eq word (codes "register")) (bytes_eq word (codes "withdraw"))
+    (bytes_eq word (codes "procap")) (bytes_eq word (codes "checkpoint")) (bytes_eq word (codes "verify")) (bytes_eq word (codes "check")) (bytes_eq word (codes "statement")) (bytes_eq word (codes "goal")) asks.has_words.behind head)
 
 -- a statement comes after fewer than 64, and the goal after one at least
 pub statement_few : (count : ℕ) (line : List ℕ) (s : StatementView) → IsAskedAfter count line (asked.Statement s) → count < 64

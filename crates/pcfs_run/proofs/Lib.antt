@@ -4,3 +4,4 @@ pub mod ServedLemmas
 pub mod WordsLemmas
 pub mod UnsaidLemmas
 pub mod HealthyLemmas
+mod GoneLemmas

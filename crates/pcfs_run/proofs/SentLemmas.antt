@@ -4,6 +4,7 @@ use denote.Param.Send.{IsSend, sendable, view_send}
 use denote.Param.SendFields.{declared_send, as_row_send}
 use Rattle.pcfs_store.specs.contracts.store.Store.TheInside as inside
 use Rattle.shared_store.specs.contracts.opened.OpenedStore.TheInside as opened
+use Rattle.access_history.specs.contracts.history.History.TheInside as history
 use Rattle.journal_core.proofs.area.Area.TheSendSync as area
 use Rattle.std.proofs.Crossing.{crosses, Vec-send}
 use Rattle.std.proofs.MapsCrossing as maps
@@ -22,6 +23,7 @@ use Rattle.pcfs_hmac.specs.contracts.keyed.Mac as Mac
 use Rattle.procap.specs.contracts.sealing.SealKey as SealKey
 use Rattle.policy_statement.specs.contracts.ring.Keyring as Keyring
 use Rattle.policy_statement.specs.contracts.registry.Registry as Registry
+use Rattle.issue_standings.specs.contracts.standings.Standings as Standings
 use Rattle.access_history.specs.contracts.event.Event as Event
 use Rattle.access_history.specs.contracts.event.Addition as Addition
 use Rattle.access_history.specs.contracts.event.Issue as Issue
@@ -59,6 +61,9 @@ ring_send = search (sendable, crosses, mac_send) depth 100 fits 20000
 registry_send : IsSend Registry.the_row
 registry_send = search (sendable, crosses, statement_send) depth 100 fits 20000
 
+standings_send : IsSend Standings.the_row
+standings_send = search (sendable, crosses, maps.crosses) depth 100 fits 20000
+
 world_send : IsSend World.the_row
 world_send = search (sendable, crosses, maps.crosses) depth 100 fits 20000
 
@@ -74,8 +79,40 @@ addition_send = search (sendable, crosses, statement_send, tree_send) depth 100 
 base_send : IsSend Base.the_row
 base_send = search (sendable, crosses, world_send, statement_send, issue_send) depth 100 fits 20000
 
+-- each field in the order of the struct: the key, the ring, the base, the events, the world, the statements, the issues, the standings, the
+-- moment, the count
+history_inside : IsSend history.the_row
+history_inside = declared_send history.the_type (
+  search (sendable, as_row_send, crosses, key_send) depth 100 fits 20000,
+  (
+    search (sendable, as_row_send, crosses, ring_send) depth 100 fits 20000,
+    (
+      search (sendable, crosses, base_send) depth 100 fits 20000,
+      (
+        search (sendable, as_row_send, crosses, event_send) depth 100 fits 20000,
+        (
+          search (sendable, crosses, world_send) depth 100 fits 20000,
+          (
+            search (sendable, crosses, registry_send) depth 100 fits 20000,
+            (
+              search (sendable, as_row_send, crosses, issue_send) depth 100 fits 20000,
+              (
+                search (sendable, crosses, standings_send) depth 100 fits 20000,
+                (
+                  search (sendable, as_row_send, crosses) depth 100 fits 20000,
+                  (search (sendable, as_row_send, crosses) depth 100 fits 20000, tt),
+                ),
+              ),
+            ),
+          ),
+        ),
+      ),
+    ),
+  ),
+)
+
 history_send : IsSend History.the_row
-history_send = search (sendable, crosses, key_send, ring_send, base_send, event_send, world_send, registry_send, issue_send) depth 100 fits 20000
+history_send = view_send history.the_row _ _ _ _ history_inside
 
 event_field : IsSend Event.the_field.row
 event_field = search (sendable, crosses, statement_send, tree_send, op.the_field_send, sequence.the_send, grant.the_send, procap.the_send, principal.the_send) depth 100 fits 20000

@@ -2,7 +2,7 @@
 
 ghost use Rattle.pcfs_ports.specs.Disk.{IsPinned};
 ghost use Rattle.session_service.specs.Sessions.{sources_of};
-ghost use Rattle.pcfs_run.specs.Laws.{NothingIsAddedUnsaid};
+ghost use Rattle.pcfs_run.specs.Laws.{GoneAdmitNothing, NothingIsAddedUnsaid};
 ghost use Rattle.pcfs_run.specs.Healthy.{HealthyRunsEndSo};
 
 use pcfs_ports::{Clock, Disk, Listener, Source};
@@ -30,3 +30,9 @@ pub fn healthy_runs_end_so<I: Source, D: Disk, C: Clock, L: Listener>(
     let _ = clock;
     let _ = net;
 }
+
+/// No operation of a history that a run leaves, of which the headline holds, was admitted with a procap that was issued, if
+/// each issue of its grant cites a statement that was withdrawn before that very step.
+pub fn gone_procaps_admit_nothing()
+    ensures { GoneAdmitNothing }
+{}

@@ -1,7 +1,7 @@
 -- What a line asks for is allowed.
 use Rattle.std.proofs.Common.{ℕ, List}
 use Rattle.line_forms.specs.declared.command.Command.{Command}
-use Rattle.line_forms.specs.declared.command.Command.TheVariants.{At, As, Register, Procap, Checkpoint, Verify, Check, Do}
+use Rattle.line_forms.specs.declared.command.Command.TheVariants.{At, As, Register, Withdraw, Procap, Checkpoint, Verify, Check, Do}
 use Rattle.line_forms.specs.Lines.{IsLine}
 use Rattle.line_forms.specs.Said.{IsWithin}
 use Rattle.line_forms.proofs.LimitLemmas.{line_within}
@@ -12,6 +12,7 @@ pub IsAllowed-within : (command : Command) → IsWithin command → IsAllowed co
 IsAllowed-within (At second) within = within
 IsAllowed-within (As who) within = within
 IsAllowed-within (Register signature statement) within = within
+IsAllowed-within (Withdraw number signature) within = tt
 IsAllowed-within (Verify goal numbers proof) within = within.0
 IsAllowed-within (Check goal numbers proof) within = within.0
 IsAllowed-within (Procap number) within = tt

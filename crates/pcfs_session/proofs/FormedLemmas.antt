@@ -53,6 +53,7 @@ IsGranted-proved book goal numbers proof cites g are times proved =
 pub IsWellFormed-within : (secrets : Secrets) (state : BaseView) (asker : Asker) (command : Command) (request : StepRequest) → IsAsker asker → AllByRecursion IsStatement (sayings state.statements) → IsWithin command →
     ComesTo secrets state asker command (requested request) → IsWellFormed request
 IsWellFormed-within secrets state asker _ _ is_asker are within (line_answer.registers signature statement) = within
+IsWellFormed-within secrets state asker _ _ is_asker are within (line_answer.withdraws number signature) = tt
 IsWellFormed-within secrets state asker _ _ is_asker are within (line_answer.shows number) = tt
 IsWellFormed-within secrets state asker _ _ is_asker are within (line_answer.verifies goal numbers proof cites g proved) = (
   AreCited-found (book_of state) numbers cites proved.found within.0,

@@ -1,5 +1,5 @@
 -- What an interpreter makes of requests, commands and lines.
-use Rattle.std.proofs.Common.{◌≡◌, ℕ, ℤ, List, [], Option, Some, None, Err, ⊎_elim, refl, sym, ap, subst}
+use Rattle.std.proofs.Common.{◌≡◌, ◌∙◌, ℕ, ℤ, List, [], Option, Some, None, Err, ⊎_elim, refl, sym, ap, subst}
 use Rattle.std.specs.Prelude.{◌≢◌}
 use Rattle.bl_syntax.specs.declared.grant.Goal.{Goal}
 use Rattle.bl_syntax.specs.Statement.{StatementView}
@@ -24,7 +24,11 @@ use Rattle.op_gate.specs.declared.cite.Citation.{Citation}
 use Rattle.op_gate.specs.declared.cite.Citation.TheVariants as citations
 use Rattle.op_gate.specs.Citations.{GivesCitation}
 use Rattle.op_gate.specs.Decision.{GateView}
+use Rattle.access_history.specs.declared.event.Event.{Event}
+use Rattle.access_history.specs.Base.{BaseView}
+use Rattle.access_history.specs.History.{HistoryView, state_of}
 use Rattle.access_history.specs.Replay.{replay}
+use Rattle.policy_statement.specs.Ring.{KeyView}
 use Rattle.pcfs_store.specs.StoreView.{StoreView}
 use Rattle.line_words.specs.declared.procap_word.ProcapWord.{ProcapWord}
 use Rattle.line_forms.specs.declared.command.Command.{Command}
@@ -41,7 +45,7 @@ use Rattle.pcfs_session.specs.Brought.{AreProcapsAdded}
 use Rattle.pcfs_session.specs.Procaps.{AreBrought, IsFirstUnissued}
 use Rattle.pcfs_session.specs.Proved.{IsUnproved, cites_none, proves_none, IsProved}
 use Rattle.pcfs_session.specs.InterpreterView.{InterpreterView, standing_of}
-use Rattle.pcfs_session.specs.LineAnswer.{signature_under, replied, requested, ComesTo, at_once, decided, faulty, asks}
+use Rattle.pcfs_session.specs.LineAnswer.{signature_under, withdrawal_under, replied, requested, ComesTo, at_once, decided, faulty, asks}
 use Rattle.pcfs_session.specs.LineAnswer as line_answer
 use Rattle.pcfs_session.specs.ScriptRun.{Standing, state_of_standing, Becomes, kept, IsReplied, answered, without_memory}
 use Rattle.pcfs_session.specs.Interpreter.{IsDecidedAs, IsFollowed, unread_reply}
@@ -94,6 +98,12 @@ IsFollowed-register before after signature statement given reply given_is asked 
     followed_by before after (commands.Register signature statement) (requests.Register statement (signature_under before.secrets.ring statement signature)) reply refl (line_answer.registers signature statement)
     (subst (λ (bytes : List ℕ). IsDecidedAs (requests.Register statement bytes) before reply after) given_is asked)
 
+pub IsFollowed-withdraw : (before after : Standing) (number : ℕ) (signature : Option (List ℕ)) (given : List ℕ) (reply : LineReply) → given ≡ withdrawal_under before.secrets.ring (state_of_standing before) number signature →
+    IsDecidedAs (requests.Withdraw number given) before reply after → IsFollowed (commands.Withdraw number signature) before reply after
+IsFollowed-withdraw before after number signature given reply given_is asked =
+    followed_by before after (commands.Withdraw number signature) (requests.Withdraw number (withdrawal_under before.secrets.ring (state_of_standing before) number signature)) reply refl (line_answer.withdraws number signature)
+    (subst (λ (bytes : List ℕ). IsDecidedAs (requests.Withdraw number bytes) before reply after) given_is asked)
+
 pub IsFollowed-show : (before after : Standing) (number : ℕ) (sees : Option (List ℕ)) (reply : LineReply) → sees ≡ before.asker.sees → IsDecidedAs (requests.ShowProcap number sees) before reply after → IsFollowed (commands.Procap number) before reply after
 IsFollowed-show before after number sees reply sees_is asked =
     followed_by before after (commands.Procap number) (requests.ShowProcap number before.asker.sees) reply refl (line_answer.shows number) (subst (λ (who : Option (List ℕ)). IsDecidedAs (requests.ShowProcap number who) before reply after) sees_is asked)
@@ -103,6 +113,17 @@ IsFollowed-show before after number sees reply sees_is asked =
 -- the gate of a store
 abbrev gate_of : {D : Type 0} → StoreView D → GateView
 gate_of s = record { key = s.key; ring = s.ring; base = s.base; events = s.events; pending = None }
+
+-- the signature of a withdrawal where an interpreter stands, by the history that its gate shows
+pub withdrawal_here : {D : Type 0} (history : HistoryView) (gate : GateView) (inside seated : InterpreterView D) (number : ℕ) (given : Option (List ℕ)) (signature : List ℕ) → history.ring ≡ gate.ring → history.base ≡ gate.base → history.events ≡ gate.events →
+    gate ≡ gate_of inside.store → inside ≡ seated → signature ≡ withdrawal_under history.ring (state_of history) number given →
+    signature ≡ withdrawal_under (standing_of seated None).secrets.ring (state_of_standing (standing_of seated None)) number given
+withdrawal_here {D} history gate inside seated number given signature ring base events is same made =
+    made ∙ ap (λ (r : List KeyView). withdrawal_under r (state_of history) number given) ring
+    ∙ ap (λ (b : BaseView). withdrawal_under gate.ring (replay b history.events) number given) base
+    ∙ ap (λ (es : List Event). withdrawal_under gate.ring (replay gate.base es) number given) events
+    ∙ ap (λ (g : GateView). withdrawal_under g.ring (replay g.base g.events) number given) is
+    ∙ ap (λ (i : InterpreterView D). withdrawal_under i.store.ring (replay i.store.base i.store.events) number given) same
 
 -- the statements that an interpreter cites
 pub Cites-seated : {D : Type 0} (gate : GateView) (inside seated : InterpreterView D) (shown numbers : List ℕ) (citation : Citation) → gate ≡ gate_of inside.store → inside ≡ seated → shown ≡ numbers → GivesCitation (book_of (replay gate.base gate.events)) shown citation →

@@ -17,7 +17,7 @@ use Rattle.access_history.proofs.LawfulLemmas.{IsLawfulBase-lawful}
 use Rattle.access_history.proofs.MayFollowLemmas.{MayFollow-answered}
 use Rattle.access_history.proofs.ReplayLemmas.{count-replay}
 use Rattle.line_forms.specs.declared.command.Command.{Command}
-use Rattle.line_forms.specs.declared.command.Command.TheVariants.{At, As, Register, Procap, Checkpoint, Verify, Check, Do}
+use Rattle.line_forms.specs.declared.command.Command.TheVariants.{At, As, Register, Withdraw, Procap, Checkpoint, Verify, Check, Do}
 use Rattle.line_forms.specs.Lines.{IsLine}
 use Rattle.line_wire.specs.declared.reply.LineReply.{LineReply}
 use Rattle.pcfs_secrets.specs.declared.secrets.Secrets.{Secrets}
@@ -57,6 +57,7 @@ asker_stays : (asker : Asker) (line : List ℕ) (command : Command) → IsAsker 
 asker_stays asker line (At second) is_asker is = record { moment = IsAllowed-line line (At second) is; named = is_asker.named }
 asker_stays asker line (As who) is_asker is = record { moment = is_asker.moment; named = IsAllowed-line line (As who) is }
 asker_stays asker line (Register signature statement) is_asker is = is_asker
+asker_stays asker line (Withdraw number signature) is_asker is = is_asker
 asker_stays asker line (Procap number) is_asker is = is_asker
 asker_stays asker line Checkpoint is_asker is = is_asker
 asker_stays asker line (Verify goal numbers proof) is_asker is = is_asker

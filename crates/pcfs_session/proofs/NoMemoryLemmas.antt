@@ -51,6 +51,7 @@ not_refused = other_letter (codes "refused") 114 refl (λ (e : 114 ≡ 110). ome
 
 step_memory : (reply : StepReply) → step_word reply ≡ codes "nomemory" → ⊥
 step_memory (steps.Statement number) is = not_ok is
+step_memory steps.Withdrawn is = not_ok is
 step_memory (steps.Issue number times states) is = not_ok is
 step_memory (steps.Procap p) is = not_ok is
 step_memory (steps.Operation reply) is = not_ok is
@@ -105,6 +106,7 @@ look_memory : (secrets : Secrets) (state : BaseView) (asker : Asker) (command : 
 look_memory secrets state asker _ _ (line_answer.sets_clock second) is = not_ok is
 look_memory secrets state asker _ _ (line_answer.sets_caller who) is = not_ok is
 look_memory secrets state asker _ _ (line_answer.registers signature statement) is = is
+look_memory secrets state asker _ _ (line_answer.withdraws number signature) is = is
 look_memory secrets state asker _ _ (line_answer.shows number) is = is
 look_memory secrets state asker _ _ line_answer.makes_checkpoint is = is
 look_memory secrets state asker _ _ (line_answer.verifies_nothing goal numbers proof reply refused) is = unproved_memory (book_of state) goal numbers proof reply refused is

@@ -106,6 +106,7 @@ module _ (secrets : Secrets) (state : BaseView) (asker : Asker) where
   one_look _ _ _ (line_answer.sets_clock second) (line_answer.sets_clock _) = refl
   one_look _ _ _ (line_answer.sets_caller who) (line_answer.sets_caller _) = refl
   one_look _ _ _ (line_answer.registers signature statement) (line_answer.registers _ _) = refl
+  one_look _ _ _ (line_answer.withdraws number signature) (line_answer.withdraws _ _) = refl
   one_look _ _ _ (line_answer.shows number) (line_answer.shows _) = refl
   one_look _ _ _ line_answer.makes_checkpoint line_answer.makes_checkpoint = refl
   one_look _ _ _ (line_answer.verifies_nothing goal numbers proof first refused) (line_answer.verifies_nothing _ _ _ second refused') =

@@ -31,7 +31,7 @@ use Rattle.access_history.proofs.LawfulLemmas.{IsLawfulBase-lawful}
 use Rattle.line_words.specs.declared.procap_word.ProcapWord.{ProcapWord}
 use Rattle.line_words.specs.declared.procap_word.ProcapWord.TheVariants as words
 use Rattle.line_forms.specs.declared.command.Command.{Command}
-use Rattle.line_forms.specs.declared.command.Command.TheVariants.{At, As, Register, Procap, Checkpoint, Verify, Check, Do}
+use Rattle.line_forms.specs.declared.command.Command.TheVariants.{At, As, Register, Withdraw, Procap, Checkpoint, Verify, Check, Do}
 use Rattle.line_forms.specs.declared.fault.LineFault.{LineFault}
 use Rattle.line_forms.specs.Lines.{IsLine, IsLineFault}
 use Rattle.line_forms.proofs.TotalLemmas.{command_or_a_fault}
@@ -43,7 +43,7 @@ use Rattle.checkpoint_image.specs.ImageSpelling.{image_spelling}
 use Rattle.pcfs_session.specs.Asker.{Asker, IsAsker, asker_after}
 use Rattle.pcfs_session.specs.Procaps.{BringsProcap, held, issued, NamesIssue, AreBrought, IsFirstUnissued}
 use Rattle.pcfs_session.specs.Proved.{IsUnproved, cites_none, proves_none, IsProved}
-use Rattle.pcfs_session.specs.LineAnswer.{authority_under, signature_under, Look, replied, requested, ComesTo, AnswersCommand, at_once, decided, AnswersLine, faulty, asks}
+use Rattle.pcfs_session.specs.LineAnswer.{authority_under, signature_under, withdrawal_under, Look, replied, requested, ComesTo, AnswersCommand, at_once, decided, AnswersLine, faulty, asks}
 use Rattle.pcfs_session.specs.LineAnswer as line_answer
 use Rattle.journal_records.specs.EventSpelling.{event_spelling}
 use Rattle.pcfs_session.specs.ScriptRun.{Standing, state_of_standing, standing_after, IsLawfulStanding, HasRoom, IsFullIn, Becomes, kept, full, IsReplied, answered, ScriptRun, ended, one_more, IsUndisturbed, AreUndisturbed}
@@ -126,6 +126,7 @@ module _ (secrets : Secrets) (state : BaseView) (asker : Asker) where
   look_at (At second) = (replied replies.Done, line_answer.sets_clock second)
   look_at (As who) = (replied replies.Done, line_answer.sets_caller who)
   look_at (Register signature statement) = (requested (requests.Register statement (signature_under secrets.ring statement signature)), line_answer.registers signature statement)
+  look_at (Withdraw number signature) = (requested (requests.Withdraw number (withdrawal_under secrets.ring state number signature)), line_answer.withdraws number signature)
   look_at (Verify goal numbers proof) = verified goal numbers proof (told_of_proof (book_of state) goal numbers proof)
   look_at (Check goal numbers proof) = checked goal numbers proof (told_of_proof (book_of state) goal numbers proof)
   look_at (Procap number) = (requested (requests.ShowProcap number asker.sees), line_answer.shows number)
@@ -171,6 +172,7 @@ looked_calm : (secrets : Secrets) (state : BaseView) (asker : Asker) (command : 
 looked_calm secrets state asker _ _ (line_answer.sets_clock second) = record { had_memory = λ is. absurd cc; not_stopped = λ is. absurd cc }
 looked_calm secrets state asker _ _ (line_answer.sets_caller who) = record { had_memory = λ is. absurd cc; not_stopped = λ is. absurd cc }
 looked_calm secrets state asker _ _ (line_answer.registers signature statement) = tt
+looked_calm secrets state asker _ _ (line_answer.withdraws number signature) = tt
 looked_calm secrets state asker _ _ (line_answer.shows number) = tt
 looked_calm secrets state asker _ _ line_answer.makes_checkpoint = tt
 looked_calm secrets state asker _ _ (line_answer.verifies_nothing goal numbers proof reply refused) = unproved_calm (book_of state) goal numbers proof reply refused

@@ -3,7 +3,7 @@ use Rattle.std.specs.Prelude.{ℕ, ℤ, pos, List, IsTrue, Option, None}
 use Rattle.bl_syntax.specs.Names.{is_principal_name}
 use Rattle.bl_syntax.specs.TimeOrder.{IsMoment}
 use Rattle.line_forms.specs.declared.command.Command.{Command}
-use Rattle.line_forms.specs.declared.command.Command.TheVariants.{At, As, Register, Procap, Checkpoint, Verify, Check, Do}
+use Rattle.line_forms.specs.declared.command.Command.TheVariants.{At, As, Register, Withdraw, Procap, Checkpoint, Verify, Check, Do}
 use Rattle.pcfs_session.specs.Admin.{admin}
 
 -- the number that the events of whoever asks carry, what their clock shows, their name, and whose procaps they may see: each if nobody is named
@@ -27,6 +27,7 @@ abbrev pub asker_after : Asker → Command → Asker
 asker_after asker (At second) = record asker { clock = second }
 asker_after asker (As who) = record asker { caller = who }
 asker_after asker (Register signature statement) = asker
+asker_after asker (Withdraw number signature) = asker
 asker_after asker (Procap number) = asker
 asker_after asker Checkpoint = asker
 asker_after asker (Verify goal numbers proof) = asker

@@ -11,7 +11,7 @@ use Rattle.access_history.specs.declared.reply.StepReply.{StepReply}
 use Rattle.access_history.specs.Answer.{Answers}
 use Rattle.bl_syntax.specs.Citable.{AreCitable}
 use Rattle.line_forms.specs.declared.command.Command.{Command}
-use Rattle.line_forms.specs.declared.command.Command.TheVariants.{At, As, Register, Procap, Checkpoint, Verify, Check, Do}
+use Rattle.line_forms.specs.declared.command.Command.TheVariants.{At, As, Register, Withdraw, Procap, Checkpoint, Verify, Check, Do}
 use Rattle.line_forms.specs.declared.fault.LineFault.{LineFault}
 use Rattle.line_forms.specs.declared.fault.LineFault.TheVariants as line_faults
 use Rattle.line_wire.specs.declared.reply.LineReply.{LineReply}
@@ -67,6 +67,7 @@ abbrev pub IsAllowed : Command → Type 0
 IsAllowed (At second) = IsMoment second
 IsAllowed (As who) = IsTrue (is_principal_name who)
 IsAllowed (Register signature statement) = IsStatement statement
+IsAllowed (Withdraw number signature) = Unit {0}
 IsAllowed (Verify goal numbers proof) = AreCitable numbers
 IsAllowed (Check goal numbers proof) = AreCitable numbers
 IsAllowed (Procap number) = Unit {0}

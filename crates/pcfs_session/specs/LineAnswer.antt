@@ -4,8 +4,9 @@ use Rattle.std.specs.Prelude.{ℕ, ℤ, List, [], Option, Some, None, unwrap_or}
 use Rattle.bl_syntax.specs.declared.grant.Goal.{Goal}
 use Rattle.bl_syntax.specs.Statement.{StatementView}
 use Rattle.bl_syntax.specs.Grant.{GrantView}
-use Rattle.policy_statement.specs.Messages.{statement_message}
+use Rattle.policy_statement.specs.Messages.{statement_message, withdraw_message}
 use Rattle.policy_statement.specs.Ring.{KeyView, tag_of}
+use Rattle.policy_statement.specs.Withdrawal.{live_of_number}
 use Rattle.procap.specs.declared.procap.Procap.{Procap as Sealed}
 use Rattle.proof_term.specs.Proof.{ProofView}
 use Rattle.proof_verifier.specs.declared.cites.Cite.{Cite}
@@ -24,7 +25,7 @@ use Rattle.access_history.specs.Books.{book_of}
 use Rattle.access_history.specs.History.{authority_with}
 use Rattle.line_words.specs.declared.procap_word.ProcapWord.{ProcapWord}
 use Rattle.line_forms.specs.declared.command.Command.{Command}
-use Rattle.line_forms.specs.declared.command.Command.TheVariants.{At, As, Register, Procap, Checkpoint, Verify, Check, Do}
+use Rattle.line_forms.specs.declared.command.Command.TheVariants.{At, As, Register, Withdraw, Procap, Checkpoint, Verify, Check, Do}
 use Rattle.line_forms.specs.declared.fault.LineFault.{LineFault}
 use Rattle.line_forms.specs.Lines.{IsLine, IsLineFault}
 use Rattle.line_wire.specs.declared.reply.LineReply.{LineReply}
@@ -45,6 +46,17 @@ abbrev pub signature_under : List KeyView → StatementView → Option (List ℕ
 signature_under ring statement (Some signature) = signature
 signature_under ring statement None = unwrap_or (tag_of ring statement.who (statement_message statement)) []
 
+-- the signature that the ring makes for who said a statement, to withdraw it: the tag of the message of its withdrawal. If that name has no key, or no statement stands, there is none, and no bytes stand for it; these are not accepted,
+-- and where no statement stands, that is reported before any signature is looked at
+abbrev pub withdrawal_by_ring : List KeyView → Option StatementView → List ℕ
+withdrawal_by_ring ring None = []
+withdrawal_by_ring ring (Some statement) = unwrap_or (tag_of ring statement.who (withdraw_message statement)) []
+
+-- the signature under which the statement of a number is withdrawn over a state: the one that the line gives, or the one that the ring makes
+abbrev pub withdrawal_under : List KeyView → BaseView → ℕ → Option (List ℕ) → List ℕ
+withdrawal_under ring state number (Some signature) = signature
+withdrawal_under ring state number None = withdrawal_by_ring ring (live_of_number state.statements number)
+
 -- what a look at the state makes of a command: a reply, a request that is to be decided, or a checkpoint that is to be made
 pub data Look : Type 0 where
   replied : LineReply → Look
@@ -57,6 +69,8 @@ pub data ComesTo (secrets : Secrets) (state : BaseView) (asker : Asker) : Comman
   sets_caller : (who : List ℕ) → ComesTo secrets state asker (As who) (replied replies.Done)
   registers : (signature : Option (List ℕ)) (statement : StatementView) →
       ComesTo secrets state asker (Register signature statement) (requested (requests.Register statement (signature_under secrets.ring statement signature)))
+  withdraws : (number : ℕ) (signature : Option (List ℕ)) →
+      ComesTo secrets state asker (Withdraw number signature) (requested (requests.Withdraw number (withdrawal_under secrets.ring state number signature)))
   shows : (number : ℕ) → ComesTo secrets state asker (Procap number) (requested (requests.ShowProcap number asker.sees))
   makes_checkpoint : ComesTo secrets state asker Checkpoint checkpoint
   verifies_nothing : (goal : Goal) (numbers : List ℕ) (proof : ProofView) (reply : LineReply) → IsUnproved (book_of state) goal numbers proof reply →

@@ -3,7 +3,7 @@
 ghost use Rattle.std.specs.Prelude.{◌≡◌, ◌≤◌, ◌↔◌, None, length, IfOk, OnErr, IsSome, IsTrue};
 
 use crate::brought::add_procaps;
-use crate::signing::signature_of;
+use crate::signing::{signature_of, withdrawal_of};
 use crate::telling::{told_as, told_of_checkpoint, unproved, unread};
 use access_history::{Procaps, StepReply, StepRequest};
 use bl_syntax::{Bytes, Goal, NoMemory, Numbers, Principal, Statement};
@@ -55,7 +55,7 @@ impl<D: Disk> Interpreter<D> {
     ghost use Rattle.bl_syntax.specs.Statement.{IsStatement};
     ghost use Rattle.file_world.specs.Effect.{IsOperation};
     ghost use Rattle.file_world.specs.Needs.{slots, bytes_to_write};
-    ghost use Rattle.line_forms.specs.declared.command.Command.TheVariants.{Register, Procap as ShowProcap, Checkpoint, Verify, Check, Do};
+    ghost use Rattle.line_forms.specs.declared.command.Command.TheVariants.{Register, Withdraw, Procap as ShowProcap, Checkpoint, Verify, Check, Do};
     ghost use Rattle.pcfs_session.specs.Asker.{first_asker};
     ghost use Rattle.pcfs_session.specs.ScriptRun.{IsLawfulStanding, IsReplied, script_pass};
     ghost use Rattle.pcfs_session.specs.InterpreterView.{standing_of};
@@ -161,6 +161,22 @@ impl<D: Disk> Interpreter<D> {
         self.ask(alloc, StepRequest::Register(statement, signature))
     }
 
+    // Withdraws the statement of this number under the signature that the line gives, or that the ring makes.
+    fn withdraw(
+        &mut self,
+        alloc: Global,
+        number: u32,
+        signature: Option<Bytes>,
+    ) -> Result<LineReply, NoMemory>
+        requires running { self.old.store.stop ≡ None }
+        requires lawful { IsLawfulStanding (standing_of self.old None) }
+        ensures ok { IfOk result (λ reply. LeadsTo D.clock D.left_since D.image D.faults (IsFollowed (Withdraw number signature)) self.old reply self.new) }
+        ensures err { OnErr result (self.new ≡ self.old) }
+    {
+        let signature = withdrawal_of(alloc, self.store.gate().history(), number, signature)?;
+        self.ask(alloc, StepRequest::Withdraw(number, signature))
+    }
+
     // Shows the procap of the issue of this number.
     fn show(&mut self, alloc: Global, number: u64) -> Result<LineReply, NoMemory>
         requires running { self.old.store.stop ≡ None }
@@ -223,6 +239,7 @@ impl<D: Disk> Interpreter<D> {
             Command::Register(signature, statement) => {
                 self.register(alloc, signature, statement)
             }
+            Command::Withdraw(number, signature) => self.withdraw(alloc, number, signature),
             Command::Verify(goal, numbers, proof) => self.verify(alloc, goal, &numbers, proof),
             Command::Check(goal, numbers, proof) => self.check(alloc, &goal, &numbers, &proof),
             Command::Procap(number) => self.show(alloc, number),

@@ -5,7 +5,7 @@ use Rattle.std.specs.List.{list_all}
 use Rattle.std.proofs.lemmas.Bool.{and_parts, leb-true, not-false}
 use Rattle.policy_statement.specs.Ring.{KeyView}
 use Rattle.policy_statement.proofs.RingLemmas.{accepted_length}
-use Rattle.policy_statement.specs.Messages.{statement_message}
+use Rattle.policy_statement.specs.Messages.{statement_message, withdraw_message}
 use Rattle.file_world.specs.declared.operation.Op.{Op}
 use Rattle.file_world.specs.declared.operation.Op.TheVariants.{Read, Write, Truncate, List as ListOf, Lookup, Create, Mkdir, Unlink, Rename, Getattr, Setattr, Delattr, Chown}
 use Rattle.bl_syntax.specs.Names.{is_lower_case}
@@ -15,7 +15,7 @@ use Rattle.file_world.specs.Effect.{refusal, part_of, tests_in}
 use Rattle.file_world.specs.Needs.{slots, bytes_to_write}
 use Rattle.file_world.proofs.EffectLemmas.{none_hold}
 use Rattle.access_history.specs.declared.event.Event.{Event}
-use Rattle.access_history.specs.declared.event.Event.TheVariants.{Registered, Issued, Acted}
+use Rattle.access_history.specs.declared.event.Event.TheVariants.{Registered, Withdrawn, Issued, Acted}
 use Rattle.access_history.specs.Base.{BaseView}
 use Rattle.access_history.specs.History.{authority_with}
 use Rattle.access_history.specs.Citing.{numbers_of}
@@ -89,3 +89,6 @@ fits_fields key ring state (Issued pass cited proof grant) may =
     omega (arith, ap length may.good.cited, numbers-length may.good.cites, may.good.rising.few)
 fits_fields key ring state (Acted pass caller op procaps moment) may =
     (words_fit state.world op may.formed.brought.few_bytes may.not_refused, (omega (arith, may.formed.brought.slots, few_slots op), may.in_range))
+fits_fields key ring state (Withdrawn pass number signature) may =
+    let short = accepted_length ring may.statement.who (withdraw_message may.statement) signature may.signed in
+    omega (arith, short)

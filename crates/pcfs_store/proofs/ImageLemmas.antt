@@ -8,7 +8,7 @@ use Rattle.access_history.specs.Lawful.{IsLawfulBase}
 use Rattle.access_history.proofs.FreshLemmas.{IsLawfulBase-fresh}
 use Rattle.record_parts.specs.Fields.{number_spelling, moment_spelling, sized_bytes_spelling}
 use Rattle.checkpoint_image.specs.NodeSpelling.{node_head_spelling, node_tail_spelling}
-use Rattle.checkpoint_image.specs.ImageSpelling.{head_spelling, image_spelling, IsSpellableImage}
+use Rattle.checkpoint_image.specs.ImageSpelling.{head_spelling, fields_spelling, image_spelling, IsSpellableImage}
 use Rattle.checkpoint_image.proofs.WorldLemmas.{worlds_have_images}
 use Rattle.checkpoint.specs.Reading.{IsSpelledAs, current}
 use Rattle.pcfs_store.specs.Image.{fresh_image, IsImageOf}
@@ -28,7 +28,7 @@ fresh_is authority =
     }
 
 pub fresh_spelling : fresh_image ≡ image_spelling fresh
-unfolding image_spelling head_spelling moment_spelling number_spelling node_head_spelling node_tail_spelling sized_bytes_spelling
+unfolding image_spelling fields_spelling head_spelling moment_spelling number_spelling node_head_spelling node_tail_spelling sized_bytes_spelling
 fresh_spelling = refl
 
 nobody : Authority

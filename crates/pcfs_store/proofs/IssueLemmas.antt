@@ -6,14 +6,15 @@ use Rattle.std.proofs.lemmas.List.{take_all}
 use Rattle.journal_core.specs.Area.{area_limit, records, record_bytes}
 use Rattle.journal_core.proofs.RecordLemmas.{record_length}
 use Rattle.access_history.specs.declared.event.Event.{Event}
-use Rattle.access_history.specs.declared.event.Event.TheVariants.{Registered, Issued, Acted}
+use Rattle.access_history.specs.declared.event.Event.TheVariants.{Registered, Withdrawn, Issued, Acted}
 use Rattle.access_history.specs.declared.event.Issue.{Issue}
 use Rattle.access_history.specs.Base.{BaseView}
 use Rattle.access_history.specs.Replay.{next_state, replay, issues_with, addition_of}
 use Rattle.record_parts.specs.RecordSpelling.{issued_spelling}
 use Rattle.journal_records.specs.EventSpelling.{event_spelling}
 use Rattle.checkpoint_image.specs.NodeSpelling.{nodes_spelling}
-use Rattle.checkpoint_image.specs.ImageSpelling.{head_spelling, statements_spelling, issue_spelling, issues_spelling, image_spelling}
+use Rattle.checkpoint_image.specs.ImageSpelling.{head_spelling, statements_spelling, issue_spelling, issues_spelling, fields_spelling, image_spelling}
+use Rattle.checkpoint_image.specs.WithdrawnNumbers.{withdrawn_numbers_spelling}
 use Rattle.checkpoint.specs.Reading.{IsSpelledAs, current}
 use Rattle.pcfs_store.specs.StoredHistory.{payloads_of, state_after}
 use Rattle.pcfs_store.specs.StoreView.{StoreView, settled_of, head_of, records_of, image_of, state_of_store, IsStore}
@@ -31,9 +32,9 @@ issues_long (issue ∷ issues) =
     omega (arith, rest, issue_long issue, length-append (issue_spelling issue) (flat_map issue_spelling issues))
 
 -- and so does each in an image of a state
-image_long : (base : BaseView) (image : List ℕ) → IsSpelledAs base image → length base.issues ≤ length image
-unfolding image_spelling
-image_long base _ (current spelled) =
+fields_long : (base : BaseView) → length base.issues ≤ length (fields_spelling base)
+unfolding fields_spelling
+fields_long base =
     let statements = statements_spelling base.statements in
     let issues = issues_spelling base.issues in
     let nodes = nodes_spelling base.world.rows in
@@ -46,6 +47,10 @@ image_long base _ (current spelled) =
       length-append (head_spelling base.moment base.count base.world.next) (statements ++ (issues ++ nodes)),
     )
 
+image_long : (base : BaseView) (image : List ℕ) → IsSpelledAs base image → length base.issues ≤ length image
+unfolding image_spelling
+image_long base _ (current spelled) = omega (arith, fields_long base, length-append (fields_spelling base) (withdrawn_numbers_spelling base.statements))
+
 -- an event takes bytes, and adds one issue at most
 records_long : (events : List Event) → length events ≤ length (records (payloads_of events))
 records_long [] = omega arith
@@ -57,6 +62,7 @@ next_issues : (state : BaseView) (event : Event) → length (next_state state ev
 next_issues state (Registered pass statement signature) = omega arith
 next_issues state (Issued pass cited proof grant) = let more = length-append state.issues (record { cited = cited; proof = proof; grant = grant } ∷ []) in omega (arith, more)
 next_issues state (Acted pass caller op procaps moment) = omega arith
+next_issues state (Withdrawn pass number signature) = omega arith
 
 replay_issues : (state : BaseView) (events : List Event) → length (replay state events).issues ≤ length state.issues + length events
 replay_issues state [] = omega arith

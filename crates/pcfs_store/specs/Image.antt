@@ -17,7 +17,8 @@ first_moment_bytes = 255 ∷ 255 ∷ 255 ∷ 241 ∷ 136 ∷ 110 ∷ 9 ∷ 0 ∷
 abbrev pub root_bytes : List ℕ
 root_bytes = 0 ∷ 0 ∷ 0 ∷ 0 ∷ 0 ∷ 0 ∷ 0 ∷ 1 ∷ [] ++ 2 ∷ [] ++ 5 ∷ codes "admin" ++ zero_in_eight ++ 0 ∷ [] ++ 0 ∷ [] ++ zero_in_four
 
--- the image of a store before its first event: the moment, the number of the last event, the next node's number, how many statements there are, how many issues, and how many nodes; and the one node
+-- the image of a store before its first event: the version, the moment, the number of the last event, the next node's number, how many statements there are, how many issues, and how many nodes; the one node; and how many
+-- statements were withdrawn
 abbrev pub fresh_image : List ℕ
 fresh_image =
-    first_moment_bytes ++ zero_in_eight ++ 0 ∷ 0 ∷ 0 ∷ 0 ∷ 0 ∷ 0 ∷ 0 ∷ 2 ∷ [] ++ zero_in_four ++ zero_in_four ++ 0 ∷ 0 ∷ 0 ∷ 1 ∷ [] ++ root_bytes
+    2 ∷ [] ++ first_moment_bytes ++ zero_in_eight ++ 0 ∷ 0 ∷ 0 ∷ 0 ∷ 0 ∷ 0 ∷ 0 ∷ 2 ∷ [] ++ zero_in_four ++ zero_in_four ++ 0 ∷ 0 ∷ 0 ∷ 1 ∷ [] ++ root_bytes ++ zero_in_four

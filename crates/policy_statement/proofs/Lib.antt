@@ -1,2 +1,3 @@
 pub mod DigestLemmas
 pub mod RingLemmas
+pub mod WithdrawalLemmas

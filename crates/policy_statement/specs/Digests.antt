@@ -1,10 +1,11 @@
--- The digests of what is registered. This project's own; nothing but speed depends on it.
-use Rattle.std.specs.Prelude.{◌≡◌, ◌≢◌, ◌<◌, ◌≤◌, ℕ, List, length, slice_index, Some}
+-- The digests of what is registered, and whether anything was withdrawn. This project's own; nothing but speed depends on it.
+use Rattle.std.specs.Prelude.{◌≡◌, ◌≢◌, ◌<◌, ◌≤◌, ℕ, List, Bool, length, slice_index, Some}
 use Rattle.std.specs.List.Sorted.{IsNonDecreasing}
 use Rattle.bl_syntax.specs.Statement.{StatementView}
 use Rattle.policy_statement.specs.Digest.{digest_of}
 use Rattle.policy_statement.specs.Registered.{RegisteredView}
 use Rattle.policy_statement.specs.Registry.{statement_of_number}
+use Rattle.policy_statement.specs.Withdrawal.{has_withdrawn}
 
 -- the digest is none of these
 abbrev pub IsMissing : List ℕ → ℕ → Type 0
@@ -20,8 +21,9 @@ pub record IsPlace (rising : List ℕ) (digest place : ℕ) : Type 0 where
 abbrev pub HasDigests : List RegisteredView → List ℕ → Type 0
 HasDigests entries digests = (number : ℕ) (s : StatementView) → statement_of_number entries number ≡ Some s → IsMissing digests (digest_of s) → ⊥
 
--- there are at most 4,096 entries, and these are their digests in rising order
-pub record IsIndexed (entries : List RegisteredView) (digests : List ℕ) : Type 0 where
+-- there are at most 4,096 entries, these are their digests in rising order, and this is whether one of them was withdrawn
+pub record IsIndexed (entries : List RegisteredView) (digests : List ℕ) (ended : Bool) : Type 0 where
   pub few : length entries ≤ 4096
   pub rising : IsNonDecreasing digests
   pub known : HasDigests entries digests
+  pub ended_is : ended ≡ has_withdrawn entries

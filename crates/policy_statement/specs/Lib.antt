@@ -7,3 +7,4 @@ pub mod Registry
 pub mod Ring
 pub mod RingCode
 pub mod Held
+pub mod Withdrawal

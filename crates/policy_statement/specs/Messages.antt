@@ -8,6 +8,10 @@ use Rattle.bl_syntax.specs.FormulaSpelling.{statement_spelling}
 unfoldable pub statement_message : StatementView → List ℕ
 statement_message s = 83 ∷ statement_spelling s
 
+-- of a withdrawal: the byte `W`, and the canonical bytes of the statement
+unfoldable pub withdraw_message : StatementView → List ℕ
+withdraw_message s = 87 ∷ statement_spelling s
+
 -- of a login: the byte `L`, the name with its length byte, and the nonce
 unfoldable pub login_message : List ℕ → List ℕ → List ℕ
 login_message who nonce = 76 ∷ (with_length who ++ nonce)

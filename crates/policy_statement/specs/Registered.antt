@@ -1,12 +1,13 @@
 -- What is registered. This project's own.
-use Rattle.std.specs.Prelude.{ℕ, List, ◌-◌, Vec, vec_len, vec_capacity}
+use Rattle.std.specs.Prelude.{ℕ, List, Bool, ◌-◌, Vec, vec_len, vec_capacity}
 use Rattle.std.specs.declared.alloc.Global.{Global}
 use Rattle.bl_syntax.specs.Statement.{StatementView}
 
--- a statement, and the signature with which it was registered
+-- a statement, the signature with which it was registered, and whether it was withdrawn
 pub record RegisteredView : Type 0 where
   pub statement : StatementView
   pub signature : List ℕ
+  pub withdrawn : Bool
 
 -- all that is registered, in order, and for how many more there is room
 pub record RegistryView : Type 0 where

@@ -2,7 +2,7 @@
 
 ghost use Rattle.std.specs.Prelude.{◌≡◌, IfOk};
 ghost use Rattle.bl_syntax.specs.FormulaSpelling.{IsSpellableStatement};
-ghost use Rattle.policy_statement.specs.Messages.{login_message, statement_message};
+ghost use Rattle.policy_statement.specs.Messages.{login_message, statement_message, withdraw_message};
 
 use bl_codec::write_statement;
 use bl_syntax::{Bytes, NoMemory, Principal, Statement, write_name};
@@ -16,6 +16,18 @@ pub fn statement_message(alloc: Global, s: &Statement) -> Result<Bytes, NoMemory
 {
     let mut message = Bytes::new(alloc);
     message.push(b'S')?;
+    write_statement(s, &mut message)?;
+    Ok(message)
+}
+
+/// The message that is signed to withdraw a statement.
+#[tactic(auto, unfolding(crate::specs::Messages::withdraw_message))]
+pub fn withdraw_message(alloc: Global, s: &Statement) -> Result<Bytes, NoMemory>
+    ensures ok { IfOk result (λ message. message ≡ withdraw_message s.now) }
+    ensures spelled { IfOk result (λ _. IsSpellableStatement s.now) }
+{
+    let mut message = Bytes::new(alloc);
+    message.push(b'W')?;
     write_statement(s, &mut message)?;
     Ok(message)
 }

@@ -1,15 +1,17 @@
 //! The registry: statements with their signatures, by their numbers from 1.
 
-ghost use Rattle.std.specs.Prelude.{◌≡◌, ◌≤◌, ◌<◌, ◌+◌, ◌∷◌, ◌++◌, [], true, IsNone, IfSome, IsErrOf, OnOk, OnErr, Some, length};
+ghost use Rattle.std.specs.Prelude.{◌≡◌, ◌≤◌, ◌<◌, ◌+◌, ◌∷◌, ◌++◌, ◌||◌, [], true, false, IsNone, IsSome, IfSome, IsErrOf, OnOk, OnErr, Some, length};
 ghost use Rattle.std.specs.Option.{option_copied};
 ghost use Rattle.policy_statement.specs.Digest.{digest_of};
 ghost use Rattle.policy_statement.specs.Messages.{statement_message};
 ghost use Rattle.policy_statement.specs.Registry.{IsNewStatement, MayRegister, statement_of_number};
+ghost use Rattle.policy_statement.specs.Withdrawal.{MayWithdraw, entry_of_number, has_withdrawn, is_withdrawn, live_of_number, live_statement, marked};
 ghost use Rattle.policy_statement.specs.declared.registry.RegisterFault.TheVariants as faults;
+ghost use Rattle.policy_statement.specs.declared.registry.WithdrawFault.TheVariants as withdraw_faults;
 
 use crate::digest::digest;
 use crate::digests::{add_digest, has_digest};
-use crate::messages::statement_message;
+use crate::messages::{statement_message, withdraw_message};
 use bl_syntax::limits::MOST_STATEMENTS;
 use bl_syntax::{Bytes, NoMemory, Statement};
 use pcfs_ports::Signatures;
@@ -37,13 +39,33 @@ impl From<NoMemory> for RegisterFault {
     }
 }
 
-/// A statement, and the signature with which it was registered.
+/// Why a statement may not be withdrawn.
+#[derive(Clone, Copy, Debug, PartialEq, Eq)]
+pub enum WithdrawFault {
+    /// Nothing has the number, or its statement was withdrawn.
+    Absent,
+    /// The signature of the withdrawal is not accepted from who said the statement.
+    BadSignature,
+    /// A growth was refused.
+    NoMemory,
+}
+
+impl From<NoMemory> for WithdrawFault {
+    ghost from_gives = { λ _ e. e ≡ withdraw_faults.NoMemory };
+
+    fn from(_refused: NoMemory) -> WithdrawFault {
+        WithdrawFault::NoMemory
+    }
+}
+
+/// A statement, the signature with which it was registered, and whether it was withdrawn.
 ///
 /// It keeps the statement's digest, by which it is told apart from most others at once.
 #[derive(Debug, Drop)]
 pub struct Registered {
     statement: Statement,
     signature: Bytes,
+    withdrawn: bool,
     digest: u64,
 }
 
@@ -57,7 +79,7 @@ impl Model for Registered {
 
     ghost coded = { registered_code };
 
-    ghost view = { λ e. record { statement = e.statement; signature = e.signature } };
+    ghost view = { λ e. record { statement = e.statement; signature = e.signature; withdrawn = e.withdrawn } };
 
     ghost invariant = { λ e. e.digest ≡ digest_of e.statement };
 }
@@ -65,15 +87,17 @@ impl Model for Registered {
 impl Registered {
     ghost use Rattle.std.specs.Prelude.{◌↔◌, IsTrue};
     ghost use Rattle.policy_statement.specs.Digest.{digest_of};
+    ghost use Rattle.policy_statement.specs.Withdrawal.{ended};
 
-    /// The statement with this signature. It takes no memory.
+    /// The statement with this signature, which was not withdrawn. It takes no memory.
     pub fn new(statement: Statement, signature: Bytes) -> Registered
-        ensures { result ≡ record { statement = statement; signature = signature } }
+        ensures { result ≡ record { statement = statement; signature = signature; withdrawn = false } }
     {
         let digest = digest(&statement);
         Registered {
             statement,
             signature,
+            withdrawn: false,
             digest,
         }
     }
@@ -90,6 +114,31 @@ impl Registered {
         ensures { result.now ≡ self.now.signature }
     {
         self.signature.as_slice()
+    }
+
+    /// Whether it was withdrawn.
+    pub fn is_withdrawn(&self) -> bool
+        ensures { result ≡ self.now.withdrawn }
+    {
+        self.withdrawn
+    }
+
+    /// The statement; none exactly if it was withdrawn.
+    pub fn live(&self) -> Option<&Statement>
+        ensures { option_copied result ≡ live_statement self.now }
+    {
+        if self.withdrawn {
+            None
+        } else {
+            Some(&self.statement)
+        }
+    }
+
+    /// Withdraws it. It takes no memory.
+    pub fn withdraw(&mut self)
+        ensures { self.new ≡ ended self.old }
+    {
+        self.withdrawn = true;
     }
 
     // Whether it is the statement with that digest.
@@ -109,6 +158,8 @@ pub struct Registry {
     entries: Vec<Registered>,
     // The digests of the statements, in rising order.
     digests: Vec<u64>,
+    // Whether one of the statements was withdrawn.
+    ended: bool,
 }
 
 impl Model for Registry {
@@ -123,7 +174,7 @@ impl Model for Registry {
 
     ghost view = { λ r. record { entries = r.entries.items; spare = min (spare_of r.entries) (spare_of r.digests) } };
 
-    ghost invariant = { λ r. IsIndexed r.entries.items r.digests.items };
+    ghost invariant = { λ r. IsIndexed r.entries.items r.digests.items r.ended };
 }
 
 impl Registry {
@@ -134,6 +185,7 @@ impl Registry {
         Registry {
             entries: Vec::new(alloc),
             digests: Vec::new(alloc),
+            ended: false,
         }
     }
 
@@ -194,17 +246,94 @@ impl Registry {
     pub fn keep(&mut self, s: Statement, signature: Bytes) -> u32
         requires room { 1 ≤ self.old.spare }
         requires few { length self.old.entries < 4096 }
-        ensures entries { self.new.entries ≡ self.old.entries ++ record { statement = s; signature = signature } ∷ [] }
+        ensures entries { self.new.entries ≡ self.old.entries ++ record { statement = s; signature = signature; withdrawn = false } ∷ [] }
         ensures spare { self.new.spare + 1 ≡ self.old.spare }
         ensures number { result ≡ length self.new.entries }
     {
-        let entry = Registered::new(s, signature);
+        self.keep_entry(Registered::new(s, signature))
+    }
+
+    /// Keeps an entry, withdrawn or not, for which there has to be room, and tells its number. It takes no memory.
+    pub fn keep_entry(&mut self, entry: Registered) -> u32
+        requires room { 1 ≤ self.old.spare }
+        requires few { length self.old.entries < 4096 }
+        ensures entries { self.new.entries ≡ self.old.entries ++ entry ∷ [] }
+        ensures spare { self.new.spare + 1 ≡ self.old.spare }
+        ensures number { result ≡ length self.new.entries }
+    {
         add_digest(&mut self.digests, entry.digest);
+        self.ended = either(self.ended, entry.withdrawn);
         self.entries.push_reserved(entry);
         self.entries.len() as u32
     }
 
-    /// The statement of a number; none exactly if nothing has that number.
+    /// Whether the statement of that number may be withdrawn: first it has to stand, then the signature of its withdrawal has
+    /// to be accepted from who said it.
+    pub fn test_withdrawal<S: Signatures>(
+        &self,
+        alloc: Global,
+        ring: &S,
+        number: u32,
+        signature: &[u8],
+    ) -> Result<(), WithdrawFault>
+        ensures { MayWithdraw (S.Signatures.accepted ring.now) self.now.entries number signature.now result }
+    {
+        let Some(s) = self.live(number) else {
+            return Err(WithdrawFault::Absent);
+        };
+        let message = withdraw_message(alloc, s)?;
+        if ring.accepts(s.who().bytes(), message.as_slice(), signature) {
+            Ok(())
+        } else {
+            Err(WithdrawFault::BadSignature)
+        }
+    }
+
+    /// Withdraws the statement of that number, which has to stand. It takes no memory.
+    pub fn end(&mut self, number: u32)
+        requires { IsSome (live_of_number self.old.entries number) }
+        ensures { self.new ≡ record self.old { entries = marked self.old.entries number } }
+    {
+        self.entries[number as usize - 1].withdraw();
+        self.ended = true;
+    }
+
+    /// Whether a statement was withdrawn, of all that are registered.
+    pub fn has_withdrawn(&self) -> bool
+        ensures { result ≡ has_withdrawn self.now.entries }
+    {
+        self.ended
+    }
+
+    /// Whether the statement of that number was withdrawn.
+    pub fn is_withdrawn(&self, number: u32) -> bool
+        ensures { result ≡ is_withdrawn self.now.entries number }
+    {
+        match self.entry(number) {
+            Some(entry) => entry.withdrawn,
+            None => false,
+        }
+    }
+
+    /// The statement of a number; none exactly if nothing has that number, or it was withdrawn.
+    pub fn live(&self, number: u32) -> Option<&Statement>
+        ensures { option_copied result ≡ live_of_number self.now.entries number }
+    {
+        match self.entry(number) {
+            Some(entry) => entry.live(),
+            None => None,
+        }
+    }
+
+    // The entry of a number.
+    fn entry(&self, number: u32) -> Option<&Registered>
+        ensures { option_copied result ≡ entry_of_number self.now.entries number }
+    {
+        let place = number.checked_sub(1)? as usize;
+        self.entries.get(place)
+    }
+
+    /// The statement of a number, also if it was withdrawn; none exactly if nothing has that number.
     pub fn get(&self, number: u32) -> Option<&Statement>
         ensures { option_copied result ≡ statement_of_number self.now.entries number }
     {
@@ -228,6 +357,12 @@ impl Registry {
             None
         }
     }
+}
+
+fn either(one: bool, other: bool) -> bool
+    ensures { result ≡ (one || other) }
+{
+    one || other
 }
 
 // The place among these of a statement that is the same as one with that digest.

@@ -1,6 +1,6 @@
 -- Images are read steadily.
-use Rattle.std.proofs.Common.{◌≡◌, ℕ, zero, suc, List, [], ◌∷◌, ◌++◌, Result, Ok, Err}
-use Rattle.std.specs.Prelude.{nat_lt}
+use Rattle.std.proofs.Common.{◌≡◌, ℕ, zero, suc, List, [], ◌∷◌, ◌++◌, length, Result, Ok, Err}
+use Rattle.std.specs.Prelude.{nat_lt, nat_le, ◌&&◌, ◌==◌}
 use Rattle.std.specs.Int.{w32, w64}
 use Rattle.bl_syntax.specs.declared.codec_fault.CodecFault.TheVariants.{Short}
 use Rattle.bl_syntax.specs.Reading.{◌>>=◌, Reading, map_reading, place, name_at, text_at}
@@ -9,7 +9,8 @@ use Rattle.record_parts.specs.RecordReading.{registered_at, issued_at}
 use Rattle.checkpoint_image.specs.Chain.{chain_at, short_list_at, long_list_at, alone, nothing_left}
 use Rattle.node_rows.specs.Names.{is_name_or_none}
 use Rattle.checkpoint_image.specs.NodeReading.{kind_of, kind_at, number_after, owned_at, kinded_at, node_head_at, is_name_after, attribute_name_at, attribute_at, name_of, attributes_at, held_at, node_name_at, node_tail_at, node_fields_at, node_of_fields, node_at, number_of, nodes_at}
-use Rattle.checkpoint_image.specs.ImageReading.{counts_at, head_at, entry_of, entry_at, statements_at, issue_of, issue_at, issues_at, issues_and_nodes_at, lists_at, parts_at, base_of_parts, image_at}
+use Rattle.checkpoint_image.specs.ImageReading.{counts_at, head_at, entry_of, entry_at, statements_at, issue_of, issue_at, issues_at, issues_and_nodes_at, lists_at, parts_at, base_of_parts, fields_at, with_withdrawn, state_at, image_at}
+use Rattle.checkpoint_image.specs.WithdrawnNumbers.{withdrawn_number_at, number_left, withdrawn_numbers_at}
 use Rattle.reader_laws.proofs.ExtendedLemmas.{Extended, behind, ReadsOn, IsSteady, done, cut, faults, either_way, one_then, made}
 use Rattle.reader_laws.proofs.FieldLemmas.{numbers, names, texts, words, coded}
 use Rattle.reader_laws.proofs.RecordLemmas.{both, sized_bytes, moment_fields, registrations, issues}
@@ -121,5 +122,27 @@ parts : IsSteady parts_at
 unfolding parts_at
 parts input onward = both (λ head lists. (head, lists)) (head_at input) (head_at onward) (lists_at input) (lists_at onward) (heads input onward) (lists input onward)
 
+fields : IsSteady fields_at
+fields input onward bytes more = made base_of_parts more _ _ (parts input onward bytes more)
+
+withdrawn_number : (most previous : ℕ) → IsSteady (withdrawn_number_at most previous)
+unfolding withdrawn_number_at
+withdrawn_number most previous input onward bytes more =
+    one_then (behind more) (behind more) (u32_at bytes) (u32_at (bytes ++ more)) _ _ (numbers w32 bytes more)
+    (λ number. either_way Short (behind more) (nat_lt previous number.0 && nat_le number.0 most) _ _ _ _ (done Short (behind more) number) (faults Short (behind more) _ _))
+
+withdrawn_numbers : (most : ℕ) → IsSteady (withdrawn_numbers_at most)
+withdrawn_numbers most input onward =
+    long_lists (λ previous. withdrawn_number_at most previous input) (λ previous. withdrawn_number_at most previous onward) number_left (λ previous. withdrawn_number most previous input onward) 0
+
+states : IsSteady state_at
+unfolding state_at
+states input onward bytes more =
+    one_then (behind more) (behind more) (fields_at input bytes) (fields_at onward (bytes ++ more)) _ _ (fields input onward bytes more)
+    (λ read. one_then (behind more) (behind more) _ _ _ _ (withdrawn_numbers (length read.0.statements) input onward read.1 more)
+    (λ numbers. done Short (behind more) (with_withdrawn read.0 numbers.0, numbers.1)))
+
 pub images : IsSteady image_at
-images input onward bytes more = made base_of_parts more _ _ (parts input onward bytes more)
+unfolding image_at
+images input onward [] more = cut Short (behind more) _
+images input onward (version ∷ rest) more = either_way Short (behind more) (version == 2) _ _ _ _ (states input onward rest more) (faults Short (behind more) _ _)

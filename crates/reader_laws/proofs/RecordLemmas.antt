@@ -16,8 +16,8 @@ use Rattle.file_world.specs.declared.operation.Op.TheVariants.{Read, Write, Trun
 use Rattle.record_parts.specs.Fields.{u32_at, u64_at, node, node_at, free_name_at, sized_bytes_at, moment_field_at}
 use Rattle.record_parts.specs.Parts.{of_proof, as_part, many_at, list_at, sized_proof_at}
 use Rattle.record_parts.specs.OperationReading.{named_node_at, range_at, piece_at, renamed_at, valued_at, read_words_at, write_words_at, truncate_words_at, rename_words_at, setattr_words_at, chown_words_at, attribute_words_at, name_words_at, words_at, operation_at}
-use Rattle.record_parts.specs.RecordReading.{registered_at, proved_at, issued_at, admitted_at, done_at, acted_at}
-use Rattle.access_history.specs.declared.event.Event.TheVariants.{Registered, Issued, Acted}
+use Rattle.record_parts.specs.RecordReading.{registered_at, withdrawn_at, proved_at, issued_at, admitted_at, done_at, acted_at}
+use Rattle.access_history.specs.declared.event.Event.TheVariants.{Registered, Withdrawn, Issued, Acted}
 use Rattle.journal_records.specs.EventReading.{event_at}
 use Rattle.reader_laws.proofs.ExtendedLemmas.{Extended, behind, ReadsOn, IsSteady, done, cut, faults, either_way, one_then, made, taken}
 use Rattle.reader_laws.proofs.FieldLemmas.{numbers, names, texts}
@@ -174,6 +174,10 @@ pub registrations : IsSteady registered_at
 unfolding registered_at
 registrations input onward = both (λ statement signature. (statement, signature)) (statement_at input) (statement_at onward) sized_bytes_at sized_bytes_at (statements input onward) sized_bytes
 
+pub withdrawals : ReadsOn withdrawn_at withdrawn_at
+unfolding withdrawn_at
+withdrawals = both (λ number signature. (number, signature)) u32_at u32_at sized_bytes_at sized_bytes_at (numbers w32) sized_bytes
+
 proved : IsSteady proved_at
 unfolding proved_at
 proved input onward = both (λ proof grant. (proof, grant)) (sized_proof_at input) (sized_proof_at onward) (grant_at input) (grant_at onward) (sized_proofs input onward) (grants input onward)
@@ -201,4 +205,5 @@ events input onward [] more = cut Short (behind more) _
 events input onward (tag ∷ rest) more =
     either_way Short (behind more) (tag == 1) _ _ _ _ (made (λ r. Registered 0 r.0 r.1) more _ _ (registrations input onward rest more))
     (either_way Short (behind more) (tag == 2) _ _ _ _ (made (λ i. Issued 0 i.0 i.1.0 i.1.1) more _ _ (issues input onward rest more))
-    (either_way Short (behind more) (tag == 3) _ _ _ _ (made (λ a. Acted 0 a.0 a.1.0 a.1.1.0 a.1.1.1) more _ _ (actions input onward rest more)) (faults Short (behind more) _ _)))
+    (either_way Short (behind more) (tag == 3) _ _ _ _ (made (λ a. Acted 0 a.0 a.1.0 a.1.1.0 a.1.1.1) more _ _ (actions input onward rest more))
+    (either_way Short (behind more) (tag == 4) _ _ _ _ (made (λ w. Withdrawn 0 w.0 w.1) more _ _ (withdrawals rest more)) (faults Short (behind more) _ _))))

@@ -16,8 +16,8 @@ ghost use Rattle.procap.specs.GrantReading.{grant_at};
 ghost use Rattle.procap.specs.Procap.{procap_spelling, IsSpellableProcap, procap_at, whole_procap};
 ghost use Rattle.record_parts.specs.OperationSpelling.{operation_spelling, IsSpellableOperation};
 ghost use Rattle.record_parts.specs.OperationReading.{operation_at};
-ghost use Rattle.record_parts.specs.RecordSpelling.{IsRegistration, registration_spelling, IsIssuing, issuing_spelling, IsAction, action_spelling};
-ghost use Rattle.record_parts.specs.RecordReading.{registered_at, issued_at, acted_at};
+ghost use Rattle.record_parts.specs.RecordSpelling.{IsRegistration, registration_spelling, IsWithdrawal, withdrawal_spelling, IsIssuing, issuing_spelling, IsAction, action_spelling};
+ghost use Rattle.record_parts.specs.RecordReading.{registered_at, withdrawn_at, issued_at, acted_at};
 ghost use Rattle.journal_records.specs.EventSpelling.{event_spelling, IsSpellableEvent};
 ghost use Rattle.journal_records.specs.EventReading.{whole_event};
 ghost use Rattle.checkpoint_image.specs.ImageSpelling.{image_spelling, IsSpellableImage};
@@ -42,10 +42,12 @@ pub fn cut_policies_are_short()
     ensures procaps { AreCutsRefused Short IsSpellableProcap procap_spelling (reading procap_at) }
 {}
 
-/// A part of a record that is cut short is refused as short: an operation, a registration, an issue, or what was done.
+/// A part of a record that is cut short is refused as short: an operation, a registration, a withdrawal, an
+/// issue, or what was done.
 pub fn cut_parts_are_short()
     ensures operations { AreCutsRefused Short IsSpellableOperation operation_spelling (reading operation_at) }
     ensures registrations { AreCutsRefused Short IsRegistration registration_spelling (reading registered_at) }
+    ensures withdrawals { AreCutsRefused Short IsWithdrawal withdrawal_spelling (reading (λ input. withdrawn_at)) }
     ensures issues { AreCutsRefused Short IsIssuing issuing_spelling (reading issued_at) }
     ensures actions { AreCutsRefused Short IsAction action_spelling (reading acted_at) }
 {}

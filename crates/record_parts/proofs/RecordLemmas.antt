@@ -24,8 +24,8 @@ use Rattle.record_parts.specs.Fields.{u32_at, sized_bytes_spelling, sized_bytes_
 use Rattle.record_parts.specs.Parts.{list_at, AreSpellable, sized_proof_spelling, sized_proof_at}
 use Rattle.record_parts.specs.OperationSpelling.{operation_spelling, IsSpellableOperation}
 use Rattle.record_parts.specs.OperationReading.{operation_at}
-use Rattle.record_parts.specs.RecordSpelling.{registered_spelling, IsRegistration, registration_spelling, cited_spelling, IsSpellableCited, issued_spelling, IsIssuing, issuing_spelling, acted_spelling, IsAction, action_spelling}
-use Rattle.record_parts.specs.RecordReading.{registered_at, proved_at, issued_at, admitted_at, done_at, acted_at}
+use Rattle.record_parts.specs.RecordSpelling.{registered_spelling, IsRegistration, registration_spelling, withdrawn_spelling, IsWithdrawal, withdrawal_spelling, cited_spelling, IsSpellableCited, issued_spelling, IsIssuing, issuing_spelling, acted_spelling, IsAction, action_spelling}
+use Rattle.record_parts.specs.RecordReading.{registered_at, withdrawn_at, proved_at, issued_at, admitted_at, done_at, acted_at}
 use Rattle.record_parts.proofs.CodecLemmas.{same_codec}
 use Rattle.record_parts.proofs.FieldsLemmas.{u32_codec, sized_bytes_codec, moment_codec}
 use Rattle.record_parts.proofs.PartsLemmas.{list_codec, sized_codec}
@@ -39,6 +39,15 @@ registered_codec =
     same_codec (AreBoth IsSpellableStatement FitsFourBytes) (both_spelling statement_spelling sized_bytes_spelling) (both_at statement_at (λ input. sized_bytes_at)) IsRegistration registration_spelling registered_at
     (both_codec IsSpellableStatement statement_spelling statement_at FitsFourBytes sized_bytes_spelling (λ input. sized_bytes_at) statement_codec sized_bytes_codec)
     (λ r h. record { said = h.0; signed = h.1 }) (λ r h. (h.said, h.signed)) (λ r. refl) (λ input bytes. refl)
+
+-- ---- what was withdrawn
+
+pub withdrawn_codec : IsCodec IsWithdrawal withdrawal_spelling (λ input. withdrawn_at)
+unfolding both_at withdrawn_at withdrawn_spelling
+withdrawn_codec =
+    same_codec (AreBoth IsSpellableCited FitsFourBytes) (both_spelling cited_spelling sized_bytes_spelling) (both_at (λ input. u32_at) (λ input. sized_bytes_at)) IsWithdrawal withdrawal_spelling (λ input. withdrawn_at)
+    (both_codec IsSpellableCited cited_spelling (λ input. u32_at) FitsFourBytes sized_bytes_spelling (λ input. sized_bytes_at) u32_codec sized_bytes_codec)
+    (λ w h. record { numbered = h.0; signed = h.1 }) (λ w h. (h.numbered, h.signed)) (λ w. refl) (λ input bytes. refl)
 
 -- ---- what was issued
 

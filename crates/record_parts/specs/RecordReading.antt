@@ -20,6 +20,13 @@ registered_at input bytes = do
   signature ← sized_bytes_at statement.1
   Ok ((statement.0, signature.0), signature.1)
 
+-- the number of a statement, and the signature of its withdrawal
+unfoldable pub withdrawn_at : List ℕ → Reading (ℕ × List ℕ)
+withdrawn_at bytes = do
+  number ← u32_at bytes
+  signature ← sized_bytes_at number.1
+  Ok ((number.0, signature.0), signature.1)
+
 -- a proof, and what it grants
 unfoldable pub proved_at : ℕ → List ℕ → Reading (ProofView × GrantView)
 proved_at input bytes = do

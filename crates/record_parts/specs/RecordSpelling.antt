@@ -1,4 +1,4 @@
--- Canonical bytes of what a journal's records hold after their tag: what was registered, what was issued, and what was done. The format is this project's own.
+-- Canonical bytes of what a journal's records hold after their tag: what was registered, withdrawn and issued, and what was done. The format is this project's own.
 use Rattle.std.specs.Prelude.{ℕ, ℤ, List, ◌++◌, ◌<◌, ◌^◌, IsTrue}
 use Rattle.std.specs.Int.{w32, to_be_bytes}
 use Rattle.bl_syntax.specs.Names.{is_principal_name}
@@ -32,6 +32,14 @@ cited_spelling number = to_be_bytes w32 number
 abbrev pub IsSpellableCited : ℕ → Type 0
 IsSpellableCited number = number < 2 ^ 32
 
+-- the number of a statement, and the signature of its withdrawal
+unfoldable pub withdrawn_spelling : ℕ → List ℕ → List ℕ
+withdrawn_spelling number signature = cited_spelling number ++ sized_bytes_spelling signature
+
+pub record IsSpellableWithdrawn (number : ℕ) (signature : List ℕ) : Type 0 where
+  pub numbered : IsSpellableCited number
+  pub signed : FitsFourBytes signature
+
 -- the numbers of the statements that a proof cites, the proof, and what it grants
 unfoldable pub issued_spelling : List ℕ → ProofView → GrantView → List ℕ
 issued_spelling cited proof grant = list_spelling cited_spelling cited ++ (sized_proof_spelling proof ++ grant_spelling grant)
@@ -60,6 +68,15 @@ IsRegistration r = IsSpellableRegistered r.0 r.1
 
 abbrev pub registration_spelling : Registration → List ℕ
 registration_spelling r = registered_spelling r.0 r.1
+
+abbrev pub Withdrawal : Type 0
+Withdrawal = ℕ × List ℕ
+
+abbrev pub IsWithdrawal : Withdrawal → Type 0
+IsWithdrawal w = IsSpellableWithdrawn w.0 w.1
+
+abbrev pub withdrawal_spelling : Withdrawal → List ℕ
+withdrawal_spelling w = withdrawn_spelling w.0 w.1
 
 abbrev pub Issuing : Type 0
 Issuing = List ℕ × (ProofView × GrantView)

@@ -3,8 +3,8 @@
 ghost use Rattle.bl_syntax.specs.Codec.{IsCodec};
 ghost use Rattle.record_parts.specs.OperationSpelling.{operation_spelling, IsSpellableOperation};
 ghost use Rattle.record_parts.specs.OperationReading.{operation_at};
-ghost use Rattle.record_parts.specs.RecordSpelling.{IsRegistration, registration_spelling, IsIssuing, issuing_spelling, IsAction, action_spelling};
-ghost use Rattle.record_parts.specs.RecordReading.{registered_at, issued_at, acted_at};
+ghost use Rattle.record_parts.specs.RecordSpelling.{IsRegistration, registration_spelling, IsWithdrawal, withdrawal_spelling, IsIssuing, issuing_spelling, IsAction, action_spelling};
+ghost use Rattle.record_parts.specs.RecordReading.{registered_at, withdrawn_at, issued_at, acted_at};
 
 /// The spelling of operations and the reading of them belong together.
 pub fn operations_are_a_codec()
@@ -14,6 +14,11 @@ pub fn operations_are_a_codec()
 /// The spelling of statements with their signatures and the reading of them belong together.
 pub fn registrations_are_a_codec()
     ensures { IsCodec IsRegistration registration_spelling registered_at }
+{}
+
+/// The spelling of the numbers of statements with the signatures of their withdrawals and the reading of them belong together.
+pub fn withdrawals_are_a_codec()
+    ensures { IsCodec IsWithdrawal withdrawal_spelling (λ input. withdrawn_at) }
 {}
 
 /// The spelling of issues and the reading of them belong together.

@@ -1,4 +1,5 @@
-//! The parts of journal records and checkpoints, both ways: operations, and what was registered, issued and done.
+//! The parts of journal records and checkpoints, both ways: operations, and what was registered, withdrawn,
+//! issued and done.
 //!
 //! What is written is the one spelling of its value, and what is read is spelled so. Any other bytes give their first
 //! fault from the left. What is read is copied once, out of the input.
@@ -14,5 +15,5 @@ mod record_writing;
 
 pub use operation_reading::operation_at;
 pub use operation_writing::write_operation;
-pub use record_reading::{acted_at, issued_at, registered_at};
-pub use record_writing::{write_acted, write_issued, write_registered};
+pub use record_reading::{acted_at, issued_at, registered_at, withdrawn_at};
+pub use record_writing::{write_acted, write_issued, write_registered, write_withdrawn};

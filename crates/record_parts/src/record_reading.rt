@@ -1,16 +1,16 @@
-//! Reading what was registered, issued and done.
+//! Reading what was registered, withdrawn, issued and done.
 //!
 //! Each reader is one that formats with such parts are made of: it reads at the front of `bytes`, the rest of an input of
 //! `input` bytes, and gives the value and the bytes after it, or the first fault.
 
 ghost use Rattle.bl_syntax.specs.Codec.{GivesReadingOrReports};
-ghost use Rattle.record_parts.specs.RecordReading.{registered_at, proved_at, issued_at, admitted_at, done_at, acted_at};
+ghost use Rattle.record_parts.specs.RecordReading.{registered_at, withdrawn_at, proved_at, issued_at, admitted_at, done_at, acted_at};
 
 use crate::fields::{moment_field_at, sized_bytes_at};
 use crate::operation_reading::operation_at;
 use crate::parts::{numbers_at, procaps_at, sized_proof_at};
 use bl_codec::statement_at;
-use bl_syntax::fields::name_at;
+use bl_syntax::fields::{name_at, u32_at};
 use bl_syntax::{Bytes, CodecFault, Grant, Numbers, Principal, Sequence, Statement};
 use file_world::Op;
 use procap::{Procap, grant_at};
@@ -31,6 +31,20 @@ pub fn registered_at(
         Ok((statement, rest)) => match sized_bytes_at(alloc, rest) {
             Err(fault) => Err(fault),
             Ok((signature, rest)) => Ok((statement, signature, rest)),
+        },
+    }
+}
+
+/// The number of a statement, and the signature of its withdrawal.
+#[tactic(auto, using(bl_syntax::proofs::ReportsFaultLemmas::hands_on, bl_syntax::proofs::ReportsFaultLemmas::stops), unfolding(crate::specs::RecordReading::withdrawn_at))]
+pub fn withdrawn_at(alloc: Global, bytes: &[u8]) -> Result<(u32, Bytes, &[u8]), CodecFault>
+    ensures { GivesReadingOrReports (λ x. ((x.0, x.1), x.2.now)) result (withdrawn_at bytes.now) }
+{
+    match u32_at(bytes) {
+        Err(fault) => Err(fault),
+        Ok((number, rest)) => match sized_bytes_at(alloc, rest) {
+            Err(fault) => Err(fault),
+            Ok((signature, rest)) => Ok((number, signature, rest)),
         },
     }
 }

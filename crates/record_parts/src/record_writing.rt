@@ -1,4 +1,4 @@
-//! Writing what was registered, issued and done. Each writer adds the one spelling of its value at the end, or nothing.
+//! Writing what was registered, withdrawn, issued and done. Each writer adds the one spelling of its value at the end, or nothing.
 
 ghost use Rattle.std.specs.Prelude.{◌≡◌, ◌≤◌, ◌++◌, OnOk, OnErr, length};
 ghost use Rattle.std.specs.List.{AllByRecursion};
@@ -8,12 +8,13 @@ ghost use Rattle.procap.specs.GrantSpelling.{list_spelling};
 ghost use Rattle.procap.specs.Procap.{procap_spelling, IsSpellableProcap};
 ghost use Rattle.record_parts.specs.Fields.{FitsFourBytes, moment_spelling};
 ghost use Rattle.record_parts.specs.OperationSpelling.{operation_spelling, IsSpellableOperation, HasFittingWords};
-ghost use Rattle.record_parts.specs.RecordSpelling.{registered_spelling, IsSpellableRegistered, issued_spelling, IsSpellableIssued, acted_spelling, IsSpellableActed};
+ghost use Rattle.record_parts.specs.RecordSpelling.{registered_spelling, IsSpellableRegistered, withdrawn_spelling, IsSpellableWithdrawn, issued_spelling, IsSpellableIssued, acted_spelling, IsSpellableActed};
 
 use crate::fields::{put_moment, put_sized_bytes};
 use crate::operation_writing::write_operation;
 use crate::parts::{add_numbers, add_procaps, add_sized_proof};
 use bl_codec::write_statement;
+use bl_syntax::fields::u32_bytes;
 use bl_syntax::{Bytes, Grant, NoMemory, Principal, Statement, write_name};
 use file_world::Op;
 use procap::{Procap, write_grant};
@@ -47,6 +48,33 @@ fn add_registered(statement: &Statement, signature: &[u8], out: &mut Bytes) -> R
     ensures err { OnErr result (BeginsWith out.new out.old) }
 {
     write_statement(statement, out)?;
+    put_sized_bytes(signature, out)
+}
+
+/// Adds the number of a statement, and the signature of its withdrawal, of fewer than 2^32 bytes.
+pub fn write_withdrawn(number: u32, signature: &[u8], out: &mut Bytes) -> Result<(), NoMemory>
+    requires { FitsFourBytes signature.now }
+    ensures ok { OnOk result (out.new ≡ out.old ++ withdrawn_spelling number signature.now) }
+    ensures spelled { OnOk result (IsSpellableWithdrawn number signature.now) }
+    ensures err { OnErr result (out.new ≡ out.old) }
+{
+    let len = out.len();
+    let added = add_withdrawn(number, signature, out);
+    if added.is_err() {
+        out.truncate(len);
+    }
+    added
+}
+
+/// Adds the number of a statement and the signature of its withdrawal, or a front of them.
+#[tactic(auto, using(bl_syntax::proofs::BeginsWithLemmas::writing), unfolding(crate::specs::RecordSpelling::withdrawn_spelling))]
+fn add_withdrawn(number: u32, signature: &[u8], out: &mut Bytes) -> Result<(), NoMemory>
+    requires { FitsFourBytes signature.now }
+    ensures ok { OnOk result (out.new ≡ out.old ++ withdrawn_spelling number signature.now) }
+    ensures spelled { OnOk result (IsSpellableWithdrawn number signature.now) }
+    ensures err { OnErr result (BeginsWith out.new out.old) }
+{
+    out.extend(&u32_bytes(number))?;
     put_sized_bytes(signature, out)
 }
 

@@ -1,4 +1,4 @@
-//! Events: the payloads of the first file's three, every cut of them, and each fault at its place.
+//! Events: the payloads of the first file's three and of a withdrawal, every cut of them, and each fault at its place.
 
 use crate::operations::OPERATIONS;
 use crate::rows::{bytes_of, is_end, word_and_rest};
@@ -10,20 +10,30 @@ use proof_term::ProofTree;
 use std::alloc::Global;
 use std::test::Fail;
 
-/// The statement that alice may write to the root, the issue of that grant, and the file that she makes, each with its
-/// pass and its fields. The signature and the seal are those under the example's keys, made by another program.
+/// The statement that alice may write to the root, the issue of that grant, the file that she makes, and the withdrawal of
+/// the statement under two bytes, each with its pass and its fields. The signature and the seal are those under the example's keys, made by another program.
 const FIRST_FILE: &str =
     "010561646d696e10036d6179030105616c69636502000000000000000103020100000000000000000100000000000000c8000000209efa4c8dc2816d5e04d51d2d69107b0e33f880f6ea5a6c0df5a7440014841a99 registered 0 admin 32
 020100000001000000070b1a0000010001470105616c69636500000000000000010202040100000000000000000606040100000000000000c800 issued 0 1 3 alice 1
-0305616c696365060000000000000001056e6f74657301470105616c69636500000000000000010202040100000000000000000606040100000000000000c800e52f3ee369a66ee9a101d58bea448969451a93f6106f82bc55c2138de284bc610000000000000064 acted 0 alice create 1 notes 1 100";
+0305616c696365060000000000000001056e6f74657301470105616c69636500000000000000010202040100000000000000000606040100000000000000c800e52f3ee369a66ee9a101d58bea448969451a93f6106f82bc55c2138de284bc610000000000000064 acted 0 alice create 1 notes 1 100
+040000000100000002abcd withdrawn 0 1 2";
 
 /// The numbers of bytes of these.
-const LENGTHS: [usize; 3] = [85, 58, 104];
+const LENGTHS: [usize; 4] = [85, 58, 104, 11];
 
 /// Other bytes, and what comes of reading them.
 const ENDS: &str = "- short
 00 bad tag 0
-04 bad tag 0
+05 bad tag 0
+04 short
+04000000 short
+0400000001 short
+0400000001000000 short
+040000000100000002ab short
+0400000000ffffffff short
+040000000000000000 ok 9
+04ffffffff00000001ab ok 10
+04ffffffff00000001ab00 not canonical 10
 010561646d696e1106060002 not canonical 1
 010561646d696e0f bad tag 7
 010561646d696e10036d6179030105616c69636502000000000000000103020100000000000000000100000000000000c8000020 short
@@ -95,6 +105,19 @@ fn put_registered(
     put_number(signature.len() as u64, out)
 }
 
+// Adds the pass, the number of the statement, and how long the signature is.
+fn put_withdrawn(
+    pass: u64,
+    number: u32,
+    signature: &Bytes,
+    out: &mut Bytes,
+) -> Result<(), NoMemory> {
+    out.extend(b"withdrawn")?;
+    put_number(pass, out)?;
+    put_number(u64::from(number), out)?;
+    put_number(signature.len() as u64, out)
+}
+
 // Adds the pass, the numbers that are cited, the nodes of the proof, and who is granted what on which node.
 fn put_issued(
     pass: u64,
@@ -121,6 +144,11 @@ fn put_event(e: &Event, out: &mut Bytes) -> Result<(), NoMemory> {
             statement,
             signature,
         } => put_registered(*pass, statement, signature, out),
+        Event::Withdrawn {
+            pass,
+            number,
+            signature,
+        } => put_withdrawn(*pass, *number, signature, out),
         Event::Issued {
             pass,
             cited,
@@ -200,7 +228,7 @@ fn is_end_row(alloc: Global, word: &str, want: &str) -> Result<bool, Fail> {
 }
 
 #[test]
-fn the_first_files_events_have_their_bytes_both_ways(rt: HostRuntime) -> Result<(), Fail> {
+fn the_first_events_have_their_bytes_both_ways(rt: HostRuntime) -> Result<(), Fail> {
     for (row, len) in FIRST_FILE.lines().zip(LENGTHS) {
         let (word, text) = word_and_rest(row)?;
         assert!(rt; is_event_row(rt.alloc(), word, text, len)?, "{row}");

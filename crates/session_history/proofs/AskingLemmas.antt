@@ -14,7 +14,7 @@ use Rattle.line_words.specs.declared.procap_word.ProcapWord.TheVariants as words
 use Rattle.line_forms.specs.declared.asked.Line.{Line}
 use Rattle.line_forms.specs.declared.asked.Line.TheVariants as lines
 use Rattle.line_forms.specs.declared.command.Command.{Command}
-use Rattle.line_forms.specs.declared.command.Command.TheVariants.{At, As, Register, Procap, Checkpoint, Verify, Check, Do}
+use Rattle.line_forms.specs.declared.command.Command.TheVariants.{At, As, Register, Withdraw, Procap, Checkpoint, Verify, Check, Do}
 use Rattle.line_forms.specs.declared.fault.LineFault.{LineFault}
 use Rattle.line_forms.specs.Lines.{IsLineIn, IsLineFaultIn}
 use Rattle.line_forms.specs.Said.{IsOperationAsked, IsWithin, IsLineWithin, IsWrittenOut, IsOfSession, IsOfUser, IsSaidIn}
@@ -49,6 +49,8 @@ user_once who (At second) a b one other = absurd one
 user_once who (As person) a b one other = absurd one
 user_once who (Register None statement) a b one other = absurd one
 user_once who (Register (Some signature) statement) a b one other = one ∙ sym other
+user_once who (Withdraw number None) a b one other = absurd one
+user_once who (Withdraw number (Some signature)) a b one other = one ∙ sym other
 user_once who (Procap number) a b one other = one ∙ sym other
 user_once who Checkpoint a b one other = one.1 ∙ sym other.1
 user_once who (Verify goal numbers proof) a b one other = one ∙ sym other
@@ -87,6 +89,8 @@ user_asks who (At second) said mine = absurd said
 user_asks who (As other) said mine = absurd said
 user_asks who (Register None statement) said mine = absurd (false≢true said)
 user_asks who (Register (Some signature) statement) said mine = (tasks.Turn (Step (requests.Register statement signature)), refl)
+user_asks who (Withdraw number None) said mine = absurd (false≢true said)
+user_asks who (Withdraw number (Some signature)) said mine = (tasks.Turn (Step (requests.Withdraw number signature)), refl)
 user_asks who (Procap number) said mine = (tasks.Turn (Step (requests.ShowProcap number (Some who))), refl)
 user_asks who Checkpoint said mine = (tasks.Turn turn_requests.Checkpoint, (mine, refl))
 user_asks who (Verify goal numbers proof) said mine = (tasks.Proof goal numbers proof, refl)
@@ -134,6 +138,8 @@ user_formed who (At second) task named within is = absurd is
 user_formed who (As other) task named within is = absurd is
 user_formed who (Register None statement) task named within is = absurd is
 user_formed who (Register (Some signature) statement) task named within is = subst IsTaskFormed (sym is) (within, tt)
+user_formed who (Withdraw number None) task named within is = absurd is
+user_formed who (Withdraw number (Some signature)) task named within is = subst IsTaskFormed (sym is) (tt, tt)
 user_formed who (Procap number) task named within is = subst IsTaskFormed (sym is) (tt, tt)
 user_formed who Checkpoint task named within is = subst IsTaskFormed (sym is.1) (tt, tt)
 user_formed who (Verify goal numbers proof) task named within is = subst IsTaskFormed (sym is) within

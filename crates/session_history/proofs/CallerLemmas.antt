@@ -8,17 +8,17 @@ use Rattle.policy_statement.specs.Messages.{login_message}
 use Rattle.policy_statement.specs.Ring.{KeyView, is_accepted}
 use Rattle.proof_verifier.specs.CheckedView.{checked_view}
 use Rattle.access_history.specs.declared.event.Event.{Event}
-use Rattle.access_history.specs.declared.event.Event.TheVariants.{Registered, Issued, Acted}
+use Rattle.access_history.specs.declared.event.Event.TheVariants.{Registered, Issued, Withdrawn, Acted}
 use Rattle.access_history.specs.declared.request.StepRequest.{StepRequest}
 use Rattle.access_history.specs.declared.request.StepRequest.TheVariants as steps
 use Rattle.access_history.specs.declared.reply.StepReply.{StepReply}
 use Rattle.access_history.specs.Authority.{Authority}
 use Rattle.access_history.specs.Base.{BaseView}
-use Rattle.access_history.specs.Answer.{Answers, registered, issued, acted}
+use Rattle.access_history.specs.Answer.{Answers, registered, withdrawn, issued, acted}
 use Rattle.line_forms.specs.declared.asked.Line.{Line}
 use Rattle.line_forms.specs.declared.asked.Line.TheVariants as lines
 use Rattle.line_forms.specs.declared.command.Command.{Command}
-use Rattle.line_forms.specs.declared.command.Command.TheVariants.{At, As, Register, Procap, Checkpoint, Verify, Check, Do}
+use Rattle.line_forms.specs.declared.command.Command.TheVariants.{At, As, Register, Withdraw, Procap, Checkpoint, Verify, Check, Do}
 use Rattle.line_wire.specs.declared.reply.LineReply.{LineReply}
 use Rattle.pcfs_store.specs.Entries.{Root, StoreEntry, happened, checkpointed, stopped, state_of_entries}
 use Rattle.session_history.specs.declared.request.TurnRequest.{TurnRequest}
@@ -41,9 +41,10 @@ abbrev IsCallerAccepted : List KeyView → List ℕ → List (List ℕ) → Opti
 IsCallerAccepted ring nonce heard None = Unit {0}
 IsCallerAccepted ring nonce heard (Some who) = HasSigned ring nonce heard who
 
--- who acts by a task that takes one turn; somebody does who registers or issues
+-- who acts by a task that takes one turn; somebody does who registers, withdraws or issues
 abbrev ActsAs : (List ℕ → Type 0) → TurnRequest → Type 0
 ActsAs P (Step (steps.Register statement signature)) = (who : List ℕ) × P who
+ActsAs P (Step (steps.Withdraw number signature)) = (who : List ℕ) × P who
 ActsAs P (Step (steps.Issue checked)) = (who : List ℕ) × P who
 ActsAs P (Step (steps.Act who op procaps)) = P who
 ActsAs P (Step (steps.ShowProcap number who)) = Unit {0}
@@ -61,6 +62,7 @@ IsActedAs P (tasks.Proof goal numbers proof) = (who : List ℕ) × P who
 event_by : (ring : List KeyView) (nonce : List ℕ) (heard : List (List ℕ)) (authority : Authority) (state : BaseView) (pass : ℕ) (clock : ℤ) (request : StepRequest) (reply : StepReply) (event : Event) → ActsAs (HasSigned ring nonce heard) (Step request) →
     Answers authority state pass clock request reply (Some event) → IsByAccepted ring nonce heard (happened event)
 event_by ring nonce heard authority state pass clock request reply event acts (registered statement signature may) = acts
+event_by ring nonce heard authority state pass clock request reply event acts (withdrawn number signature may) = acts
 event_by ring nonce heard authority state pass clock request reply event acts (issued checked rising granted stand) = acts
 event_by ring nonce heard authority state pass clock request reply event acts (acted caller op procaps admitted free) = acts
 
@@ -86,6 +88,7 @@ of_turn_answer ring nonce heard root state pass clock _ _ _ acts (turns.rejects 
 somebody : (ring : List KeyView) (nonce : List ℕ) (heard : List (List ℕ)) (entry : StoreEntry) → IsByAccepted ring nonce heard entry → (who : List ℕ) × HasSigned ring nonce heard who
 somebody ring nonce heard (happened (Registered pass statement signature)) by_some = by_some
 somebody ring nonce heard (happened (Issued pass cited proof grant)) by_some = by_some
+somebody ring nonce heard (happened (Withdrawn pass number signature)) by_some = by_some
 somebody ring nonce heard (happened (Acted pass caller op procaps moment)) by_some = (caller, by_some)
 somebody ring nonce heard (checkpointed pass) by_some = (codes "admin", by_some)
 somebody ring nonce heard (stopped pass) by_some = by_some
@@ -115,6 +118,8 @@ user_acts ring nonce heard who (At second) task signed is = absurd is
 user_acts ring nonce heard who (As other) task signed is = absurd is
 user_acts ring nonce heard who (Register None statement) task signed is = absurd is
 user_acts ring nonce heard who (Register (Some signature) statement) task signed is = subst (IsActedAs (HasSigned ring nonce heard)) (sym is) (who, signed)
+user_acts ring nonce heard who (Withdraw number None) task signed is = absurd is
+user_acts ring nonce heard who (Withdraw number (Some signature)) task signed is = subst (IsActedAs (HasSigned ring nonce heard)) (sym is) (who, signed)
 user_acts ring nonce heard who (Procap number) task signed is = subst (IsActedAs (HasSigned ring nonce heard)) (sym is) tt
 user_acts ring nonce heard who Checkpoint task signed is =
     subst (IsActedAs (HasSigned ring nonce heard)) (sym is.1) (subst (HasSigned ring nonce heard) ((bytes_eq-Decides who (codes "admin")).0 is.0) signed)
@@ -152,6 +157,8 @@ user_over nonce who (At second) task is = absurd is
 user_over nonce who (As other) task is = absurd is
 user_over nonce who (Register None statement) task is = absurd is
 user_over nonce who (Register (Some signature) statement) task is = subst (LogsInOver nonce) (sym is) tt
+user_over nonce who (Withdraw number None) task is = absurd is
+user_over nonce who (Withdraw number (Some signature)) task is = subst (LogsInOver nonce) (sym is) tt
 user_over nonce who (Procap number) task is = subst (LogsInOver nonce) (sym is) tt
 user_over nonce who Checkpoint task is = subst (LogsInOver nonce) (sym is.1) tt
 user_over nonce who (Verify goal numbers proof) task is = subst (LogsInOver nonce) (sym is) tt
@@ -219,6 +226,7 @@ module _ (ring : List KeyView) (nonce : List ℕ) (heard more : List (List ℕ))
   event_more : (event : Event) → IsByAccepted ring nonce heard (happened event) → IsByAccepted ring nonce (heard ++ more) (happened event)
   event_more (Registered pass statement signature) h = (h.0, signed_more h.0 h.1)
   event_more (Issued pass cited proof grant) h = (h.0, signed_more h.0 h.1)
+  event_more (Withdrawn pass number signature) h = (h.0, signed_more h.0 h.1)
   event_more (Acted pass caller op procaps moment) h = signed_more caller h
 
   all_more : (given : List StoreEntry) → AllByRecursion (IsByAccepted ring nonce heard) given → AllByRecursion (IsByAccepted ring nonce (heard ++ more)) given

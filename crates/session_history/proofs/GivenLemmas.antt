@@ -7,7 +7,7 @@ use Rattle.access_history.specs.declared.reply.StepReply.{StepReply}
 use Rattle.access_history.specs.Authority.{Authority}
 use Rattle.std.specs.Option.{option_map}
 use Rattle.access_history.specs.Base.{BaseView}
-use Rattle.access_history.specs.Answer.{Answers, registered, issued, acted}
+use Rattle.access_history.specs.Answer.{Answers, registered, withdrawn, issued, acted}
 use Rattle.line_wire.specs.declared.reply.LineReply.{LineReply}
 use Rattle.pcfs_store.specs.Entries.{Root, StoreEntry, happened, state_of_entries}
 use Rattle.session_history.specs.declared.request.TurnRequest.{TurnRequest}
@@ -28,6 +28,7 @@ IsOfPass pass (Some entry) = entry_pass entry ≡ pass
 
 event_of_answer : (authority : Authority) (state : BaseView) (pass : ℕ) (clock : ℤ) (request : StepRequest) (reply : StepReply) (event : Event) → Answers authority state pass clock request reply (Some event) → event_pass event ≡ pass
 event_of_answer authority state pass clock request reply event (registered statement signature may) = refl
+event_of_answer authority state pass clock request reply event (withdrawn number signature may) = refl
 event_of_answer authority state pass clock request reply event (issued checked rising granted stand) = refl
 event_of_answer authority state pass clock request reply event (acted caller op procaps admitted free) = refl
 

@@ -9,7 +9,7 @@ use Rattle.access_history.specs.Base.{BaseView}
 use Rattle.line_forms.specs.declared.asked.Line.{Line}
 use Rattle.line_forms.specs.declared.asked.Line.TheVariants as lines
 use Rattle.line_forms.specs.declared.command.Command.{Command}
-use Rattle.line_forms.specs.declared.command.Command.TheVariants.{At, As, Register, Procap, Checkpoint, Verify, Check, Do}
+use Rattle.line_forms.specs.declared.command.Command.TheVariants.{At, As, Register, Withdraw, Procap, Checkpoint, Verify, Check, Do}
 use Rattle.access_history.specs.declared.request.StepRequest.TheVariants as requests
 use Rattle.line_forms.specs.declared.fault.LineFault.{LineFault}
 use Rattle.line_wire.specs.declared.reply.LineReply.{LineReply}
@@ -142,6 +142,8 @@ user_said who (At second) task reply is same = absurd is
 user_said who (As other) task reply is same = absurd is
 user_said who (Register None statement) task reply is same = absurd is
 user_said who (Register (Some signature) statement) task reply is same = let both : tasks.Turn (Step (requests.Register statement signature)) ≡ tasks.Reply reply = sym is ∙ same in absurd cc
+user_said who (Withdraw number None) task reply is same = absurd is
+user_said who (Withdraw number (Some signature)) task reply is same = let both : tasks.Turn (Step (requests.Withdraw number signature)) ≡ tasks.Reply reply = sym is ∙ same in absurd cc
 user_said who (Procap number) task reply is same = let both : tasks.Turn (Step (requests.ShowProcap number (Some who))) ≡ tasks.Reply reply = sym is ∙ same in absurd cc
 user_said who Checkpoint task reply is same = let both : tasks.Turn turn_requests.Checkpoint ≡ tasks.Reply reply = sym is.1 ∙ same in absurd cc
 user_said who (Verify goal numbers proof) task reply is same = let both : tasks.Proof goal numbers proof ≡ tasks.Reply reply = sym is ∙ same in absurd cc

@@ -9,7 +9,7 @@ use Rattle.line_words.specs.declared.procap_word.ProcapWord.TheVariants as words
 use Rattle.line_forms.specs.declared.asked.Line.{Line}
 use Rattle.line_forms.specs.declared.asked.Line.TheVariants as lines
 use Rattle.line_forms.specs.declared.command.Command.{Command}
-use Rattle.line_forms.specs.declared.command.Command.TheVariants.{At, As, Register, Procap, Checkpoint, Verify, Check, Do}
+use Rattle.line_forms.specs.declared.command.Command.TheVariants.{At, As, Register, Withdraw, Procap, Checkpoint, Verify, Check, Do}
 use Rattle.line_forms.specs.declared.fault.LineFault.{LineFault}
 use Rattle.line_forms.specs.Lines.{IsLineIn, IsLineFaultIn}
 use Rattle.line_forms.specs.Modes.{is_admin}
@@ -29,6 +29,8 @@ IsUserTask who (At second) task = ⊥
 IsUserTask who (As other) task = ⊥
 IsUserTask who (Register None statement) task = ⊥
 IsUserTask who (Register (Some signature) statement) task = task ≡ tasks.Turn (Step (steps.Register statement signature))
+IsUserTask who (Withdraw number None) task = ⊥
+IsUserTask who (Withdraw number (Some signature)) task = task ≡ tasks.Turn (Step (steps.Withdraw number signature))
 IsUserTask who (Procap number) task = task ≡ tasks.Turn (Step (steps.ShowProcap number (Some who)))
 IsUserTask who Checkpoint task = IsTrue (is_admin who) × (task ≡ tasks.Turn requests.Checkpoint)
 IsUserTask who (Verify goal numbers proof) task = task ≡ tasks.Proof goal numbers proof

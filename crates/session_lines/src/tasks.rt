@@ -54,6 +54,20 @@ fn registering(signature: Option<Bytes>, statement: Statement) -> LineTask
     }
 }
 
+// A withdrawal under this signature.
+fn withdrawing(number: u32, signature: Option<Bytes>) -> LineTask
+    requires { IsSome signature }
+    ensures task { (who : List ℕ) → IsUserTask who (Command.Withdraw number signature) result }
+    ensures formed { IsTaskFormed result }
+{
+    match signature {
+        Some(signature) => {
+            LineTask::Turn(TurnRequest::Step(StepRequest::Withdraw(number, signature)))
+        }
+        None => unreachable!(),
+    }
+}
+
 // An operation of this principal under the procaps that are written out.
 fn acting(alloc: Global, who: Principal, op: Op, given: ProcapWords) -> Result<LineTask, NoMemory>
     requires written_out { AllByRecursion IsWrittenOut given }
@@ -76,6 +90,7 @@ fn user_task(alloc: Global, who: Principal, command: Command) -> Result<LineTask
 {
     match command {
         Command::Register(signature, statement) => Ok(registering(signature, statement)),
+        Command::Withdraw(number, signature) => Ok(withdrawing(number, signature)),
         Command::Procap(number) => Ok(LineTask::Turn(TurnRequest::Step(StepRequest::ShowProcap(
             number,
             Some(who),

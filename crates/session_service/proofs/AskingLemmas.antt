@@ -21,7 +21,7 @@ use Rattle.access_history.specs.declared.reply.StepReply.TheVariants.{Absent}
 use Rattle.line_words.specs.declared.procap_word.ProcapWord.{ProcapWord}
 use Rattle.line_words.specs.declared.procap_word.ProcapWord.TheVariants as words
 use Rattle.line_forms.specs.declared.command.Command.{Command}
-use Rattle.line_forms.specs.declared.command.Command.TheVariants.{At, As, Register, Procap, Checkpoint, Verify, Check, Do}
+use Rattle.line_forms.specs.declared.command.Command.TheVariants.{At, As, Register, Withdraw, Procap, Checkpoint, Verify, Check, Do}
 use Rattle.line_forms.specs.Modes.{is_admin}
 use Rattle.line_wire.specs.declared.reply.LineReply.TheVariants as replies
 use Rattle.session_history.specs.declared.request.TurnRequest.TheVariants.{Step}
@@ -30,7 +30,7 @@ use Rattle.session_history.specs.declared.task.LineTask.{LineTask}
 use Rattle.session_history.specs.declared.task.LineTask.TheVariants as tasks
 use Rattle.session_history.specs.Tasks.{IsUserTask}
 use Rattle.pcfs_session.specs.Asker.{Asker}
-use Rattle.pcfs_session.specs.LineAnswer.{replied, requested, ComesTo, checkpoint, registers, shows, makes_checkpoint, verifies, verifies_nothing, acts}
+use Rattle.pcfs_session.specs.LineAnswer.{replied, requested, ComesTo, checkpoint, registers, withdraws, shows, makes_checkpoint, verifies, verifies_nothing, acts}
 use Rattle.pcfs_session.specs.Procaps.{held, AreBrought}
 use Rattle.pcfs_session.specs.Proved.{cites_none, proves_none}
 
@@ -58,6 +58,8 @@ module _ (secrets : Secrets) (state : BaseView) (asker : Asker) where
   turn_comes (As who) request sees is = absurd is
   turn_comes (Register None statement) request sees is = absurd is
   turn_comes (Register (Some signature) statement) request sees is = subst (Comes (Register (Some signature) statement)) (same_step (requests.Register statement signature) request is) (registers (Some signature) statement)
+  turn_comes (Withdraw number None) request sees is = absurd is
+  turn_comes (Withdraw number (Some signature)) request sees is = subst (Comes (Withdraw number (Some signature))) (same_step (requests.Withdraw number signature) request is) (withdraws number (Some signature))
   turn_comes (Procap number) request sees is =
       subst (Comes (Procap number)) (same_step (requests.ShowProcap number (Some asker.caller)) request is)
       (subst (λ (who : Option (List ℕ)). Comes (Procap number) (requests.ShowProcap number who)) sees (shows number))
@@ -74,6 +76,8 @@ module _ (secrets : Secrets) (state : BaseView) (asker : Asker) where
   checkpoint_comes (As who) is = absurd is
   checkpoint_comes (Register None statement) is = absurd is
   checkpoint_comes (Register (Some signature) statement) is = absurd cc
+  checkpoint_comes (Withdraw number None) is = absurd is
+  checkpoint_comes (Withdraw number (Some signature)) is = absurd cc
   checkpoint_comes (Procap number) is = absurd cc
   checkpoint_comes Checkpoint is = (is.0, makes_checkpoint)
   checkpoint_comes (Verify goal numbers proof) is = absurd cc
@@ -87,6 +91,8 @@ module _ (secrets : Secrets) (state : BaseView) (asker : Asker) where
     proof_of (As who) is = absurd is
     proof_of (Register None statement) is = absurd is
     proof_of (Register (Some signature) statement) is = absurd cc
+    proof_of (Withdraw number None) is = absurd is
+    proof_of (Withdraw number (Some signature)) is = absurd cc
     proof_of (Procap number) is = absurd cc
     proof_of Checkpoint is = let other = is.1 in absurd cc
     proof_of (Verify goal' numbers' proof') is = sym (same_proof goal goal' numbers numbers' proof proof' is)

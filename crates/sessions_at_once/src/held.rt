@@ -1,6 +1,7 @@
 //! A session whose checker waits until another session has made a file.
 //!
-//! If a proof were checked under the lock, the other session would have no turn, and the checker would wait in vain.
+//! If a proof were checked under the lock, the other session would have no turn, and the checker would wait in vain. If the
+//! other session withdraws what the proof cites before it makes its file, nothing is issued.
 
 ghost use Rattle.std.specs.Prelude.{◌≡◌, [], None, IfSome};
 ghost use Rattle.std.specs.List.{AllByRecursion};
@@ -37,6 +38,12 @@ const PROVING: &str = "verify alice #1 write 1 saysR(claim(0,init(1)))\n";
 // What bob asks: a file.
 const MAKING: &str =
     "do create #1 made 470103626f620000000000000001020000423c3d31bd120b85dfff5b6eb6f5ff56e9b219dd5e90b52cd644ea08f9798965\n";
+
+// What bob asks: that the statement which alice's proof cites is withdrawn, by the signature of who said it; and a file.
+const WITHDRAWING: &str =
+    "withdraw 1 6913177a6c16f1e3c2c4885cb4b6bff1a84f0f7e358882d156f676a359937b4f
+do create #1 made 470103626f620000000000000001020000423c3d31bd120b85dfff5b6eb6f5ff56e9b219dd5e90b52cd644ea08f9798965
+";
 
 // Checks a proof once the other session was told that its file was made.
 #[derive(Drop)]
@@ -175,16 +182,22 @@ fn talk_over<R: Threads + Wait + Sync>(
     }
 }
 
-// Whether all is as wanted; none if there is no memory.
-fn agrees<R: Threads + Wait + Sync>(rt: &R, alloc: Global, setting: &Setting) -> Option<bool> {
+// Whether all is as wanted, and so many were told that statement 1 is absent, if bob asks this; none if there is no memory.
+fn agrees<R: Threads + Wait + Sync>(
+    rt: &R,
+    alloc: Global,
+    setting: &Setting,
+    asked: &str,
+    absences: usize,
+) -> Option<bool> {
     let meeting = Meeting::new(alloc, 3, false)?;
     let alice = bytes_of(alloc, PROVING.as_bytes())?;
-    let bob = bytes_of(alloc, MAKING.as_bytes())?;
+    let bob = bytes_of(alloc, asked.as_bytes())?;
     let speeches = speeches_of(alloc, alice, FIRST_IS_AT_HAND, bob)?;
     let script = bytes_of(alloc, SET_UP.as_bytes())?;
     let disks = setting.set_up(rt, alloc, script)?;
     let ended = talk_over(rt, alloc, setting, &meeting, &speeches, disks);
-    Some(ended && meeting.went_well(4, 1))
+    Some(ended && meeting.went_well(4, 1) && meeting.absences() == absences)
 }
 
 /// Whether one session has a turn while the proof of another is checked.
@@ -192,5 +205,13 @@ pub fn proof_is_checked_outside_turns<R: Threads + Wait + Sync + AllocGlobal>(
     rt: &R,
     setting: &Setting,
 ) -> bool {
-    agrees(rt, rt.alloc(), setting) == Some(true)
+    agrees(rt, rt.alloc(), setting, MAKING, 0) == Some(true)
+}
+
+/// Whether nothing is issued by a proof from a statement that is withdrawn while it is checked.
+pub fn withdrawn_meanwhile_is_absent<R: Threads + Wait + Sync + AllocGlobal>(
+    rt: &R,
+    setting: &Setting,
+) -> bool {
+    agrees(rt, rt.alloc(), setting, WITHDRAWING, 1) == Some(true)
 }

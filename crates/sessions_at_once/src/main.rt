@@ -1,5 +1,5 @@
-//! What two sessions do at the same time, each in a thread of its own: one has turns while a proof of the other is checked; the
-//! clock is read in the turn, after the wait for it; and both make a hundred files.
+//! What two sessions do at the same time, each in a thread of its own: one has turns, and withdraws a statement, while a proof of
+//! the other is checked; the clock is read in the turn, after the wait for it; and both make a hundred files.
 //!
 //! For each case it prints that it agrees, or that it differs, and it ends with status 1 if any differs. A session waits for
 //! the other for a number of looks, so the program ends even if the other never comes so far.
@@ -13,7 +13,7 @@ mod pair;
 mod setting;
 
 use cases::{clock_is_read_in_the_turn, two_hundred_files_are_made};
-use held::proof_is_checked_outside_turns;
+use held::{proof_is_checked_outside_turns, withdrawn_meanwhile_is_absent};
 use setting::Setting;
 use std::process::ExitCode;
 
@@ -32,11 +32,17 @@ fn main(rt: HostRuntime) -> ExitCode {
     };
     let is_held = proof_is_checked_outside_turns(&rt, &setting);
     let is_held = tell(&rt, "a proof is checked while another has turns", is_held);
+    let is_absent = withdrawn_meanwhile_is_absent(&rt, &setting);
+    let is_absent = tell(
+        &rt,
+        "a statement is withdrawn while a proof from it is checked",
+        is_absent,
+    );
     let is_late = clock_is_read_in_the_turn(&rt, &setting);
     let is_late = tell(&rt, "the clock is read after the wait", is_late);
     let are_made = two_hundred_files_are_made(&rt, &setting);
     let are_made = tell(&rt, "two hundred files", are_made);
-    if is_held && is_late && are_made {
+    if is_held && is_absent && is_late && are_made {
         ExitCode::from(0)
     } else {
         ExitCode::from(1)

@@ -33,6 +33,7 @@ pub struct Meeting {
     stage: AtomicUsize,
     is_in_vain: AtomicBool,
     replies: AtomicUsize,
+    absences: AtomicUsize,
     nodes: Vec<AtomicBool>,
     is_wrong: AtomicBool,
 }
@@ -51,6 +52,7 @@ impl Meeting {
             stage: AtomicUsize::new(0),
             is_in_vain: AtomicBool::new(false),
             replies: AtomicUsize::new(0),
+            absences: AtomicUsize::new(0),
             nodes,
             is_wrong: AtomicBool::new(false),
         })
@@ -93,10 +95,18 @@ impl Meeting {
         if reply.starts_with("ok") {
             self.replies.fetch_add(1, Ordering::SeqCst);
         }
+        if reply.trim_end() == "absent 1" {
+            self.absences.fetch_add(1, Ordering::SeqCst);
+        }
         if let Some(text) = reply.strip_prefix("ok node #") {
             self.note_node(text.trim_end());
             self.advance();
         }
+    }
+
+    /// How many were told that statement 1 is absent.
+    pub fn absences(&self) -> usize {
+        self.absences.load(Ordering::SeqCst)
     }
 
     // How many nodes were told.

@@ -12,7 +12,7 @@ use Rattle.op_gate.proofs.admit.early_damage.Goals as goal
 pub returns-then-not-is_moment : goal.returns-then-not-is_moment
 returns-then-not-is_moment c = λ pass caller.
     damaged_shape (authority_of c.args.history.now) (state_of c.args.history.now) (Acted pass caller c.args.op.now c.args.procaps.now c.args.moment)
-    (λ has. is_not_so _ _ c.is_moment.ensures c.if-not-is_moment.true (subst IsMoment (sym (to_z-of_z w64 c.args.moment c.ranges.moment)) has.1))
+    (λ has. is_not_so _ _ c.is_moment.ensures c.if-not-is_moment.true (subst IsMoment (sym (to_z-of_z w64 c.args.moment c.ranges.moment)) has.in_range))
 
 pub returns-then-moment : goal.returns-then-moment
 returns-then-moment c = λ pass caller.

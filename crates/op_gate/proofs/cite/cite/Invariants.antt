@@ -1,9 +1,8 @@
 -- The statements of the numbers so far.
 use Rattle.std.proofs.Common.{take}
-use Rattle.access_history.specs.Authority.{sayings}
-use Rattle.access_history.specs.Books.{whole_book}
 use Rattle.access_history.specs.Citing.{AreFound}
+use Rattle.op_gate.specs.Citations.{book_among}
 use Rattle.op_gate.proofs.cite.cite.Given as goal
 
 abbrev pub invariant-loop-number : goal.invariant-loop-number
-invariant-loop-number l = AreFound (whole_book (sayings l.statements)) (take l.number-index l.numbers) l.cites.items
+invariant-loop-number l = AreFound (book_among l.among l.entries) (take l.number-index l.numbers) l.cites.items

@@ -28,4 +28,4 @@ returns g c =
     IfOk-then c.credentials_of.result _ _ c.credentials_of.ensures (λ credentials tells event found.
     let same = same_Some (get_or events c.args.place c.index-dossier-place.result) event (sym (slice_get_at events c.args.place c.index-dossier-place.result c.requires.within) ∙ found) in
     subst (λ (e : Event). HasCredentials (authority_by c.args.dossier.now.key (g.S.Signatures.accepted c.args.ring.now)) (replay base (take c.args.place events)) e credentials) same
-    (tells (replay base (take c.args.place events)) told.statements_are told.grants_are))
+    (tells (replay base (take c.args.place events)) (record { said = told.statements_are; granted = told.grants_are; ended = told.ended_are })))

@@ -7,6 +7,7 @@ use Rattle.shared_store.specs.LockHistory.{lock_entries}
 use Rattle.session_service.specs.Sessions.{sources_of}
 use Rattle.pcfs_run.specs.Passes.{IsGrown}
 use Rattle.pcfs_run.proofs.PassLemmas.{IsGrown-closed, IsGrown-none}
+use Rattle.pcfs_run.proofs.ServedLemmas.{AreAttended-none}
 use Rattle.pcfs_run.proofs.serving.serve_store.Goals as goal
 
 pub returns-in-Ok-clause-grown : goal.returns-in-Ok-clause-grown
@@ -20,3 +21,6 @@ pub returns-in-Err-clause-grown : goal.returns-in-Err-clause-grown
 returns-in-Err-clause-grown g c =
     subst (λ (s : StoreView _). IsGrown (sources_of (g.C.Clock.gives c.args.clock.now) g.L.In.Source.left) 0 c.args.count c.args.store s) (sym (c.into_store-in-Err.ensures.same ∙ ap (λ (o : OpenedView _). o.store) (c.in-Err.ensures.err ∙ c.new-opened.ensures.opened)))
     (IsGrown-none _ c.args.store c.args.count)
+
+pub returns-in-Err-clause-attended : goal.returns-in-Err-clause-attended
+returns-in-Err-clause-attended g c = AreAttended-none c.args.count _ c.requires.some

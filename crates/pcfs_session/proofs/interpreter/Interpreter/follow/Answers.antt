@@ -3,7 +3,7 @@ use Rattle.std.proofs.Common.{subst, sym}
 use Rattle.std.proofs.lemmas.Result.{IfOk-weaker}
 use Rattle.std.proofs.lemmas.Int.{to_z-of_z}
 use Rattle.std.specs.Int.{w64}
-use Rattle.line_forms.specs.declared.command.Command.TheVariants.{Register, Verify, Procap, Checkpoint, Do}
+use Rattle.line_forms.specs.declared.command.Command.TheVariants.{Register, Withdraw, Verify, Procap, Checkpoint, Do}
 use Rattle.pcfs_session.specs.Interpreter.{IsAllowed, IsFollowed}
 use Rattle.access_history.proofs.HistoryLemmas.{SFits-moment}
 use Rattle.pcfs_session.proofs.InterpreterLemmas.{IsFollowed-at, IsFollowed-as, IsFollowed-same}
@@ -24,6 +24,11 @@ pub returns-in-Register-clause-ok : goal.returns-in-Register-clause-ok
 returns-in-Register-clause-ok g c =
     IfOk-weaker c.register.result _ _ (λ reply. LeadsTo-also g.D.Disk.clock g.D.Disk.left_since g.D.Disk.image g.D.Disk.faults (IsFollowed (Register c.in-Register.signature c.in-Register.statement)) (IsFollowed c.args.command) c.args.self.now c.register.new.self reply
     (λ met followed. IsFollowed-same _ _ c.args.command _ reply c.in-Register.is followed)) c.register.ensures.ok
+
+pub returns-in-Withdraw-clause-ok : goal.returns-in-Withdraw-clause-ok
+returns-in-Withdraw-clause-ok g c =
+    IfOk-weaker c.withdraw.result _ _ (λ reply. LeadsTo-also g.D.Disk.clock g.D.Disk.left_since g.D.Disk.image g.D.Disk.faults (IsFollowed (Withdraw c.in-Withdraw.number c.in-Withdraw.signature)) (IsFollowed c.args.command) c.args.self.now c.withdraw.new.self reply
+    (λ met followed. IsFollowed-same _ _ c.args.command _ reply c.in-Withdraw.is followed)) c.withdraw.ensures.ok
 
 pub verify-requires-clause-citable : goal.verify-requires-clause-citable
 verify-requires-clause-citable g c = subst IsAllowed c.in-Verify.is c.requires.allowed

@@ -1,0 +1,4 @@
+pub mod IndexLemmas
+pub mod ReadingLemmas
+pub mod RowLemmas
+pub mod StandingLemmas

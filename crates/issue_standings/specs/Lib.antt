@@ -1,0 +1,5 @@
+pub mod Bearing
+pub mod Gone
+pub mod Index
+pub mod Rows
+pub mod Standing

@@ -1,0 +1,178 @@
+//! The files: statements with their numbers, and facts.
+
+ghost use Rattle.std.specs.Prelude.{◌≤◌, length, IfSome};
+
+use bl_syntax::byte_classes::is_digit;
+use bl_syntax::decimal::{put_counted, put_text};
+use bl_syntax::{Bytes, Formula, NoMemory, StatePred, StatePreds, is_state_condition};
+use bl_text::{TextFault, parse_formula, parse_statement};
+use line_text::first_line;
+use proof_verifier::Cite;
+use std::alloc::Global;
+
+/// What is wrong with a line.
+#[derive(Clone, Copy)]
+pub enum LineFault {
+    /// It does not begin with a number that is greater than those before, and a space.
+    BadNumber,
+    /// Its text has this fault, at its place in the line.
+    BadText(TextFault, usize),
+    /// It is no predicate on the state without variables.
+    NoFact,
+}
+
+/// Why a file is not taken: the line of this number is wrong; or there was no memory.
+#[derive(Clone, Copy)]
+pub enum FileFault {
+    Bad(usize, LineFault),
+    NoMemory,
+}
+
+impl From<NoMemory> for FileFault {
+    fn from(_refused: NoMemory) -> FileFault {
+        FileFault::NoMemory
+    }
+}
+
+// The number that a line begins with, and the number of bytes before its text; none if there is none.
+fn leading_number(line: &[u8]) -> Option<(u32, usize)>
+    ensures { IfSome result (λ found. found.1 ≤ length line.now) }
+{
+    let mut value = 0u32;
+    for (place, byte) in line.iter().enumerate() {
+        if *byte == b' ' && 0 < place {
+            return Some((value, place + 1));
+        }
+        if !is_digit(*byte) {
+            return None;
+        }
+        value = match value.checked_mul(10) {
+            Some(tens) => match tens.checked_add(u32::from(*byte - b'0')) {
+                Some(more) => more,
+                None => return None,
+            },
+            None => return None,
+        };
+    }
+    None
+}
+
+fn text_fault(number: usize, fault: TextFault, before: usize) -> FileFault {
+    match fault {
+        TextFault::NoMemory => FileFault::NoMemory,
+        _ => FileFault::Bad(number, LineFault::BadText(fault, before)),
+    }
+}
+
+// The statement of a line with its number, which has to be greater than the last.
+fn cite_in(alloc: Global, number: usize, line: &[u8], last: u32) -> Result<Cite, FileFault> {
+    let (under, before) = match leading_number(line) {
+        Some(found) => found,
+        None => return Err(FileFault::Bad(number, LineFault::BadNumber)),
+    };
+    if under <= last {
+        return Err(FileFault::Bad(number, LineFault::BadNumber));
+    }
+    match parse_statement(alloc, &line[before..]) {
+        Ok(statement) => Ok(Cite {
+            number: under,
+            statement,
+        }),
+        Err(fault) => Err(text_fault(number, fault, before)),
+    }
+}
+
+/// The statements in a file, each with its number. Lines without a byte are passed over.
+pub fn read_statements(alloc: Global, bytes: &[u8]) -> Result<Vec<Cite>, FileFault> {
+    let mut statements = Vec::new(alloc);
+    let mut rest = bytes;
+    let mut number = 0usize;
+    let mut last = 0;
+    while let Some((line, others)) = first_line(rest) {
+        number = number.saturating_add(1);
+        rest = others;
+        if line.is_empty() {
+            continue;
+        }
+        let cite = cite_in(alloc, number, line, last)?;
+        last = cite.number;
+        match statements.push(cite) {
+            Ok(()) => {}
+            Err(_) => return Err(FileFault::NoMemory),
+        }
+    }
+    Ok(statements)
+}
+
+fn fact_in(alloc: Global, number: usize, line: &[u8]) -> Result<StatePred, FileFault> {
+    let formula = match parse_formula(alloc, line) {
+        Ok(formula) => formula,
+        Err(fault) => return Err(text_fault(number, fault, 0)),
+    };
+    match &formula {
+        Formula::State(state) => {
+            if is_state_condition(state) {
+                Ok(**state)
+            } else {
+                Err(FileFault::Bad(number, LineFault::NoFact))
+            }
+        }
+        _ => Err(FileFault::Bad(number, LineFault::NoFact)),
+    }
+}
+
+/// The facts in a file. Lines without a byte are passed over.
+pub fn read_facts(alloc: Global, bytes: &[u8]) -> Result<StatePreds, FileFault> {
+    let mut facts = StatePreds::new(alloc);
+    let mut rest = bytes;
+    let mut number = 0usize;
+    while let Some((line, others)) = first_line(rest) {
+        number = number.saturating_add(1);
+        rest = others;
+        if line.is_empty() {
+            continue;
+        }
+        let fact = fact_in(alloc, number, line)?;
+        facts.extend(&[fact])?;
+    }
+    Ok(facts)
+}
+
+fn put_text_fault(out: &mut Bytes, fault: TextFault, before: usize) -> Result<(), NoMemory> {
+    let (place, what) = match fault {
+        TextFault::Unexpected(at) => (at, "this is not expected here"),
+        TextFault::UnknownName(at) => (at, "no variable has this name"),
+        TextFault::BadDate(at) => (at, "no such date"),
+        TextFault::Sort(at) => (at, "this is of another sort than is wanted here"),
+        TextFault::TooLarge(at) => (at, "the text is too large from here on"),
+        TextFault::NoMemory => (0, "out of memory"),
+    };
+    put_counted(out, " byte ", place.saturating_add(before) as u64)?;
+    put_text(out, ": ")?;
+    put_text(out, what)
+}
+
+fn put_line_fault(out: &mut Bytes, fault: LineFault) -> Result<(), NoMemory> {
+    match fault {
+        LineFault::BadNumber => put_text(
+            out,
+            ": wanted a number greater than the last, a space and a statement",
+        ),
+        LineFault::BadText(fault, before) => put_text_fault(out, fault, before),
+        LineFault::NoFact => put_text(out, ": wanted a predicate on the state, as owner(#1,admin)"),
+    }
+}
+
+/// Writes which line of a file is wrong, and how. False, if there was no memory.
+pub fn put_file_fault(out: &mut Bytes, path: &str, fault: FileFault) -> Result<bool, NoMemory> {
+    match fault {
+        FileFault::Bad(number, fault) => {
+            put_text(out, "pcfs-prove: ")?;
+            put_text(out, path)?;
+            put_counted(out, " line ", number as u64)?;
+            put_line_fault(out, fault)?;
+            Ok(true)
+        }
+        FileFault::NoMemory => Ok(false),
+    }
+}

@@ -1,0 +1,3 @@
+pub mod AnswersLemmas
+pub mod AskedLemmas
+pub mod CitedLemmas
