@@ -61,6 +61,24 @@ def table(log):
         print(f"| {name} | {' | '.join(f'{number:,}' if number else '' for number in numbers)} |")
 
 
+def into(document, log):
+    """Puts today's sizes into the table of a document, and the seconds of a log; of a crate that the log has not, those that stand there stay."""
+    text, taken = Path(document).read_text(), seconds_of(log) if log else {}
+    begin = text.index("| crate | source | definitions | proofs | proof, s | tests, s |")
+    end = text.index("\n\n", begin)
+    head, line, *rows = text[begin:end].splitlines()
+    kept = {cells[0]: cells[4:] for cells in ([cell.strip() for cell in row.split("|")[1:-1]] for row in rows)}
+    made = []
+    for crate in crates():
+        seconds = [f"{taken[crate, phase]:,.0f}" if (crate, phase) in taken else old for phase, old in zip(PHASES, kept.get(crate, ["", ""]))]
+        made.append((crate, *sizes(crate), *seconds))
+    sums = [sum(column) for column in list(zip(*made))[1:4]]
+    sums += [sum(int(cell.replace(",", "")) for cell in column if cell) for column in list(zip(*made))[4:]]
+    lines = [f"| {name} | {' | '.join(f'{number:,}' if number and isinstance(number, int) else str(number or '') for number in numbers)} |" for name, *numbers in [*made, ("all", *sums)]]
+    text = text[:begin] + "\n".join([head, line, *lines]) + text[end:]
+    Path(document).write_text(re.sub(r"This table is of \d+ \w+ \d+", f"This table is of {time.strftime('%-d %B %Y')}", text))
+
+
 def below(root):
     """The processes below one, each with its words and the processor seconds that it took."""
     found, parents = {}, {}
@@ -105,7 +123,10 @@ def watch(log, command):
 def main():
     if sys.argv[1:2] == ["--gate"]:
         return watch(sys.argv[2], sys.argv[3:] or ["rt", "ci", "--anew"])
-    table(sys.argv[1] if len(sys.argv) > 1 else None)
+    if sys.argv[1:2] == ["--into"]:
+        into(sys.argv[2], sys.argv[3] if len(sys.argv) > 3 else None)
+    else:
+        table(sys.argv[1] if len(sys.argv) > 1 else None)
     return 0
 
 

@@ -2,6 +2,7 @@
 """Runs what the documents show, by the built program, and compares it with what they say of it.
 
 usage: documents.py [PROGRAM], by default crates/pcfs/out/pcfs. Prints a line for each document, and ends with 1 if one differs.
+       documents.py counts     needs no program: a line for each form that the documents should have, with its count, and ends with 1 if one is not so
 """
 import os
 import re
@@ -18,6 +19,7 @@ sys.path.append(str(TOP / "client"))
 sys.path.append(str(TOP / "tests/model"))
 
 from pcfs_client import Text, key_of, sign_login, sign_statement
+import document_counts
 import root_model
 
 SECRETS = EXAMPLES / "pcfs.secrets"
@@ -93,6 +95,12 @@ def of_examples(name):
                 yield f"{line.strip()} is no line of an example with the reply {reply}"
 
 
+def procap_of_first_file():
+    """The procap that PROTOCOL works out: the grant, and its tag."""
+    text = text_of("docs/PROTOCOL.md")
+    return hexadecimal(text, "by statement 1, 46 bytes") + hexadecimal(text, "its tag under")
+
+
 def protocol(run):
     """The tables of faults, and the bytes that are worked out."""
     text = text_of("docs/PROTOCOL.md")
@@ -107,18 +115,55 @@ def protocol(run):
         if Text(statement).statement() != hexadecimal(text, f"`{statement}` is"):
             yield f"the bytes of {statement}"
     procap = "".join(run.script(*EXAMPLES.joinpath("first-file.pcfs").read_text().splitlines(), "procap 1")[-1:])
-    if procap != f"ok procap {(hexadecimal(text, 'from 0 to 200, 41 bytes') + hexadecimal(text, 'its tag under')).hex()}":
+    if procap != f"ok procap {procap_of_first_file().hex()}":
         yield f"the procap of the first file is {procap}"
     admin = key_of(str(SECRETS), "admin")
     if sign_statement(admin, "admin says may(alice,#1,write) from 0 to 200").hex() not in text or sign_login(admin, "admin", bytes(16)).hex() not in text:
         yield "the signatures"
     yield from session(run, text)
+    yield from shown_lines(run, text)
     table, wanted = (block.replace("    ", "").splitlines() for block in re.search(r"((?:    .*\n)+)\nmakes five statements:\n\n((?:    .*\n)+)", text).groups())
     if run.script(*table, words=("modes", "0", "200")) != wanted:
         yield "the table of modes"
     given = [line.strip() for line in re.search(r"(    seed [0-9a-f]{64}\n    statement .*\n)", text).group(1).splitlines()]
     if run.script(*given, words=("rootsign", "1", "0")) != root_model.lines("\n".join(given).encode(), 1, 0)[0]:
         yield "the statement that a tree of hashes signs"
+
+
+def shown_lines(run, text):
+    """The lines that stand indented with `->` and the reply, as a script, or as inquiries of which each reply ends one."""
+    for block in re.findall(r"(?m)((?:^    .*\n)*(?:^    .* -> .*\n)+)", text):
+        given = [tuple(part.strip() for part in line.partition(" -> ")[::2]) for line in block.splitlines()]
+        if ".." in block:
+            continue
+        if not given[0][0].startswith(("statement", "goal")):
+            found, wanted = run.script(*(line for line, _ in given)), [reply for _, reply in given]
+        else:
+            found, wanted, lines = [], [], []
+            for line, reply in given:
+                lines += [] if line == "(no line)" else [line]
+                if reply:
+                    found, wanted, lines = found + run.script(*lines, words=("check",)), [*wanted, reply], []
+        if found != wanted:
+            yield f"{found} and not {wanted}"
+
+
+def logic(run):
+    """The faults of proofs over the statements beside them, and a proof that has to name other times."""
+    text = text_of("docs/LOGIC.md")
+    part = text.split("\n## Faults\n")[1]
+    policy = [f"register - {line.split('  ', 1)[1]}" for line in blocks(part, "")[0].splitlines()]
+    for number, _, _, _, example in rows(part, "| C | name | it means | commonest cause | example |"):
+        proof, node = re.fullmatch(r"`(.*)` at (\d+).*", example).groups() if " at " in example else ("..", "")
+        found = [] if ".." in proof else run.script(*policy, f"check bob #1 write {'3' if number == '4' else '1,2'} {proof}")[-1:]
+        if found not in ([], [f"unproved {number} {node}"]):
+            yield f"{proof}: {found}"
+    rule, fact = re.search(r"If `admin` states `(.*?)` and `(.*?)`, each from 0 to 200", text).groups()
+    proof = re.search(r"But `(.*?)` is refused with fault 3 at node 5", text)[1]
+    policy = [f"register - admin says {said} from 0 to 200" for said in (rule, fact)]
+    found = run.script(*policy, *(f"check bob #2 read 1,2 {one}" for one in (proof, proof.replace("ctime,ctime", "0,200"))))[2:]
+    if found[0] != "unproved 3 5" or not found[1].startswith("ok checked"):
+        yield f"{proof}: {found}"
 
 
 def session(run, text):
@@ -140,8 +185,11 @@ def disk(run):
     if run.held("pcfs.a") != hexadecimal(text, "`pcfs.a` has 95 bytes"):
         yield "the area after init"
     run.script(*EXAMPLES.joinpath("first-file.pcfs").read_text().splitlines(), words=("script", "--stored"))
+    event = re.sub(r"the procap of.*", procap_of_first_file().hex(), re.search(r"109 bytes:\n\n((?:    .*\n)+)", text)[1])
+    if bytes.fromhex(re.sub(r"\s", "", event)) not in run.held("pcfs.a"):
+        yield "the event of the first file's creation"
     run.script(words=("checkpoint",))
-    if run.held("pcfs.b") != hexadecimal(text, "`pcfs.b` has 270"):
+    if run.held("pcfs.b") != hexadecimal(text, "`pcfs.b` has 275"):
         yield "the area after a checkpoint"
 
 
@@ -197,9 +245,11 @@ def manual(run):
 
 
 def main():
+    if sys.argv[1:] == ["counts"]:
+        return 0 if document_counts.print_counts() else 1
     program = os.path.realpath(sys.argv[1] if len(sys.argv) > 1 else TOP / "crates/pcfs/out/pcfs")
     differs = False
-    for name, check in (("README.md", readme), ("docs/PROTOCOL.md", protocol), ("docs/DISK.md", disk), ("docs/RUNNING.md", running), ("docs/pcfs.1", manual)):
+    for name, check in (("README.md", readme), ("docs/LOGIC.md", logic), ("docs/PROTOCOL.md", protocol), ("docs/DISK.md", disk), ("docs/RUNNING.md", running), ("docs/pcfs.1", manual)):
         with tempfile.TemporaryDirectory() as folder:
             faults = list(check(Run(program, folder)))
         faults += of_examples(name) if name == "README.md" else ()

@@ -227,6 +227,16 @@ else
     differ=$((differ + 1))
 fi
 
+# stores that earlier programs made live on
+if bash "$tests/stores/check.sh" "$program" > told 2>&1; then
+    echo "agrees stores"
+    agree=$((agree + 1))
+else
+    cat told
+    echo "differs stores"
+    differ=$((differ + 1))
+fi
+
 # users have sessions over one store, over the loopback address, on a port that is free
 free_port() {
     python3 -c 'import socket; it = socket.create_server(("127.0.0.1", 0)); print(it.getsockname()[1])' 2> /dev/null

@@ -1,6 +1,6 @@
 #!/usr/bin/env bash
-# Withdrawals, by the model: its worked lines, areas, images and reports, the example, and random scripts, which
-# are drawn and answered twice. If a program that has withdrawals is named, it answers the example and the random scripts too, in
+# Withdrawals, by the model: its worked lines (of grants that name nothing), areas, images and reports, the example, and random
+# scripts, which are drawn and answered twice. If a program that has withdrawals is named, it answers the example and the random scripts too, in
 # memory and over a store with checkpoints, and opens the worked areas; and all has to be as the model says. Exits 1 if some differ.
 # usage: tests/withdrawals.sh [PROGRAM [SCRIPTS [LINES]]], by default without a program, 3 scripts of 1,000 lines each
 set -euo pipefail
@@ -23,9 +23,11 @@ model() {
     python3 "$here/model/pcfs_model.py" --withdrawals "$@"
 }
 
-agrees rows model rows "$here/model/withdrawals.rows" > told || { cat told; differ=1; }
+NAMES=0 agrees rows model rows "$here/model/withdrawals.rows" > told || { cat told; differ=1; }
 grep -v '^agrees in' told || true
-agrees areas python3 "$here/model/withdrawal_areas.py" $program > told || differ=1
+# areas with grants that name nothing, by the model alone, and with those that name what they rest on
+NAMES=0 agrees "areas of version 1" python3 "$here/model/withdrawal_areas.py" > told || differ=1
+agrees areas python3 "$here/model/withdrawal_areas.py" $program >> told || differ=1
 grep -v '^agrees in' told || true
 model script pcfs.secrets < "$examples/withdrawal.pcfs" > replies
 agrees "the example" cmp -s replies "$examples/withdrawal.replies"

@@ -484,6 +484,8 @@ def show(args, _home):
         say(f"  {low} <= {high}")
     for name, *terms in grant["states"]:
         say(f"  {name}({','.join(terms)})")
+    if grant["cited"]:
+        say(f"by statements {' '.join(map(str, grant['cited']))}")
     say(f"written again: {'the same' if formats.grant_bytes(grant) + tag == data else 'other'} bytes")
     if args.secrets:
         try:

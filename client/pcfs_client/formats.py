@@ -217,11 +217,13 @@ class Bytes:
         return (name, *[self.term() for _ in range(3 if name == "has_xattr" else 2)])
 
     def grant(self):
-        if self.take(2) != b"\x47\x01":
-            raise ValueError("no grant of version 1")
+        kind, version = self.take(2)
+        if kind != 0x47 or version not in (1, 2):
+            raise ValueError("no grant of version 1 or 2")
         grant = {"principal": self.short(), "file": self.number(8), "permission": PERMISSIONS[self.number(1) - 1]}
         grant["times"] = [self.time_condition() for _ in range(self.number(1))]
         grant["states"] = [self.state_condition() for _ in range(self.number(1))]
+        grant["cited"] = [self.number(4) for _ in range(self.number(1))] if version == 2 else []
         return grant
 
 
@@ -231,13 +233,16 @@ def term_bytes(term):
 
 def grant_bytes(grant):
     """The one spelling of a grant."""
-    out = b"\x47\x01" + short(grant["principal"]) + grant["file"].to_bytes(8, "big")
+    cited = grant.get("cited", [])
+    out = bytes([0x47, 2 if cited else 1]) + short(grant["principal"]) + grant["file"].to_bytes(8, "big")
     out += bytes([PERMISSIONS.index(grant["permission"]) + 1, len(grant["times"])])
     for condition in grant["times"]:
         out += b"".join(term_bytes(term) for term in condition)
     out += bytes([len(grant["states"])])
     for name, *terms in grant["states"]:
         out += bytes([STATE[name]]) + b"".join(term_bytes(term) for term in terms)
+    if cited:
+        out += bytes([len(cited)]) + b"".join(number.to_bytes(4, "big") for number in cited)
     return out
 
 

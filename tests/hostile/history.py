@@ -8,7 +8,7 @@ from pcfs_audit_model import CODES, procap_at, proof_bytes, read_proof, read_wor
 from pcfs_client import STATE, short, tag_of
 from pcfs_model import CTIME, FIRST, LAST, MOST_BYTES, MOST_PARTS, MOST_RULES, OPERATIONS, SORTS
 from pcfs_model import Bad, Bytes, Reply, Server, Statement, Undecided
-from pcfs_model import condition_text, grant_bytes, grant_of, is_stated, need, nodes_of, read_procap, term_bytes
+from pcfs_model import condition_text, grant_bytes, grant_of, is_stated, need, nodes_of, read_named, read_procap, read_version, term_bytes
 
 MOST_STATEMENTS = 4096
 
@@ -55,7 +55,7 @@ def names_state(formula):
 def grant_at(reading):
     """The grant at the front."""
     start = reading.at
-    need(reading.take(2) == b"\x47\x01")
+    version = read_version(reading)
     reading.name(), reading.number(8), reading.perm()
     for _ in range(reading.number(1)):
         reading.term(), reading.term()
@@ -63,8 +63,19 @@ def grant_at(reading):
         tag = reading.number(1)
         need(tag in STATE.values())
         reading.state(tag)
+    read_named(reading, version)
     grant, _ = read_procap(reading.data[start : reading.at] + bytes(32))
     return grant
+
+
+def plain(grant):
+    """The grant without the statements that it names."""
+    return grant._replace(cited=())
+
+
+def issued_form(verdict, numbers):
+    """The grant of a proof from the statements of these numbers, as it is issued."""
+    return verdict._replace(cited=tuple(numbers)) if switches.names else verdict
 
 
 def is_same(one, other):
@@ -254,7 +265,7 @@ class History(Server):
     def take_verdict(self, event):
         """Takes the grant of an issue as the verdict on its proof, as another process has found it to be."""
         grant = event.grant
-        self.verdicts.setdefault(self.case(event.numbers, grant.who, grant.file, grant.perm, event.proof_bytes), grant)
+        self.verdicts.setdefault(self.case(event.numbers, grant.who, grant.file, grant.perm, event.proof_bytes), plain(grant))
 
     def add(self, event):
         """Adds an event: the cause for which it is damage, or else none, and the reply to who asked for it."""
@@ -290,7 +301,7 @@ class History(Server):
         if not 1 <= len(numbers) <= 64 or not rising or numbers[0] < 1 or numbers[-1] > len(self.statements):
             return False
         verdict = self.verdict(numbers, grant.who, grant.file, grant.perm, event.proof, event.proof_bytes)
-        return not isinstance(verdict, str) and is_same(verdict, grant)
+        return not isinstance(verdict, str) and grant.cited in ((), tuple(numbers)) and is_same(verdict, plain(grant))
 
     def add_issued(self, event):
         if not self.gives(event) or None in map(self.live, event.numbers):

@@ -47,9 +47,14 @@ def image_of(state, withdrawn=None):
     return VERSION + image + counted([one.to_bytes(4, "big") for one in numbers])
 
 
+def is_versioned(image):
+    """Whether the image has a version. With names those of earlier programs are read too: they have none."""
+    return switches.withdrawals and (image[:1] == VERSION or not switches.names)
+
+
 def count_in(image):
     """The number of the last event before the image."""
-    begin = 8 + (len(VERSION) if switches.withdrawals else 0)
+    begin = 8 + (len(VERSION) if is_versioned(image) else 0)
     return int.from_bytes(image[begin : begin + 8], "big")
 
 
@@ -70,13 +75,14 @@ class ImageReader:
         """The moment, the number of the last event, that of the next node, statements, issues, nodes, and the withdrawn numbers."""
         reading = self.reading
         try:
-            need(not switches.withdrawals or reading.take(1) == VERSION)
+            versioned = is_versioned(reading.data)
+            need(not versioned or reading.take(1) == VERSION)
             moment = int.from_bytes(reading.take(8), "big", signed=True)
             need(FIRST <= moment <= LAST)
             count, following = reading.number(8), reading.number(8)
             statements, issues = self.many(self.reader.registered), self.many(self.reader.issued)
             nodes = self.nodes()
-            withdrawn = self.withdrawn(len(statements)) if switches.withdrawals else []
+            withdrawn = self.withdrawn(len(statements)) if versioned else []
             need(is_tree(nodes, following) and reading.at == len(reading.data) and count <= LAST_EVENT)
         except (Undecided, ValueError, IndexError, RecursionError, OverflowError) as fault:
             raise Bad() from fault

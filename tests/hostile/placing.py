@@ -16,7 +16,7 @@ from itertools import islice
 from areas import LIMIT, Damaged, generation, image_in, records
 from found import ROW, Found
 from history import MOST_STATEMENTS, Acted, History, Issued, Registered, Withdrawn
-from history import acted_bytes, is_same, issued_bytes, registered_bytes, withdrawn_bytes
+from history import acted_bytes, is_same, issued_bytes, issued_form, registered_bytes, withdrawn_bytes
 from images import count_in, image_of
 from lines import LONGEST, Lines, is_accepted, is_in_table
 from pcfs_client import tag_of
@@ -378,13 +378,13 @@ class Placing:
             want(reply, verdict)
             return Place(least, most)
         if reply == b"full":
-            return self.place_when_full(issued_bytes(numbers, proof, verdict), least, most)
+            return self.place_when_full(issued_bytes(numbers, proof, issued_form(verdict, numbers)), least, most)
         found = ISSUE.fullmatch(reply)
         if not found or int(found[1]) >= len(self.issue_events):
             raise Wrong("and the proof gives a grant")
         want(found[2], f"time {len(verdict.times)} state {len(verdict.states)}")
         event = self.issue_events[int(found[1])]
-        if key_of(self.events[event]) != key_asked(asked, caller) or not is_same(self.events[event].grant, verdict):
+        if key_of(self.events[event]) != key_asked(asked, caller) or not is_same(self.events[event].grant, issued_form(verdict, numbers)):
             raise Wrong(f"and that is event {event}, {str(self.events[event])[:300]}")
         return Place(event - 1, event - 1, event)
 

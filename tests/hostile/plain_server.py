@@ -13,7 +13,7 @@ import time
 
 from areas import HEADER, LIMIT, Damaged, begin_of, bytes_of, generation, newest, opened, records
 from damage import made
-from history import Acted, History, Issued, Registered, Withdrawn
+from history import Acted, History, Issued, Registered, Withdrawn, issued_form
 from images import image_of
 from lines import LONGEST, Lines, is_accepted
 from pcfs_audit_model import CODES, cited_bytes, signature_bytes, withdrawal_bytes, word_bytes
@@ -162,7 +162,7 @@ class Kept:
         if WRONG == "withdrawn-held":
             time.sleep(0.2)
         with self.lock:
-            return (None if WRONG == "withdrawn-held" else self.absent(numbers)) or self.keep(Issued(numbers, proof, proof_bytes, verdict))
+            return (None if WRONG == "withdrawn-held" else self.absent(numbers)) or self.keep(Issued(numbers, proof, proof_bytes, issued_form(verdict, numbers)))
 
     def procap(self, asked, caller):
         (number,) = asked.words

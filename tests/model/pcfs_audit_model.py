@@ -167,7 +167,7 @@ def read_event(payload):
 def procap_at(reading):
     """The procap at the front: the shortest part that is one."""
     start = reading.at
-    need(reading.take(2) == b"\x47\x01")
+    version = pcfs_model.read_version(reading)
     reading.name(), reading.number(8), reading.perm()
     for _ in range(reading.number(1)):
         reading.term(), reading.term()
@@ -175,6 +175,7 @@ def procap_at(reading):
         tag = reading.number(1)
         need(tag in pcfs_model.STATE.values())
         reading.state(tag)
+    pcfs_model.read_named(reading, version)
     reading.take(32)
     return read_procap(reading.data[start : reading.at])
 
@@ -223,7 +224,7 @@ class Auditor(Server):
                 self.verdicts[case] = grant_bytes(grant_of(cited, grant.who, grant.file, grant.perm, proof))
             except Reply:
                 self.verdicts[case] = None
-        if self.verdicts[case] != grant_bytes(grant):
+        if grant.cited not in ((), tuple(numbers)) or self.verdicts[case] != grant_bytes(grant._replace(cited=())):
             return "unproved"
         self.keep_issue(grant, numbers)
         return None

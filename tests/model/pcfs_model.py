@@ -214,15 +214,34 @@ def condition_text(condition):
 
 # ---- grants and procaps --------------------------------------------------------------------------------------------
 
-Grant = namedtuple("Grant", "who file perm times states")
+Grant = namedtuple("Grant", "who file perm times states cited", defaults=[()])  # `cited` are the numbers of the statements that it names
+MOST_NAMED = 64
 
 
 def grant_bytes(grant):
-    out = b"\x47\x01" + short(grant.who) + grant.file.to_bytes(8, "big")
+    out = bytes([0x47, 2 if grant.cited else 1]) + short(grant.who) + grant.file.to_bytes(8, "big")
     out += bytes([PERMISSIONS.index(grant.perm) + 1, len(grant.times)])
     out += b"".join(term_bytes(low) + term_bytes(high) for _, low, high in grant.times)
     out += bytes([len(grant.states)])
-    return out + b"".join(bytes([STATE[name]]) + b"".join(map(term_bytes, terms)) for _, name, *terms in grant.states)
+    out += b"".join(bytes([STATE[name]]) + b"".join(map(term_bytes, terms)) for _, name, *terms in grant.states)
+    return out + (bytes([len(grant.cited)]) + b"".join(one.to_bytes(4, "big") for one in grant.cited) if grant.cited else b"")
+
+
+def read_version(reading):
+    """The version of the grant that begins here."""
+    need(reading.take(1) == b"\x47")
+    version = reading.number(1)
+    need(version == 1 or version == 2 and switches.names)
+    return version
+
+
+def read_named(reading, version):
+    """The numbers of the statements that a grant of this version names: none, or 1 to 64 from 1 on, which rise."""
+    if version == 1:
+        return ()
+    numbers = [reading.number(4) for _ in range(reading.number(1))]
+    need(1 <= len(numbers) <= MOST_NAMED and all(a < b for a, b in zip([0, *numbers], numbers)))
+    return tuple(numbers)
 
 
 def is_constant(term):
@@ -231,7 +250,7 @@ def is_constant(term):
 
 def read_procap(data):
     reading = Bytes(data)
-    need(reading.take(2) == b"\x47\x01")
+    version = read_version(reading)
     who, file, perm = reading.name(), reading.number(8), reading.perm()
     times = [("cons", reading.term(), reading.term()) for _ in range(reading.number(1))]
     states = []
@@ -239,12 +258,13 @@ def read_procap(data):
         tag = reading.number(1)
         need(tag in STATE.values())
         states.append(reading.state(tag))
+    cited = read_named(reading, version)
     tag = reading.take(32)
     need(reading.at == len(data) and len(times) + len(states) <= 64)
     need(len(set(times)) == len(times) and len(set(states)) == len(states))
     need(all(CTIME in condition and all(term == CTIME or is_constant(term) for term in condition[1:]) for condition in times))
     need(all(all(map(is_constant, condition[2:])) for condition in states))
-    return Grant(who, file, perm, times, states), tag
+    return Grant(who, file, perm, times, states, cited), tag
 
 
 # ---- proofs --------------------------------------------------------------------------------------------------------
@@ -750,7 +770,7 @@ class Server:
         for number, statement in zip(numbers, statements):
             if self.live(number) != statement:
                 raise Reply(f"absent {number}")
-        self.keep_issue(grant, numbers)
+        self.keep_issue(grant._replace(cited=tuple(numbers)) if switches.names else grant, numbers)
         self.count += 1
         return f"ok issue {len(self.issues)} time {len(grant.times)} state {len(grant.states)}"
 
@@ -759,8 +779,11 @@ class Server:
         self.bearers.setdefault(grant_bytes(grant), []).append(numbers)
 
     def gone(self, grant):
-        """The number for which the grant is gone: it was issued, and each issue of it cites a withdrawn statement; then it is the first
-        of these that the last issue cites. None if it is not gone."""
+        """The number for which the grant is gone. Of one that names statements it is the first of these that was withdrawn. One that names
+        none is gone if it was issued, and each issue of it cites a withdrawn statement; then it is the first of these that the last
+        issue cites. None if it is not gone."""
+        if grant.cited:
+            return next((one for one in grant.cited if one in self.withdrawn), None)
         found = [[one for one in numbers if one in self.withdrawn] for numbers in self.bearers.get(grant_bytes(grant), ())]
         return found[-1][0] if found and all(found) else None
 
@@ -1276,10 +1299,13 @@ class DrawnWithdrawals(Drawn):
         needed = [number]
         if sources[number] == "rule":
             needed.append(self.one_of(self.employees.get(who, [1])))
-        others = [draw.randint(1, len(self.texts)) for _ in range(draw.choice([0, 0, 0, 0, 1, 1, 2, 3]))]
+        others = [draw.randint(1, len(self.texts)) for _ in range(self.count_of_others())]
         cited = sorted({*needed, *(one for one in others if draw.random() < 0.2 or self.server.live(one))})
         text = self.proof_text(sources[number], who, len(cited), *map(cited.index, needed))
         return f"{who} {file} {perm} {','.join(map(str, cited))} {text if draw.random() < 0.93 else draw.choice(['trueR', 'saysR(trueR)'])}"
+
+    def count_of_others(self):
+        return self.draw.choice([0, 0, 0, 0, 1, 1, 2, 3])
 
     def proof_text(self, shape, who, count, place, other=0):
         """A proof from the statement at that place among so many, of which a rule needs one other."""

@@ -1,6 +1,7 @@
 #!/usr/bin/env python3
 """Compares what the model finds in areas, images and histories with withdrawals with what was worked out by hand; so too what the
-program finds in the areas, if one is named.
+program finds in the areas, if one is named. With NAMES=0 that is of grants that name nothing, by a program which reads no image of
+version 1; else of grants that name the statement that they rest on, by which a record with one is five bytes longer.
 
 usage: withdrawal_areas.py [PROGRAM]. Prints a line for each group, and ends with 1 if one differs.
 """
@@ -34,6 +35,8 @@ OTHER = "loc says may(alice,#1,write) from 0 to 200"
 PROOF = "saysR(claim(0,init(1)))"
 FIRST_FILE = ["at 100", f"register - {STATEMENT}", f"verify alice #1 write 1 {PROOF}", "as alice", "do create #1 notes @1"]
 SIGNED = sign_withdrawal(key_of(SECRETS_FILE, "admin"), STATEMENT)
+NAMED = 5 if switches.names else 0  # a count of one and the number of a statement
+SECOND, THIRD, WHOLE = 247 + NAMED, 356 + 2 * NAMED, 357 + 2 * NAMED  # where the issue and the operation of FIRST_FILE end, and the area
 FORGED = "470105616c6963650000000000000001020000b3d8d85771d6c101aeba7d0b86dc1d6cccb6e5cf43d2192d5ed78f66f54ef466"
 
 
@@ -92,16 +95,16 @@ def messages():
 
 def first_file():
     whole = area(*payloads_of(*FIRST_FILE))
-    yield len(whole), 357
-    yield [end for _, end in records(whole)], [184, 247, 356]
+    yield len(whole), WHOLE
+    yield [end for _, end in records(whole)], [184, SECOND, THIRD]
     yield len(image_in(whole)) + 24, 94
 
 
 def checkpoint():
     image = image_of(state_after(*FIRST_FILE))
     whole = area(image=image, generation=2)
-    yield len(whole), 270
-    yield whole[:24].hex(), "01504346530000010000000000000002" "00000000000000f5"
+    yield len(whole), 270 + NAMED
+    yield whole[:24].hex(), "01504346530000010000000000000002" + (0xF5 + NAMED).to_bytes(8, "big").hex()
     yield (image[0], image[-4:].hex()), (2, "00000000")
     withdrawn = image_of(state_after(*FIRST_FILE, "withdraw 1 -"))
     yield len(withdrawn), len(image) + 4
@@ -124,7 +127,7 @@ def cut_wanted(size):
         return "nostore"
     if size < 94:
         return "damaged 0 1"
-    for number, (begin, end) in enumerate([(94, 184), (184, 247), (247, 356)], 1):
+    for number, (begin, end) in enumerate([(94, 184), (184, SECOND), (SECOND, THIRD)], 1):
         if size == begin:
             return f"opens with {number - 1}"
         if size < end:
@@ -144,7 +147,7 @@ def flipped(whole, place):
 
 def flipped_area():
     whole = area(*payloads_of(*FIRST_FILE))
-    for place, wanted in (0, "nostore"), (183, "damaged 1 3"), (194, "damaged 2 4"), (245, "damaged 2 4"), (347, "damaged 3 5"), (355, "opens with 3"):
+    for place, wanted in (0, "nostore"), (183, "damaged 1 3"), (194, "damaged 2 4"), (245, "damaged 2 4"), (THIRD - 9, "damaged 3 5"), (THIRD - 1, "opens with 3"):
         yield found(flipped(whole, place)), wanted
     yield found(flipped(whole, 24)), "damaged 0 2"
 
@@ -152,18 +155,22 @@ def flipped_area():
 def cut_withdrawal():
     """A store whose last record, the withdrawal, is cut at each byte."""
     whole = area(*payloads_of(*FIRST_FILE, "withdraw 1 -"))
-    yield len(whole), 357 + 46
-    for size in range(356, len(whole) + 1):
-        yield found(whole[:size]), "opens with 3" if size == 356 else "damaged 4 2" if size < 402 else "opens with 4"
-    for place, wanted in (356, "opens with 3"), (361, "damaged 4 2"), (365, "damaged 4 2"), (369, "damaged 4 2"), (370, "damaged 4 3"), (401, "damaged 4 3"):
-        yield found(flipped(whole, place)), wanted
+    yield len(whole), WHOLE + 46
+    for more in range(48):
+        yield found(whole[: THIRD + more]), "opens with 3" if more == 0 else "damaged 4 2" if more < 46 else "opens with 4"
+    for more, wanted in (0, "opens with 3"), (5, "damaged 4 2"), (9, "damaged 4 2"), (13, "damaged 4 2"), (14, "damaged 4 3"), (45, "damaged 4 3"):
+        yield found(flipped(whole, THIRD + more)), wanted
 
 
 # ---- damages -----------------------------------------------------------------------------------------------------------
 
 
 def old_image():
-    yield found(area(image=FRESH_TODAY)), "damaged 0 2"
+    """An image without a version is read if grants may name statements; whatever begins with the version is of it."""
+    yield found(area(image=FRESH_TODAY)), "opens with 0" if switches.names else "damaged 0 2"
+    yield found(area(*payloads_of(*FIRST_FILE, "withdraw 1 -"), image=FRESH_TODAY)), "opens with 4" if switches.names else "damaged 0 2"
+    yield found(area(image=FRESH_TODAY + bytes(4))), "damaged 0 2"
+    yield found(area(image=FRESH_TODAY[:-1])), "damaged 0 2"
     yield found(area(image=b"\0" + FRESH_TODAY[1:])), "damaged 0 2"
     yield found(area(image=b"")), "damaged 0 2"
     yield found(area(image=b"\x02")), "damaged 0 2"
@@ -216,8 +223,13 @@ def order_of_causes():
     yield found(area(one, two, three, taken, late[:-8] + (201).to_bytes(8, "big"))), "damaged 5 5"
     second = payloads_of(f"register - {STATEMENT}", f"register - {OTHER}", f"verify alice #1 write 2 {PROOF}")[2]
     other = payloads_of(f"register - {OTHER}")[0]
-    yield found(area(one, other, two, second, taken, three)), "opens with 6"
-    yield found(area(one, other, two, taken, second, three)), "opens with 6"
+    by_second = payloads_of(f"register - {STATEMENT}", f"register - {OTHER}", f"verify alice #1 write 2 {PROOF}", "as alice", "do create #1 notes @1")[3]
+    # the grant of the second issue is that of the first, unless each names its own statement
+    still = "damaged 6 5" if switches.names else "opens with 6"
+    yield found(area(one, other, two, second, taken, three)), still
+    yield found(area(one, other, two, taken, second, three)), still
+    yield found(area(one, other, two, second, taken, by_second)), "opens with 6"
+    yield found(area(one, other, two, taken, second, by_second)), "opens with 6"
     locs = withdrawal_bytes(2, sign_withdrawal(key_of(SECRETS_FILE, "loc"), OTHER))
     yield found(area(one, other, two, taken, locs, three)), "damaged 6 5"
     yield found(area(one, other, two, second, taken, locs, three)), "damaged 7 5"
@@ -325,7 +337,7 @@ def held_proof():
     yield told(server, [1, 2, 3], statements, grant), "absent 2"
     yield (len(server.issues), server.count), (0, 5)
     yield told(server, [1], statements[:1], grant), "ok issue 1 time 2 state 0"
-    yield grant_bytes(server.issues[0]), grant_bytes(grant)
+    yield grant_bytes(server.issues[0]), grant_bytes(grant._replace(cited=(1,)) if switches.names else grant)
 
 
 def told(server, numbers, statements, grant):

@@ -23,7 +23,7 @@ use Rattle.access_history.specs.declared.reply.DenialCause.{DenialCause}
 use Rattle.access_history.specs.declared.reply.DenialCause.TheVariants as causes
 use Rattle.access_history.specs.declared.event.Issue.{Issue}
 use Rattle.access_history.specs.Base.{BaseView}
-use Rattle.access_history.specs.Gone.{bearing, bearings, gone}
+use Rattle.access_history.specs.Gone.{bearing, bearings, gone, gone_by_issues, gone_naming}
 use Rattle.access_history.specs.Numbered.{IsNumbered}
 use Rattle.access_history.specs.Authority.{sayings}
 use Rattle.access_history.specs.Books.{book_of, statements_in}
@@ -32,7 +32,7 @@ use Rattle.access_history.specs.Admission.{wanted_goal, causes_from, condition_c
 use Rattle.access_history.specs.Lawful.{IsDerived, AreDerived, WasIssued}
 use Rattle.access_history.proofs.ListLemmas.{AllByRecursion-parts, AllByRecursion-weaker, AllByRecursion-contains, Contains-image, IsImage, IsImage-from_map}
 use Rattle.access_history.proofs.NumberedLemmas.{numbered_item, none_fails, first_failing}
-use Rattle.access_history.proofs.CitingLemmas.{Includes-cited, SoundGrant-granted, stand_if_none}
+use Rattle.access_history.proofs.CitingLemmas.{Includes-cited, SoundGrant-granted, cited_named, stand_if_none}
 
 module _ (key : List ℕ) (state : BaseView) (moment : ℤ) (goal : Goal) (p : Procap) where
   times_hold : (place : ℕ) (times : List Constraint) → AllByRecursion (Passes key state moment goal p) (causes_from causes.Time place times) → AllByRecursion (HoldsAt moment) times
@@ -103,11 +103,23 @@ live_by state g live image = record {
   none_withdrawn = ap (λ (b : BearingView). find (is_withdrawn state.statements) b.cited) image.same ∙ live.none_withdrawn;
 }
 
--- a grant that was issued and is not gone has one
-live_of : (state : BaseView) (g : GrantView) → WasIssued state.issues g → gone state g ≡ None → IsLiveIssue state g
-live_of state g was not_gone =
+-- a grant without names that was issued and is not gone has one
+live_plain : (state : BaseView) (g : GrantView) → WasIssued state.issues g → gone_by_issues state g ≡ None → IsLiveIssue state g
+live_plain state g was not_gone =
     let live = live_issue (is_withdrawn state.statements) g (bearings state.issues) (bearing was.issue) (Contains-image bearing state.issues was.issue was.among) was.grant_is not_gone in
     live_by state g live (IsImage-from_map bearing state.issues live.bearing live.among)
+
+-- a grant that names statements, none of which was withdrawn, was issued by one as well
+live_named : (state : BaseView) (g : GrantView) (named : List ℕ) → g.cited ≡ named → AllByRecursion (IsGoodIssue (sayings state.statements)) state.issues → WasIssued state.issues g → gone_naming state g named ≡ None →
+    IsLiveIssue state g
+live_named state g [] names good was not_gone = live_plain state g was not_gone
+live_named state g (number ∷ numbers) names good was not_gone =
+    let issue : IsGoodIssue (sayings state.statements) was.issue = AllByRecursion-contains (IsGoodIssue (sayings state.statements)) state.issues was.issue good was.among in
+    let cited : was.issue.cited ≡ number ∷ numbers = cited_named (sayings state.statements) was.issue number numbers issue (ap (λ (h : GrantView). h.cited) was.grant_is ∙ names) in
+    record { issue = was.issue; among = was.among; grant_is = was.grant_is; none_withdrawn = subst (λ (ns : List ℕ). find (is_withdrawn state.statements) ns ≡ None) (sym cited) not_gone }
+
+live_of : (state : BaseView) (g : GrantView) → AllByRecursion (IsGoodIssue (sayings state.statements)) state.issues → WasIssued state.issues g → gone state g ≡ None → IsLiveIssue state g
+live_of state g good was not_gone = live_named state g g.cited refl good was not_gone
 
 IsDerived-met : (key : List ℕ) (state : BaseView) (caller : List ℕ) (procaps : List Procap) (moment : ℤ) → AllByRecursion (IsGoodIssue (sayings state.statements)) state.issues → (need : Need) → IsNeedMet key state caller procaps moment need → IsDerived state caller procaps moment need
 IsDerived-met key state caller procaps moment good need met p brought was =
@@ -115,7 +127,7 @@ IsDerived-met key state caller procaps moment good need met p brought was =
     let statements = statements_in (book_of state) in
     let same : met.procap ≡ p = numbered_item procaps need.place met.procap p met.brought brought in
     let admits : Admits key state moment (wanted_goal caller need) p = subst (Admits key state moment (wanted_goal caller need)) same met.admits in
-    let live : IsLiveIssue state p.grant = live_of state p.grant was (not_gone-admits key state moment (wanted_goal caller need) p admits) in
+    let live : IsLiveIssue state p.grant = live_of state p.grant good was (not_gone-admits key state moment (wanted_goal caller need) p admits) in
     let issue : IsGoodIssue registered live.issue = AllByRecursion-contains (IsGoodIssue registered) state.issues live.issue good live.among in
     let stand = stand_if_none state.statements issue.cites issue.stand (subst (λ (ns : List ℕ). find (is_withdrawn state.statements) ns ≡ None) issue.cited live.none_withdrawn) in
     let sound : SoundGrant statements live.issue.grant =

@@ -1,16 +1,18 @@
 -- Statements by their numbers: what a number holds, which statements stand, what numbers come to, and that an issue stays good if statements are added.
 use Rattle.std.proofs.Common.{◌≡◌, ◌∙◌, ◌⊎◌, ◌+◌, inl, inr, ℕ, zero, suc, List, [], ◌∷◌, ◌++◌, length, Bool, true, false, if◌then◌else◌, Option, Some, None, IsSome, Result, Ok, Err, refl, sym, ap, subst, ⊎_elim, arith}
-use Rattle.std.specs.Prelude.{Contains, find, option_and_then}
+use Rattle.std.specs.Prelude.{◌↔◌, IsTrue, Contains, find, option_and_then}
 use Rattle.std.specs.List.{AllByRecursion, slice_get}
 use Rattle.std.specs.Option.{option_map, option_map_or}
+use Rattle.std.proofs.lemmas.Bool.{false≢true}
 use Rattle.std.proofs.lemmas.List.{length-map, map-append}
 use Rattle.std.proofs.lemmas.List.Elements.{Contains-append_right}
 use Rattle.std.proofs.lemmas.Option.{none-some, same_Some, slice_get-map}
-use Rattle.bl_syntax.specs.Citable.{AreCitable, DoRise}
+use Rattle.bl_syntax.specs.Citable.{AreCitable, AreNamed, DoRise}
 use Rattle.bl_syntax.specs.declared.grant.Goal.{Goal}
 use Rattle.bl_syntax.specs.Grant.{GrantView, IsGrant}
 use Rattle.bl_syntax.specs.Statement.{StatementView}
-use Rattle.bl_syntax.proofs.GrantLemmas.{Contains-head}
+use Rattle.bl_syntax.proofs.CitableLemmas.{AreNamed-citable}
+use Rattle.bl_syntax.proofs.GrantLemmas.{Contains-head, IsGrant-naming}
 use Rattle.bl_rules.specs.Allowed.{SoundGrant}
 use Rattle.bl_rules.specs.Richer.{Includes}
 use Rattle.policy_statement.specs.Registered.{RegisteredView}
@@ -23,11 +25,12 @@ use Rattle.proof_verifier.specs.Run.{IsFault}
 use Rattle.proof_verifier.specs.Verdict.{verdict}
 use Rattle.proof_verifier.specs.declared.fault.CheckFault.{CheckFault}
 use Rattle.proof_verifier.specs.declared.fault.CheckFault.TheVariants as checks
+use Rattle.proof_verifier.proofs.SoundnessVerdict.{cited-verdict}
 use Rattle.access_history.specs.declared.event.Issue.{Issue}
 use Rattle.access_history.specs.Authority.{sayings}
 use Rattle.access_history.specs.Base.{BaseView}
 use Rattle.access_history.specs.Books.{Book, whole_book, live_book, statements_in, book_of}
-use Rattle.access_history.specs.Citing.{numbers_of, StandsUnderNumber, IsHeld, AreFound, IsAbsent, IsGrantOf, as_proved, issued_grant, IsGrantedFrom, IsGoodIssue, MayBeIssued}
+use Rattle.access_history.specs.Citing.{numbers_of, StandsUnderNumber, IsHeld, AreFound, IsAbsent, IsGrantOf, as_proved, naming, issued_grant, IsGrantedFrom, IsGoodIssue, MayBeIssued}
 use Rattle.access_history.specs.Numbered.{IsNumbered, HasNumber}
 use Rattle.access_history.proofs.EitherLemmas.{OrNot, HasFailing, all_or_failing, HasItem, item_or_none}
 use Rattle.access_history.proofs.ListLemmas.{AllByRecursion-weaker, AllByRecursion-contains}
@@ -398,34 +401,67 @@ IsGoodIssue-more statements more issue good = record {
   granted = good.granted;
 }
 
--- a grant is issued as it was proved
-pub form_is : (proved g : GrantView) (numbers : List ℕ) → IsGrantOf proved numbers g → proved ≡ g
-form_is proved _ numbers as_proved = refl
-
--- what is issued of a sound grant is sound, and a grant
+-- what is issued of a sound grant is sound: what it allows does not rest on what it names
 SoundGrant-form : (statements : List StatementView) (proved g : GrantView) (numbers : List ℕ) → IsGrantOf proved numbers g → SoundGrant statements proved → SoundGrant statements g
 SoundGrant-form statements proved _ numbers as_proved sound = sound
+SoundGrant-form statements proved _ numbers naming sound = record { allows = λ moment facts holds. sound.allows moment facts (record { times = holds.times; states = holds.states }) }
 
-IsGrant-form : (proved g : GrantView) (numbers : List ℕ) → IsGrantOf proved numbers g → IsGrant proved → IsGrant g
-IsGrant-form proved _ numbers as_proved is = is
+-- and a grant, if the numbers may be named
+IsGrant-form : (proved g : GrantView) (numbers : List ℕ) → AreNamed numbers → IsGrantOf proved numbers g → IsGrant proved → IsGrant g
+IsGrant-form proved _ numbers named as_proved is = is
+IsGrant-form proved _ numbers named naming is = IsGrant-naming proved numbers is (inr named)
+
+-- what stands under its number has a number from 1 on, so that what is cited may be named
+pub AreNamed-stand : (book : Book) (cites : List Cite) → AreCited cites → AllByRecursion (StandsUnderNumber book) cites → AreNamed (numbers_of cites)
+AreNamed-stand book [] cited stand = let citable = AreCitable-numbers [] cited in absurd (omega (arith, citable.some))
+AreNamed-stand book (cite ∷ cites) cited stand =
+    AreNamed-citable cite.number (numbers_of cites) (AreCitable-numbers (cite ∷ cites) cited) (omega (arith, stand.0.from_one))
 
 pub SoundGrant-granted : (cites : List Cite) (proof : ProofView) (g : GrantView) → IsGrantedFrom cites proof g → SoundGrant (statements_of cites) g
 SoundGrant-granted cites proof g granted = SoundGrant-form (statements_of cites) granted.proved g (numbers_of cites) granted.form granted.granted.sound
 
-pub IsGrant-granted : (cites : List Cite) (proof : ProofView) (g : GrantView) → IsGrantedFrom cites proof g → IsGrant g
-IsGrant-granted cites proof g granted = IsGrant-form granted.proved g (numbers_of cites) granted.form granted.granted.is_grant
+-- and the grant of a good issue is one
+pub IsGrant-good : (statements : List StatementView) (issue : Issue) → IsGoodIssue statements issue → IsGrant issue.grant
+IsGrant-good statements issue good =
+    IsGrant-form good.granted.proved issue.grant (numbers_of good.cites) (AreNamed-stand (whole_book statements) good.cites good.rising good.stand) good.granted.form good.granted.granted.is_grant
+
+named_form : (proved g : GrantView) (numbers : List ℕ) (number : ℕ) (others : List ℕ) → IsGrantOf proved numbers g → proved.cited ≡ [] → g.cited ≡ number ∷ others → numbers ≡ number ∷ others
+named_form proved _ numbers number others as_proved none names = let both = sym none ∙ names in absurd cc
+named_form proved _ numbers number others naming none names = names
+
+-- what the grant of a good issue names is what the issue cites
+pub cited_named : (statements : List StatementView) (issue : Issue) (number : ℕ) (others : List ℕ) → IsGoodIssue statements issue → issue.grant.cited ≡ number ∷ others → issue.cited ≡ number ∷ others
+cited_named statements issue number others good names =
+    good.cited
+    ∙ named_form good.granted.proved issue.grant (numbers_of good.cites) number others good.granted.form
+    (cited-verdict (statements_of good.cites) issue.grant.goal issue.proof good.granted.proved good.granted.granted.verdict_is) names
+
+-- a grant that is the proved one has the form
+pub proved_form : (proved g : GrantView) (numbers : List ℕ) (same : Bool) → same ≡ true → IsTrue same ↔ (g ≡ proved) → IsTrue same ↔ IsGrantOf proved numbers g
+proved_form proved g numbers same is decides = (λ so. subst (IsGrantOf proved numbers) (sym (decides.0 so)) as_proved, λ form. is)
+
+-- and one that is another has it if it is the proved one with these numbers
+pub naming_form : (proved g : GrantView) (numbers : List ℕ) (same with_names : Bool) → same ≡ false → IsTrue same ↔ (g ≡ proved) → IsTrue with_names ↔ (g ≡ record proved { cited = numbers }) →
+    IsTrue with_names ↔ IsGrantOf proved numbers g
+naming_form proved g numbers same with_names differs is_same is_naming = (
+  λ so. subst (IsGrantOf proved numbers) (sym (is_naming.0 so)) naming,
+  λ form. told g form is_same is_naming,
+) where
+  told : (h : GrantView) → IsGrantOf proved numbers h → IsTrue same ↔ (h ≡ proved) → IsTrue with_names ↔ (h ≡ record proved { cited = numbers }) → IsTrue with_names
+  told _ as_proved is_same is_naming = absurd (false≢true (sym differs ∙ is_same.1 refl))
+  told _ naming is_same is_naming = is_naming.1 refl
 
 -- what a proof grants is granted from what it cites
-pub granted_as : (cites : List Cite) (goal : Goal) (proof : ProofView) (proved g : GrantView) → IsGranted (statements_of cites) goal proof proved → goal ≡ g.goal → proved ≡ g → IsGrantedFrom cites proof g
-granted_as cites goal proof proved g granted of_goal same = record {
+pub granted_as : (cites : List Cite) (goal : Goal) (proof : ProofView) (proved g : GrantView) → IsGranted (statements_of cites) goal proof proved → goal ≡ g.goal → IsGrantOf proved (numbers_of cites) g → IsGrantedFrom cites proof g
+granted_as cites goal proof proved g granted of_goal form = record {
   proved = proved;
   granted = subst (λ (w : Goal). IsGranted (statements_of cites) w proof proved) of_goal granted;
-  form = subst (IsGrantOf proved (numbers_of cites)) same as_proved;
+  form = form;
 }
 
 -- the grant of a checked proof is, in the form in which it is issued
 pub IsGrantedFrom-checked : (checked : CheckedView) → IsChecked checked → IsGrantedFrom checked.cited checked.proof (issued_grant checked.grant (numbers_of checked.cited))
-IsGrantedFrom-checked checked is = granted_as checked.cited checked.goal checked.proof checked.grant checked.grant is (sym is.same_goal) refl
+IsGrantedFrom-checked checked is = granted_as checked.cited checked.goal checked.proof checked.grant (issued_grant checked.grant (numbers_of checked.cited)) is (sym is.same_goal) naming
 
 abbrev graded : GrantView → Result GrantView CheckFault
 graded g = Ok g
@@ -436,11 +472,11 @@ refusal_of fault = Err fault
 same_graded : (first second : GrantView) → graded first ≡ graded second → first ≡ second
 same_graded first second same = cc
 
--- and nothing else is
-pub granted_is : (cites : List Cite) (goal : Goal) (proof : ProofView) (proved g : GrantView) → verdict (statements_of cites) goal proof ≡ Ok proved → goal ≡ g.goal → IsGrantedFrom cites proof g → proved ≡ g
+-- and it is in one of the two forms
+pub granted_is : (cites : List Cite) (goal : Goal) (proof : ProofView) (proved g : GrantView) → verdict (statements_of cites) goal proof ≡ Ok proved → goal ≡ g.goal → IsGrantedFrom cites proof g → IsGrantOf proved (numbers_of cites) g
 granted_is cites goal proof proved g is of_goal from =
     let both : graded proved ≡ graded from.proved = sym is ∙ ap (λ (w : Goal). verdict (statements_of cites) w proof) of_goal ∙ from.granted.verdict_is in
-    same_graded proved from.proved both ∙ form_is from.proved g (numbers_of cites) from.form
+    subst (λ (p : GrantView). IsGrantOf p (numbers_of cites) g) (sym (same_graded proved from.proved both)) from.form
 
 -- a proof that is refused grants nothing
 pub refused_grants_none : (cites : List Cite) (proof : ProofView) (g : GrantView) (fault : CheckFault) → (fault ≡ checks.NoMemory → ⊥) → IsFault fault (verdict (statements_of cites) g.goal proof) → IsGrantedFrom cites proof g → ⊥

@@ -1,6 +1,6 @@
 -- A history that keeps one more event.
-use Rattle.std.proofs.Common.{◌≡◌, ℕ, ◌+◌, ◌-◌, ◌^◌, ◌<◌, Bool, Bor, cond, List, [], ◌∷◌, ◌++◌, sym, ap, subst, ◌∙◌, arith}
-use Rattle.std.specs.Prelude.{Result, Ok, is_ok, ℤ, MatchOption, Option, Some, None}
+use Rattle.std.proofs.Common.{◌≡◌, ℕ, ◌+◌, ◌-◌, ◌^◌, ◌<◌, Bool, Bor, cond, List, [], ◌∷◌, ◌++◌, length, refl, sym, ap, subst, ◌∙◌, arith}
+use Rattle.std.specs.Prelude.{Result, Ok, find, is_ok, ℤ, MatchOption, Option, Some, None}
 use Rattle.std.proofs.lemmas.List.{length-append}
 use Rattle.std.specs.Int.{w64}
 use Rattle.std.specs.Option.{option_copied}
@@ -29,7 +29,7 @@ use Rattle.access_history.specs.declared.history.History.TheInside.{Inside}
 use Rattle.access_history.specs.Base.{BaseView}
 use Rattle.access_history.specs.Books.{live_book}
 use Rattle.access_history.specs.Citing.{IsHeld}
-use Rattle.access_history.specs.Gone.{bearings, gone}
+use Rattle.access_history.specs.Gone.{bearings, gone, gone_by_issues, gone_by_names, gone_naming}
 use Rattle.access_history.specs.Numbered.{IsNumbered}
 use Rattle.access_history.specs.Authority.{Authority}
 use Rattle.access_history.specs.History.{HistoryView, authority_with, authority_of, state_of, world_of, IsReadyFor, IsReadyIn}
@@ -161,8 +161,27 @@ knows_shown h k p keeping is shown shown_is genuine = record {
 }
 
 -- what the index tells of a grant holds of the state
-pub gone_shown : (h : Inside) (k : HistoryView) (g : GrantView) (shown : List Issue) (found : Option ℕ) → IsKeeping h → kept_by h ≡ k → shown ≡ h.issues.items → found ≡ gone_by (standing_of (is_withdrawn h.statements.entries) g (bearings shown)) → found ≡ gone (state_of k) g
+pub gone_shown : (h : Inside) (k : HistoryView) (g : GrantView) (shown : List Issue) (found : Option ℕ) → IsKeeping h → kept_by h ≡ k → shown ≡ h.issues.items → found ≡ gone_by (standing_of (is_withdrawn h.statements.entries) g (bearings shown)) → found ≡ gone_by_issues (state_of k) g
 gone_shown h k g shown found keeping is shown_is found_is =
     found_is
     ∙ (ap (λ (is : List Issue). gone_by (standing_of (is_withdrawn h.statements.entries) g (bearings is))) shown_is
-    ∙ ap (λ (s : BaseView). gone s g) (keeping.state_is ∙ ap state_of is))
+    ∙ ap (λ (s : BaseView). gone_by_issues s g) (keeping.state_is ∙ ap state_of is))
+
+-- a list of no items
+pub no_items : {A : Type 0} (items : List A) → length items ≡ 0 → items ≡ []
+no_items [] none = refl
+no_items (item ∷ items) none = absurd (omega (arith, none))
+
+-- a grant that names no statements is gone by its issues
+pub gone_plain : (k : HistoryView) (g : GrantView) (found : Option ℕ) (named : List ℕ) → named ≡ g.cited → named ≡ [] → found ≡ gone_by_issues (state_of k) g → found ≡ gone (state_of k) g
+gone_plain k g found named named_is none found_is = found_is ∙ ap (gone_naming (state_of k) g) (sym none ∙ named_is)
+
+-- some numbers are looked at, and none else
+by_names : (state : BaseView) (g : GrantView) (named : List ℕ) → (named ≡ [] → ⊥) → gone_by_names state named ≡ gone_naming state g named
+by_names state g [] some = absurd (some refl)
+by_names state g (number ∷ numbers) some = refl
+
+-- one that names some is gone by these
+pub gone_named : (h : Inside) (k : HistoryView) (g : GrantView) (named : List ℕ) (found : Option ℕ) → IsKeeping h → kept_by h ≡ k → named ≡ g.cited → (named ≡ [] → ⊥) → found ≡ find (is_withdrawn h.statements.entries) named → found ≡ gone (state_of k) g
+gone_named h k g named found keeping is named_is some found_is =
+    found_is ∙ (ap (λ (s : BaseView). gone_by_names s named) (keeping.state_is ∙ ap state_of is) ∙ (by_names (state_of k) g named some ∙ ap (gone_naming (state_of k) g) named_is))

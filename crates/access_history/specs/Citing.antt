@@ -49,15 +49,16 @@ pub record IsMoved (book : Book) (cites : List Cite) (number : ℕ) : Type 0 whe
 
 -- ---- issues
 
--- what a proof from the statements of these numbers grants, as it is issued: as it was proved
+-- what a proof from the statements of these numbers grants: as it was proved, or naming them. The first form was issued once, and is read; it is issued no more
 pub data IsGrantOf (proved : GrantView) (numbers : List ℕ) : GrantView → Type 0 where
   as_proved : IsGrantOf proved numbers proved
+  naming : IsGrantOf proved numbers (record proved { cited = numbers })
 
--- the form in which the grant of a checked proof is issued
+-- the form in which the grant of a checked proof is issued: naming what its proof cites
 abbrev pub issued_grant : GrantView → List ℕ → GrantView
-issued_grant proved numbers = proved
+issued_grant proved numbers = record proved { cited = numbers }
 
--- the grant is the verdict on the proof from what is cited, in a form in which it is issued. The verdict is sound: wherever its conditions hold, the logic derives from the cited statements what it grants
+-- the grant is the verdict on the proof from what is cited, in one of the two forms. The verdict is sound: wherever its conditions hold, the logic derives from the cited statements what it grants
 pub record IsGrantedFrom (cites : List Cite) (proof : ProofView) (g : GrantView) : Type 0 where
   pub proved : GrantView
   pub granted : IsGranted (statements_of cites) g.goal proof proved

@@ -1,7 +1,8 @@
 -- Laws of the definitions: states of lawful histories are lawful, a request has exactly one answer, what is admitted is kept, and the headline holds of what is lawful.
 -- What rests on withdrawn statements is denied, and what is withdrawn is withdrawn for good.
-use Rattle.std.specs.Prelude.{◌≡◌, ◌↔◌, ℕ, ℤ, List, true, Option, Some, None, Contains}
+use Rattle.std.specs.Prelude.{◌≡◌, ◌↔◌, ℕ, ℤ, List, [], true, Option, Some, None, Contains}
 use Rattle.bl_syntax.specs.TimeOrder.{IsMoment}
+use Rattle.bl_syntax.specs.Citable.{AreNamed}
 use Rattle.bl_syntax.specs.Grant.{GrantView}
 use Rattle.bl_syntax.specs.Statement.{StatementView}
 use Rattle.procap.specs.declared.procap.Procap.{Procap}
@@ -27,7 +28,7 @@ use Rattle.access_history.specs.WellFormed.{IsWellFormed}
 use Rattle.access_history.specs.Authority.{Authority, CanRegister, sayings}
 use Rattle.access_history.specs.Books.{book_of}
 use Rattle.access_history.specs.Citing.{HoldsNone}
-use Rattle.access_history.specs.Gone.{bearings, gone}
+use Rattle.access_history.specs.Gone.{bearings, gone, IsFirstWithdrawn}
 use Rattle.access_history.specs.Numbered.{IsNumbered}
 
 -- the world of the state after a lawful history is within its limits
@@ -68,15 +69,20 @@ AdmittedAreKept = (authority : Authority) (state : BaseView) (pass : ℕ) (clock
 abbrev pub LawfulIsRightful : Type 0
 LawfulIsRightful = (authority : Authority) (base : BaseView) (events : List Event) → IsLawful authority base events → Headline authority base events (replay base events).world
 
--- the number told of a grant is the one by which it is gone: it was issued, each of its issues cites a withdrawn number, and the last of them this one first
+-- the number told of a grant that names no statements is the one by which it is gone: it was issued, each of its issues cites a withdrawn number, and the last of them this one first
 abbrev pub GoneIsTold : Type 0
-GoneIsTold = (state : BaseView) (g : GrantView) (number : ℕ)
+GoneIsTold = (state : BaseView) (g : GrantView) (number : ℕ) → g.cited ≡ []
     → (gone state g ≡ Some number) ↔ IsGoneBy (is_withdrawn state.statements) g (bearings state.issues) number
+
+-- the number told of a grant that names statements is the first of these that was withdrawn
+abbrev pub NamedGoneIsTold : Type 0
+NamedGoneIsTold = (state : BaseView) (g : GrantView) (number : ℕ) → AreNamed g.cited
+    → (gone state g ≡ Some number) ↔ IsFirstWithdrawn (is_withdrawn state.statements) g.cited number
 
 -- what needs a procap whose grant is gone is not admitted
 abbrev pub GoneAreDenied : Type 0
 GoneAreDenied = (key : List ℕ) (state : BaseView) (caller : List ℕ) (op : Op) (procaps : List Procap) (moment : ℤ) (need : Need) (p : Procap) (number : ℕ)
-    → Contains (needs state.world op) need → IsNumbered procaps need.place p → IsGoneBy (is_withdrawn state.statements) p.grant (bearings state.issues) number
+    → Contains (needs state.world op) need → IsNumbered procaps need.place p → gone state p.grant ≡ Some number
     → IsAdmitted key state caller op procaps moment → ⊥
 
 -- the statement of the number was withdrawn: it stands no more, the number is withdrawn and keeps it, and no equal one can be registered

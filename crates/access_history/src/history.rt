@@ -8,7 +8,7 @@ use crate::event::{Addition, Event, Issue};
 use crate::keeping::{add_to_state, apply_event};
 use bl_syntax::{Grant, NoMemory, Principal, Statement};
 use file_world::{Op, OpFault, OpReply};
-use issue_standings::Standings;
+use issue_standings::{Standings, first_withdrawn};
 use policy_statement::{Keyring, Registered, Registry};
 use procap::{Procap, SealKey};
 use std::alloc::Global;
@@ -56,7 +56,7 @@ impl History {
     ghost use Rattle.access_history.specs.Authority.{sayings};
     ghost use Rattle.access_history.specs.Books.{book_of};
     ghost use Rattle.access_history.specs.Citing.{HoldsNone};
-    ghost use Rattle.access_history.specs.Gone.{gone};
+    ghost use Rattle.access_history.specs.Gone.{gone, gone_by_issues};
     ghost use Rattle.procap.specs.Genuine.{IsGenuine};
     ghost use Rattle.access_history.specs.Issued.{IsIssued};
     ghost use Rattle.access_history.specs.Numbered.{HasNone, IsNumbered};
@@ -197,10 +197,22 @@ impl History {
     }
 
     /// The number of the withdrawn statement by which the grant of a sealed procap is gone; none exactly if it is not gone.
-    /// It takes no memory, and goes over no issues.
+    /// It takes no memory, and goes over no issues: of a grant that names statements, each of these is looked at.
     pub fn gone(&self, procap: &Procap) -> Option<u32>
         requires { IsGenuine self.now.key procap.now }
         ensures { result ≡ gone (state_of self.now) procap.now.grant }
+    {
+        let named = procap.grant.cited();
+        if named.is_empty() {
+            return self.gone_by_issues(procap);
+        }
+        first_withdrawn(&self.statements, named)
+    }
+
+    // The number of the withdrawn statement by which the grant of a sealed procap is gone, as its issues tell.
+    fn gone_by_issues(&self, procap: &Procap) -> Option<u32>
+        requires { IsGenuine self.now.key procap.now }
+        ensures { result ≡ gone_by_issues (state_of self.now) procap.now.grant }
     {
         self.standings
             .gone_by(&self.statements, self.issues.as_slice(), procap)

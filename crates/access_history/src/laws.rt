@@ -1,6 +1,6 @@
 //! Laws of the definitions. The functions do nothing: each contract is a law.
 
-ghost use Rattle.access_history.specs.Laws.{HistoriesKeepWorlds, StatesAreLawfulBases, AnswersAreDetermined, RequestsHaveAnswers, AnswersMayFollow, FreshIsLawful, AdmittedAreKept, LawfulIsRightful, GoneIsTold, GoneAreDenied, WithdrawnForGood};
+ghost use Rattle.access_history.specs.Laws.{HistoriesKeepWorlds, StatesAreLawfulBases, AnswersAreDetermined, RequestsHaveAnswers, AnswersMayFollow, FreshIsLawful, AdmittedAreKept, LawfulIsRightful, GoneIsTold, NamedGoneIsTold, GoneAreDenied, WithdrawnForGood};
 
 /// The world of the state after a lawful history is within its limits.
 pub fn histories_keep_worlds()
@@ -43,10 +43,15 @@ pub fn lawful_histories_are_rightful()
     ensures { LawfulIsRightful }
 {}
 
-/// The number told of a grant is exactly the one by which it is gone: the grant was issued, each of its issues cites a
-/// withdrawn statement, and that is the first withdrawn number that the last of them cites.
+/// The number told of a grant that names no statements is exactly the one by which it is gone: the grant was issued, each of
+/// its issues cites a withdrawn statement, and that is the first withdrawn number that the last of them cites.
 pub fn gone_grants_are_told()
     ensures { GoneIsTold }
+{}
+
+/// The number told of a grant that names statements is exactly the first of them that was withdrawn.
+pub fn named_grants_are_gone_by_their_names()
+    ensures { NamedGoneIsTold }
 {}
 
 /// An operation is not admitted that needs a procap whose grant is gone.

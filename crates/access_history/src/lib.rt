@@ -6,6 +6,7 @@
 #![tactic(auto)]
 
 mod base;
+mod citing;
 mod copying;
 mod event;
 mod history;
@@ -15,14 +16,15 @@ mod reply;
 mod request;
 
 pub use base::Base;
+pub use citing::is_grant_of;
 pub use copying::keep_copy;
 pub use event::{Addition, Event, Events, Issue, Issues, Procaps, Statements};
 pub use history::History;
 pub use laws::{
     admitted_operations_are_kept, answers_are_determined, answers_may_follow, fresh_is_lawful,
     gone_grants_are_denied, gone_grants_are_told, histories_keep_worlds,
-    lawful_histories_are_rightful, requests_have_answers, states_are_lawful_bases,
-    withdrawn_statements_stay_withdrawn,
+    lawful_histories_are_rightful, named_grants_are_gone_by_their_names, requests_have_answers,
+    states_are_lawful_bases, withdrawn_statements_stay_withdrawn,
 };
 pub use reply::{Denial, DenialCause, Rejection, StepReply};
 pub use request::StepRequest;

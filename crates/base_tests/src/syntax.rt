@@ -1,10 +1,12 @@
 //! Formulas, statements and grants: each call once, and the faults of formulas that no line of a script reaches.
 
+ghost use Rattle.std.specs.Prelude.{◌≡◌, ◌∷◌, []};
+
 use bl_syntax::boxes::{constraint_of, every_of, state_of};
 use bl_syntax::{
-    Constraint, Formula, Goal, Grant, NodeId, Perm, Principal, Sequence, Sort, StatePred,
-    Statement, SyntaxFault, Term, TimePoint, Word, check_formula, holds_at, instantiate, is_moment,
-    stronger,
+    Constraint, Formula, Goal, Grant, NodeId, Numbers, Perm, Principal, Sequence, Sort, StatePred,
+    Statement, SyntaxFault, Term, TimePoint, Word, check_formula, copy_numbers, holds_at,
+    instantiate, is_moment, stronger,
 };
 use std::alloc::Global;
 use std::test::Fail;
@@ -272,6 +274,37 @@ fn is_grant_copied(alloc: Global, grant: &Grant) -> Result<bool, Fail> {
 fn is_conditional_copied(alloc: Global) -> Result<bool, Fail> {
     let grant = conditional(alloc)?;
     Ok(grant.times().len() == 1 && grant.states().len() == 1 && is_grant_copied(alloc, &grant)?)
+}
+
+// A copy of the grant that names statements 1 and 3 is that grant with these numbers, and not the same as without them.
+fn does_name(alloc: Global, grant: &Grant) -> Result<bool, Fail> {
+    let numbers = copy_numbers(alloc, &[1, 3])?;
+    let named = naming_1_and_3(grant.copy(alloc)?, numbers);
+    Ok(
+        named.cited() == [1, 3].as_slice()
+            && named.is_naming(grant, &[1, 3])
+            && !named.is_same(grant)
+            && named.copy(alloc)?.is_same(&named)
+            && grant.cited().is_empty(),
+    )
+}
+
+// The grant that names these, which are 1 and 3.
+fn naming_1_and_3(grant: Grant, numbers: Numbers) -> Grant
+    requires { numbers ≡ 1 ∷ 3 ∷ [] }
+{
+    grant.naming(numbers)
+}
+
+fn do_names_differ(alloc: Global) -> Result<bool, Fail> {
+    let grant = conditional(alloc)?;
+    does_name(alloc, &grant)
+}
+
+#[test]
+fn grants_name_statements(rt: HostRuntime) -> Result<(), Fail> {
+    assert!(rt; do_names_differ(rt.alloc())?);
+    Ok(())
 }
 
 #[test]

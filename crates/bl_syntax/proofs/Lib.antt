@@ -1,4 +1,5 @@
 pub mod BeginsWithLemmas
+pub mod CitableLemmas
 pub mod CodecLemmas
 pub mod ConditionLemmas
 pub mod ConditionTestLemmas

@@ -8,6 +8,7 @@ use Rattle.bl_syntax.specs.declared.terms.Constraint.{Constraint}
 use Rattle.bl_syntax.specs.declared.terms.StatePred.{StatePred}
 use Rattle.bl_syntax.specs.declared.grant.Goal.{Goal}
 use Rattle.bl_syntax.specs.declared.limits.TheConstants.{MOST_CONDITIONS}
+use Rattle.bl_syntax.specs.Citable.{AreNamed}
 use Rattle.bl_syntax.specs.Terms.{IsConstant, HasTimeInRange, AreInOrder, constraint_at}
 use Rattle.bl_syntax.specs.WellSorted.{terms_of_state}
 
@@ -40,9 +41,9 @@ abbrev pub AreDistinct : {A : Type 0} → List A → Type 0
 AreDistinct [] = Unit {0}
 AreDistinct (x ∷ xs) = (Contains xs x → ⊥) × AreDistinct xs
 
--- which statements a grant may name: none
+-- which statements a grant may name: none, or those that its proof cites
 abbrev pub MayName : List ℕ → Type 0
-MayName numbers = numbers ≡ []
+MayName numbers = (numbers ≡ []) ⊎ AreNamed numbers
 
 -- what a grant keeps: conditions of these forms, each once, at most 64 together, and numbers that it may name
 pub record IsGrant (g : GrantView) : Type 0 where

@@ -32,7 +32,7 @@ pub use codec_fault::CodecFault;
 pub use conditions::{holds_at, is_constant_in_range, is_state_condition, is_time_condition};
 pub use formula::Formula;
 pub use grant::{Goal, Grant};
-pub use lists::{Bytes, NoMemory, Numbers, Sequence, copy_bytes};
+pub use lists::{Bytes, NoMemory, Numbers, Sequence, copy_bytes, copy_numbers};
 pub use names::{Principal, Text, Word};
 pub use reading::{read_name, read_term, read_text, read_time};
 pub use short::Short;

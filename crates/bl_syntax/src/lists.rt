@@ -51,6 +51,13 @@ pub fn copy_bytes(alloc: Global, bytes: &[u8]) -> Result<Bytes, NoMemory>
 /// Numbers, as of statements.
 pub type Numbers = Sequence<u32>;
 
+/// The numbers in memory of their own.
+pub fn copy_numbers(alloc: Global, numbers: &[u32]) -> Result<Numbers, NoMemory>
+    ensures { IfOk result (λ owned. owned ≡ numbers.now) }
+{
+    Ok(Sequence::from_vec(Vec::from_slice(alloc, numbers)?))
+}
+
 impl<T> Sequence<T> {
     /// The empty list. It takes no memory.
     pub fn new(alloc: Global) -> Sequence<T>

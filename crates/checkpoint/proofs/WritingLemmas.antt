@@ -1,5 +1,5 @@
 -- What a state is written of fits the fields of an image.
-use Rattle.std.proofs.Common.{◌≡◌, ℕ, ℤ, ◌<◌, ◌≤◌, ◌^◌, List, [], ◌∷◌, ◌++◌, length, map, Option, Some, None, false, true, refl, sym, ap, ap₂, ◌∙◌, subst, arith, append_assoc}
+use Rattle.std.proofs.Common.{◌≡◌, ℕ, ℤ, ◌<◌, ◌≤◌, ◌^◌, List, [], ◌∷◌, ◌++◌, length, sym, ap, ap₂, ◌∙◌, subst, arith, append_assoc}
 use Rattle.std.specs.Prelude.{IsTrue}
 use Rattle.std.specs.List.{AllByRecursion}
 use Rattle.std.proofs.lemmas.List.{length-map}
@@ -14,7 +14,7 @@ use Rattle.file_world.specs.World.{Item, World, IsWorld}
 use Rattle.access_history.specs.declared.event.Issue.{Issue}
 use Rattle.access_history.specs.Authority.{IsSignedEntry}
 use Rattle.access_history.specs.Base.{BaseView}
-use Rattle.access_history.specs.Citing.{numbers_of, IsGoodIssue}
+use Rattle.access_history.specs.Citing.{IsGoodIssue}
 use Rattle.access_history.specs.History.{authority_with}
 use Rattle.access_history.specs.Lawful.{IsLawfulBase}
 use Rattle.access_history.specs.Authority.{sayings}
@@ -26,10 +26,10 @@ use Rattle.node_rows.specs.Rows.{item_rows, AreOfSameNodes}
 use Rattle.node_rows.proofs.NameLengthLemmas.{short_name_or_none, short_attribute_name}
 use Rattle.checkpoint_image.specs.NodeSpelling.{nodes_spelling, IsSpellableNode, AreSpellableNodes, HasFittingParts}
 use Rattle.checkpoint_image.specs.ImageSpelling.{head_spelling, statements_spelling, issues_spelling, fields_spelling, image_spelling, IsSpellableEntry, IsSpellableIssue, IsSpellableImage, HasFittingSignature, HasFewCited, HaveFittingRows}
-use Rattle.checkpoint_image.specs.WithdrawnNumbers.{withdrawn_numbers_spelling}
+use Rattle.checkpoint_image.specs.WithdrawnNumbers.{AreStanding, withdrawn_numbers_spelling}
 use Rattle.checkpoint_image.proofs.LoopLemmas.{as_many_rows}
 use Rattle.checkpoint_image.proofs.WorldLemmas.{worlds_have_images}
-use Rattle.checkpoint.specs.Reading.{IsSpelledAs, current}
+use Rattle.checkpoint.specs.Reading.{IsSpelledAs, IsImageOf, current, old}
 use Rattle.checkpoint.specs.Writing.{FitsImage, IsWrittenImageOf, state_with, front_spelling}
 
 -- ---- nodes
@@ -100,6 +100,40 @@ is_image world statements issues moment count image front rows is fits counted e
       issues = record { few = fits.issues.few; each = each };
       nodes = worlds_have_images world is;
     }
+
+-- a state whose fields were written, and in which all statements stand, is spelled by them
+pub is_old_image : (base : BaseView) → IsWorld base.world → FitsImage base → base.count < 2 ^ 64 → AllByRecursion IsSpellableEntry base.statements → AllByRecursion IsSpellableIssue base.issues → AreStanding base.statements
+    → IsImageOf base (fields_spelling base)
+is_old_image base is fits counted entries each stands = record { world = is; spelled = old (record { spelled = spellable; standing = stands }) }
+  where
+    spellable : IsSpellableImage base
+    spellable = record {
+      moment = fits.moment;
+      count = counted;
+      next = omega (arith, is.tree.next_fits);
+      statements = record { few = fits.statements.few; each = entries };
+      issues = record { few = fits.issues.few; each = each };
+      nodes = worlds_have_images base.world is;
+    }
+
+-- the fields of a state, one written after the other
+pub each_field_written : (base : BaseView) (out head stated issued all : List ℕ) (moment : ℤ) (count next : ℕ) (statements : List RegisteredView) (issues : List Issue) (rows : List (ℕ × Item))
+    → moment ≡ base.moment → count ≡ base.count → next ≡ base.world.next → statements ≡ base.statements → issues ≡ base.issues → rows ≡ base.world.rows
+    → head ≡ out ++ head_spelling moment count next → stated ≡ head ++ statements_spelling statements → issued ≡ stated ++ issues_spelling issues → all ≡ issued ++ nodes_spelling rows
+    → all ≡ out ++ fields_spelling base
+unfolding fields_spelling
+each_field_written base out head stated issued all moment count next statements issues rows moment_is count_is next_is statements_are issues_are rows_are head_is stated_is issued_is all_is =
+    let h : List ℕ = head_spelling base.moment base.count base.world.next in
+    let s : List ℕ = statements_spelling base.statements in
+    let i : List ℕ = issues_spelling base.issues in
+    let n : List ℕ = nodes_spelling base.world.rows in
+    let of_head : head_spelling moment count next ≡ h =
+    ap (λ (m : ℤ). head_spelling m count next) moment_is ∙ (ap (λ (k : ℕ). head_spelling base.moment k next) count_is ∙ ap (λ (k : ℕ). head_spelling base.moment base.count k) next_is) in
+    let first : head ≡ out ++ h = head_is ∙ ap (λ (b : List ℕ). out ++ b) of_head in
+    let second : stated ≡ (out ++ h) ++ s = stated_is ∙ (ap (λ (b : List ℕ). b ++ statements_spelling statements) first ∙ ap (λ (es : List RegisteredView). (out ++ h) ++ statements_spelling es) statements_are) in
+    let third : issued ≡ ((out ++ h) ++ s) ++ i = issued_is ∙ (ap (λ (b : List ℕ). b ++ issues_spelling issues) second ∙ ap (λ (is : List Issue). ((out ++ h) ++ s) ++ issues_spelling is) issues_are) in
+    let fourth : all ≡ (((out ++ h) ++ s) ++ i) ++ n = all_is ∙ (ap (λ (b : List ℕ). b ++ nodes_spelling rows) third ∙ ap (λ (rs : List (ℕ × Item)). (((out ++ h) ++ s) ++ i) ++ nodes_spelling rs) rows_are) in
+    fourth ∙ (append_assoc ((out ++ h) ++ s) i n ∙ (append_assoc (out ++ h) s (i ++ n) ∙ append_assoc out h (s ++ (i ++ n))))
 
 -- ---- signatures and cited numbers
 

@@ -1,9 +1,12 @@
 //! Writing the image of a state.
 
-ghost use Rattle.std.specs.Prelude.{◌≡◌, IfOk};
+ghost use Rattle.std.specs.Prelude.{◌≡◌, ◌++◌, IfOk, OnErr, OnOk};
+ghost use Rattle.bl_syntax.specs.BeginsWith.{BeginsWith};
 ghost use Rattle.std.specs.List.{AllByRecursion};
 ghost use Rattle.access_history.specs.History.{state_of};
-ghost use Rattle.checkpoint_image.specs.ImageSpelling.{IsSpellableEntry, IsSpellableIssue, AreSpelledIn, HasFittingSignature, HasFewCited};
+ghost use Rattle.checkpoint_image.specs.ImageSpelling.{fields_spelling, IsSpellableEntry, IsSpellableIssue, AreSpelledIn, HasFittingSignature, HasFewCited};
+ghost use Rattle.checkpoint_image.specs.WithdrawnNumbers.{AreStanding};
+ghost use Rattle.checkpoint.specs.Reading.{IsImageOf};
 ghost use Rattle.checkpoint.specs.Writing.{FitsImage, IsWrittenImageOf, state_with, front_spelling};
 
 use access_history::{Base, History, Issue};
@@ -88,6 +91,41 @@ fn image_of(
     write_nodes(tree.as_slice(), meta.as_slice(), &mut image)?;
     write_withdrawn_numbers(statements, &mut image)?;
     Ok(image)
+}
+
+/// Adds the image of version 1 of a state, or nothing. None of its statements was withdrawn.
+pub fn write_old_image(alloc: Global, base: &Base, out: &mut Bytes) -> Result<(), NoMemory>
+    requires fits { FitsImage base.now }
+    requires standing { AreStanding base.now.statements }
+    ensures ok { OnOk result (out.new ≡ out.old ++ fields_spelling base.now) }
+    ensures image { OnOk result (IsImageOf base.now (fields_spelling base.now)) }
+    ensures err { OnErr result (out.new ≡ out.old) }
+{
+    let len = out.len();
+    let added = add_old_image(alloc, base, out);
+    if added.is_err() {
+        out.truncate(len);
+    }
+    added
+}
+
+// Adds the fields of a state, or a front of them.
+#[tactic(auto, using(bl_syntax::proofs::BeginsWithLemmas::writing))]
+fn add_old_image(alloc: Global, base: &Base, out: &mut Bytes) -> Result<(), NoMemory>
+    requires fits { FitsImage base.now }
+    requires standing { AreStanding base.now.statements }
+    ensures ok { OnOk result (out.new ≡ out.old ++ fields_spelling base.now) }
+    ensures image { OnOk result (IsImageOf base.now (fields_spelling base.now)) }
+    ensures err { OnErr result (BeginsWith out.new out.old) }
+{
+    let world = base.world();
+    let next = world.tree().next_number();
+    write_head(base.moment(), base.count(), next, out)?;
+    write_statements(base.statements(), out)?;
+    write_issues(base.issues(), out)?;
+    let (tree, meta) = world.to_rows(alloc)?;
+    write_nodes(tree.as_slice(), meta.as_slice(), out)?;
+    Ok(())
 }
 
 /// The image of a state. Beside its bytes, memory is taken for one copy of the nodes.

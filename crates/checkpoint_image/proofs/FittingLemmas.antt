@@ -16,8 +16,9 @@ use Rattle.node_rows.proofs.NameLengthLemmas.{short_name_or_none, short_attribut
 use Rattle.checkpoint_image.specs.declared.image.Image.{Image}
 use Rattle.checkpoint_image.specs.NodeSpelling.{IsSpellableNode, AreSpellableNodes, HasFittingParts}
 use Rattle.checkpoint_image.specs.ImageSpelling.{IsSpellableEntry, IsSpellableIssue, AreSpelledIn, IsSpellableImage, HasFittingSignature, HasFewCited, HaveFittingRows, HasFittingFields}
-use Rattle.checkpoint_image.specs.ImageReading.{image_at, base_of_image}
-use Rattle.checkpoint_image.proofs.ImageLemmas.{image_codec}
+use Rattle.checkpoint_image.specs.ImageReading.{fields_at, image_at, base_of_image}
+use Rattle.checkpoint_image.specs.WithdrawnNumbers.{AreStanding}
+use Rattle.checkpoint_image.proofs.ImageLemmas.{fields_codec, image_codec}
 use Rattle.checkpoint_image.proofs.LoopLemmas.{as_many_rows}
 
 signatures_fit : (statements : List RegisteredView) → AllByRecursion IsSpellableEntry statements → AllByRecursion HasFittingSignature statements
@@ -59,3 +60,15 @@ pub reads_what_fits : {X : Type 0} (behind : X → List ℕ) (image_of : X → I
     → IfOk result (λ x. AreOfSameNodes (image_of x).tree (image_of x).meta) → IfOk result (λ x. HasFittingFields (image_of x))
 reads_what_fits behind image_of input bytes (Ok x) fits h same = image_fits (image_of x) (image_codec.found input bytes (behind x) (base_of_image (image_of x)) fits h).0 same
 reads_what_fits behind image_of input bytes (Err fault) fits h same = tt
+
+-- and so may one of version 1
+pub reads_old_what_fits : {X : Type 0} (behind : X → List ℕ) (image_of : X → Image) (input : ℕ) (bytes : List ℕ) (result : Result X CodecFault) → AreBytes bytes → GivesReadingOrReports (λ x. (base_of_image (image_of x), behind x)) result (fields_at input bytes)
+    → IfOk result (λ x. AreOfSameNodes (image_of x).tree (image_of x).meta) → IfOk result (λ x. HasFittingFields (image_of x))
+reads_old_what_fits behind image_of input bytes (Ok x) fits h same = image_fits (image_of x) (fields_codec.found input bytes (behind x) (base_of_image (image_of x)) fits h).0.spelled same
+reads_old_what_fits behind image_of input bytes (Err fault) fits h same = tt
+
+-- and all its statements stand
+pub reads_old_standing : {X : Type 0} (behind : X → List ℕ) (image_of : X → Image) (input : ℕ) (bytes : List ℕ) (result : Result X CodecFault) → AreBytes bytes → GivesReadingOrReports (λ x. (base_of_image (image_of x), behind x)) result (fields_at input bytes)
+    → IfOk result (λ x. AreStanding (image_of x).statements)
+reads_old_standing behind image_of input bytes (Ok x) fits h = (fields_codec.found input bytes (behind x) (base_of_image (image_of x)) fits h).0.standing
+reads_old_standing behind image_of input bytes (Err fault) fits h = tt

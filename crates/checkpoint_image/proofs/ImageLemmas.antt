@@ -151,7 +151,7 @@ fields_are base h =
     let is = h.spelled in
     ((is.moment, (is.count, is.next)), (record { few = is.statements.few; each = each_standing base.statements is.statements.each h.standing }, (is.issues, is.nodes)))
 
-fields_codec : IsCodec AreFieldsOf fields_spelling fields_at
+pub fields_codec : IsCodec AreFieldsOf fields_spelling fields_at
 unfolding head_spelling fields_spelling
 fields_codec =
     made_codec (AreBoth IsHead AreLists) (both_spelling heads_spelling lists_spelling) parts_at AreFieldsOf fields_spelling base_of_parts parts_of_base

@@ -5,5 +5,6 @@ pub mod ImageLemmas
 pub mod LoopLemmas
 pub mod NodeLemmas
 pub mod OrderLemmas
+pub mod StoredLemmas
 pub mod WithdrawnLemmas
 pub mod WorldLemmas

@@ -1,5 +1,5 @@
 -- Reading the image of a state from the left: the state and the bytes after it, or the first fault. Whether its nodes are a tree is no question of a single field. This project's own.
-use Rattle.std.specs.Prelude.{ℕ, ℤ, List, [], ◌∷◌, ◌==◌, false, length, if◌then◌else◌, Result, Ok, Err}
+use Rattle.std.specs.Prelude.{ℕ, ℤ, Bool, List, [], ◌∷◌, ◌==◌, false, length, if◌then◌else◌, Result, Ok, Err}
 use Rattle.bl_syntax.specs.declared.codec_fault.CodecFault.{CodecFault}
 use Rattle.bl_syntax.specs.declared.codec_fault.CodecFault.TheVariants.{Short, BadTag}
 use Rattle.bl_syntax.specs.Reading.{◌>>=◌, Reading, map_reading, place}
@@ -98,6 +98,15 @@ state_at input bytes = do
 unfoldable pub image_at : ℕ → List ℕ → Reading BaseView
 image_at input [] = Err Short
 image_at input (version ∷ rest) = if version == 2 then state_at input rest else Err (BadTag (place input (version ∷ rest)))
+
+-- whether the bytes begin with the version of images. An image of version 1 has none: it begins with the first byte of a moment, which is another
+abbrev pub is_versioned : List ℕ → Bool
+is_versioned [] = false
+is_versioned (version ∷ rest) = version == 2
+
+-- the state of an image of either version: of version 2 if the bytes begin so, and of version 1, which is the fields alone, if not
+unfoldable pub stored_image_at : ℕ → List ℕ → Reading BaseView
+stored_image_at input bytes = if is_versioned bytes then image_at input bytes else fields_at input bytes
 
 -- a state whose image is the whole input, or the first fault: nothing may be left over
 unfoldable pub whole_image : List ℕ → Result BaseView CodecFault

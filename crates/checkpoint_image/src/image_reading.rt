@@ -6,10 +6,11 @@ ghost use Rattle.bl_syntax.specs.Codec.{GivesReadingOrReports};
 ghost use Rattle.node_rows.specs.Rows.{item_rows, AreOfSameNodes};
 ghost use Rattle.checkpoint_image.specs.Chain.{chain_at, alone, nothing_left};
 ghost use Rattle.checkpoint_image.specs.ImageSpelling.{HasFittingFields};
-ghost use Rattle.checkpoint_image.specs.ImageReading.{counts_at, head_at, entry_at, statements_at, issue_at, issues_at, issues_and_nodes_at, lists_at, fields_at, with_withdrawn, state_at, image_at, base_of_image};
-ghost use Rattle.checkpoint_image.specs.WithdrawnNumbers.{withdrawn_numbers_at};
+ghost use Rattle.checkpoint_image.specs.ImageReading.{counts_at, head_at, entry_at, statements_at, issue_at, issues_at, issues_and_nodes_at, lists_at, fields_at, with_withdrawn, state_at, image_at, is_versioned, stored_image_at, base_of_image};
+ghost use Rattle.checkpoint_image.specs.WithdrawnNumbers.{AreStanding, withdrawn_numbers_at};
 
 use crate::image::Image;
+use crate::image_writing::VERSION;
 use crate::node_reading::nodes_at;
 use crate::withdrawn_numbers::{mark_all, withdrawn_numbers_at};
 use access_history::{Issue, Issues, Statements};
@@ -273,8 +274,46 @@ fn versioned_at(alloc: Global, input: usize, bytes: &[u8]) -> Result<(Image, &[u
     }
 }
 
-/// Reads an image at the front of `bytes`, the rest of an input of `input` bytes: the state and the bytes after it, or the
-/// first fault: of the version, of the fields in order, and of the numbers of the withdrawn statements. Its rows are of the
+/// Reads an image of version 1 at the front of `bytes`, the rest of an input of `input` bytes: its fields alone, in which all
+/// statements stand, and the bytes after them, or the first fault. Its rows are of the same nodes, and it may be written
+/// again.
+pub fn old_image_at(alloc: Global, input: usize, bytes: &[u8]) -> Result<(Image, &[u8]), CodecFault>
+    ensures read { GivesReadingOrReports (λ x. (base_of_image x.0, x.1.now)) result (fields_at input bytes.now) }
+    ensures fits { IfOk result (λ x. HasFittingFields x.0) }
+    ensures standing { IfOk result (λ x. AreStanding x.0.statements) }
+{
+    fields_at(alloc, input, bytes)
+}
+
+// Whether the bytes begin with the version of images.
+fn is_versioned(bytes: &[u8]) -> bool
+    ensures { result ≡ is_versioned bytes.now }
+{
+    match bytes {
+        [] => false,
+        [version, ..] => *version == VERSION,
+    }
+}
+
+/// Reads an image of either version: of version 2 if the bytes begin with that byte, and of version 1 if not.
+#[tactic(auto, unfolding(crate::specs::ImageReading::stored_image_at))]
+pub fn stored_image_at(
+    alloc: Global,
+    input: usize,
+    bytes: &[u8],
+) -> Result<(Image, &[u8]), CodecFault>
+    ensures read { GivesReadingOrReports (λ x. (base_of_image x.0, x.1.now)) result (stored_image_at input bytes.now) }
+    ensures fits { IfOk result (λ x. HasFittingFields x.0) }
+{
+    if is_versioned(bytes) {
+        image_at(alloc, input, bytes)
+    } else {
+        old_image_at(alloc, input, bytes)
+    }
+}
+
+/// Reads an image of version 2 at the front of `bytes`, the rest of an input of `input` bytes: the state and the bytes after
+/// it, or the first fault: of the version, of the fields in order, and of the numbers of the withdrawn statements. Its rows are of the
 /// same nodes, and it may be written again.
 pub fn image_at(alloc: Global, input: usize, bytes: &[u8]) -> Result<(Image, &[u8]), CodecFault>
     ensures read { GivesReadingOrReports (λ x. (base_of_image x.0, x.1.now)) result (image_at input bytes.now) }

@@ -7,6 +7,7 @@ ghost use Rattle.node_rows.specs.Rows.{item_rows};
 ghost use Rattle.checkpoint_image.specs.NodeSpelling.{nodes_spelling};
 ghost use Rattle.checkpoint_image.specs.ImageSpelling.{head_spelling, entry_spelling, IsSpellableEntry, statements_spelling, issue_spelling, IsSpellableIssue, issues_spelling, fields_spelling, image_spelling, AreSpelledIn, HasFittingSignature, HasFewCited, HaveFittingRows, HasFittingFields};
 ghost use Rattle.checkpoint_image.specs.ImageReading.{base_of_image};
+ghost use Rattle.checkpoint_image.specs.WithdrawnNumbers.{AreStanding};
 
 use crate::image::Image;
 use crate::node_writing::add_each_node;
@@ -20,7 +21,7 @@ use record_parts::fields::{put_moment, put_number};
 use record_parts::{write_issued, write_registered};
 
 /// The version of images.
-const VERSION: u8 = 2;
+pub(crate) const VERSION: u8 = 2;
 
 /// Adds the version of images, with which each begins.
 pub fn write_version(out: &mut Bytes) -> Result<(), NoMemory>
@@ -192,6 +193,23 @@ pub fn write_image(image: &Image, out: &mut Bytes) -> Result<(), NoMemory>
 {
     let len = out.len();
     let added = add_image(image, out);
+    if added.is_err() {
+        out.truncate(len);
+    }
+    added
+}
+
+/// Adds the image of version 1 of a state, which is its fields alone, or nothing. None of its statements was withdrawn.
+pub fn write_old_image(image: &Image, out: &mut Bytes) -> Result<(), NoMemory>
+    requires fits { HasFittingFields image.now }
+    requires standing { AreStanding image.now.statements }
+    ensures ok { OnOk result (out.new ≡ out.old ++ fields_spelling (base_of_image image.now)) }
+    ensures statements_spelled { OnOk result (AllByRecursion IsSpellableEntry image.now.statements) }
+    ensures issues_spelled { OnOk result (AllByRecursion IsSpellableIssue image.now.issues) }
+    ensures err { OnErr result (out.new ≡ out.old) }
+{
+    let len = out.len();
+    let added = add_fields(image, out);
     if added.is_err() {
         out.truncate(len);
     }

@@ -1,2 +1,3 @@
 pub mod GivenLemmas
+pub mod OnceLemmas
 pub mod TaskLemmas

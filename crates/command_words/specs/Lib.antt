@@ -1,3 +1,4 @@
 pub mod CommandWords
 pub mod Commands
 pub mod Tasks
+pub mod Laws

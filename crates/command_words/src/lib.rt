@@ -6,6 +6,7 @@
 
 mod commands;
 mod given;
+pub mod laws;
 mod numerals;
 mod words;
 

@@ -1,8 +1,8 @@
-//! Images: that of a fresh store, that after the first file, that after a withdrawal, and each fault at its place.
+//! Images, and two of version 1: that of a fresh store, that after the first file, that after a withdrawal, and each fault at its place.
 
 use crate::rows::{bytes_of, is_end, word_and_rest};
 use bl_syntax::{Bytes, CodecFault};
-use checkpoint_image::{image_at, write_image};
+use checkpoint_image::{image_at, old_image_at, stored_image_at, write_image, write_old_image};
 use std::alloc::Global;
 use std::test::Fail;
 
@@ -12,6 +12,11 @@ const IMAGES: &str =
     "02fffffff1886e0900000000000000000000000000000000020000000000000000000000010000000000000001020561646d696e000000000000000000000000000000000000 70
 02000000000000006400000000000000030000000000000003000000010561646d696e10036d6179030105616c69636502000000000000000103020100000000000000000100000000000000c8000000209efa4c8dc2816d5e04d51d2d69107b0e33f880f6ea5a6c0df5a7440014841a99000000010100000001000000070b1a0000010001470105616c69636500000000000000010202040100000000000000000606040100000000000000c800000000020000000000000001020561646d696e000000000000000000000000000000000000000000020105616c6963650000000000000001056e6f746573000000000000000000 245
 02000000000000006400000000000000030000000000000003000000010561646d696e10036d6179030105616c69636502000000000000000103020100000000000000000100000000000000c8000000209efa4c8dc2816d5e04d51d2d69107b0e33f880f6ea5a6c0df5a7440014841a99000000010100000001000000070b1a0000010001470105616c69636500000000000000010202040100000000000000000606040100000000000000c800000000020000000000000001020561646d696e000000000000000000000000000000000000000000020105616c6963650000000000000001056e6f74657300000000000000000100000001 249";
+
+/// The first two of these as images of version 1.
+const OLD_IMAGES: &str =
+    "fffffff1886e0900000000000000000000000000000000020000000000000000000000010000000000000001020561646d696e0000000000000000000000000000 65
+000000000000006400000000000000030000000000000003000000010561646d696e10036d6179030105616c69636502000000000000000103020100000000000000000100000000000000c8000000209efa4c8dc2816d5e04d51d2d69107b0e33f880f6ea5a6c0df5a7440014841a99000000010100000001000000070b1a0000010001470105616c69636500000000000000010202040100000000000000000606040100000000000000c800000000020000000000000001020561646d696e000000000000000000000000000000000000000000020105616c6963650000000000000001056e6f7465730000000000 240";
 
 /// Other bytes, and what comes of reading them.
 const ENDS: &str = "- short
@@ -100,6 +105,34 @@ fn other_bytes_have_a_first_fault(rt: HostRuntime) -> Result<(), Fail> {
     for row in ENDS.lines() {
         let (word, want) = word_and_rest(row)?;
         assert!(rt; is_end_row(rt.alloc(), word, want)?, "{row}");
+    }
+    Ok(())
+}
+
+// Whether the bytes are read as an image of version 1, also by their first byte, and written as them.
+fn is_old_spelled(alloc: Global, bytes: &[u8]) -> bool {
+    let mut out = Bytes::new(alloc);
+    match old_image_at(alloc, bytes.len(), bytes) {
+        Ok((image, rest)) => {
+            rest.is_empty()
+                && stored_image_at(alloc, bytes.len(), bytes).is_ok()
+                && write_old_image(&image, &mut out).is_ok()
+                && out.as_slice() == bytes
+        }
+        Err(_) => false,
+    }
+}
+
+fn is_old_row(alloc: Global, word: &str, len: &str) -> Result<bool, Fail> {
+    let bytes = bytes_of(alloc, word)?;
+    Ok(len.parse::<usize>() == Ok(bytes.len()) && is_old_spelled(alloc, bytes.as_slice()))
+}
+
+#[test]
+fn images_of_version_1_are_read_and_written_again(rt: HostRuntime) -> Result<(), Fail> {
+    for row in OLD_IMAGES.lines() {
+        let (word, len) = word_and_rest(row)?;
+        assert!(rt; is_old_row(rt.alloc(), word, len)?, "{row}");
     }
     Ok(())
 }

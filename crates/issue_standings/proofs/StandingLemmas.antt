@@ -296,7 +296,7 @@ module _ (withdrawn : ℕ → Bool) (g : GrantView) where
 
 -- ---- where no number was withdrawn
 
-find_nothing : (withdrawn : ℕ → Bool) → ((number : ℕ) → withdrawn number ≡ false) → (numbers : List ℕ) → find withdrawn numbers ≡ None
+pub find_nothing : (withdrawn : ℕ → Bool) → ((number : ℕ) → withdrawn number ≡ false) → (numbers : List ℕ) → find withdrawn numbers ≡ None
 find_nothing withdrawn none [] = refl
 find_nothing withdrawn none (number ∷ numbers) =
     ap (λ (b : Bool). cond b (Some number) (find withdrawn numbers)) (none number) ∙ find_nothing withdrawn none numbers
@@ -311,7 +311,7 @@ not_gone withdrawn g bearings none = not_gone_from withdrawn g Unissued bearings
 
 -- ---- where the same numbers were withdrawn
 
-find_same : (one other : ℕ → Bool) → ((number : ℕ) → one number ≡ other number) → (numbers : List ℕ) → find one numbers ≡ find other numbers
+pub find_same : (one other : ℕ → Bool) → ((number : ℕ) → one number ≡ other number) → (numbers : List ℕ) → find one numbers ≡ find other numbers
 find_same one other same [] = refl
 find_same one other same (number ∷ numbers) =
     ap (λ (b : Bool). cond b (Some number) (find one numbers)) (same number) ∙ ap (λ (o : Option ℕ). cond (other number) (Some number) o) (find_same one other same numbers)

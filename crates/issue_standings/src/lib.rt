@@ -11,5 +11,5 @@ mod standings;
 
 pub use bearing::Bearing;
 pub use laws::gone_is_told_by_the_last_issue;
-pub use standing::Standing;
+pub use standing::{Standing, first_withdrawn};
 pub use standings::Standings;

@@ -40,10 +40,11 @@ use Rattle.access_history.specs.Authority.{Authority, CanRegister, IsSignedState
 use Rattle.access_history.specs.Base.{BaseView}
 use Rattle.bl_syntax.specs.Citable.{AreCitable}
 use Rattle.access_history.specs.Books.{Book, book_of, live_book, whole_book}
-use Rattle.access_history.specs.Citing.{AreFound, IsAbsent, IsGoodIssue, IsGrantedFrom, IsHeld, MayBeIssued, MayBeWithdrawn, numbers_of}
+use Rattle.access_history.specs.Citing.{AreFound, IsAbsent, IsGoodIssue, IsGrantOf, as_proved, naming, IsGrantedFrom, IsHeld, MayBeIssued, MayBeWithdrawn, issued_grant, numbers_of}
 use Rattle.access_history.specs.History.{HistoryView, authority_of, state_of, addition_of, IsReadyFor}
 use Rattle.access_history.specs.Lawful.{IsLawfulBase, MayAct}
 use Rattle.access_history.proofs.AdmissionLemmas.{AreDerived-admitted}
+use Rattle.bl_syntax.proofs.EqualityLemmas.{same_grant}
 use Rattle.access_history.proofs.CitingLemmas.{MayBeIssued-found, MayBeIssued-good, AreCitable-numbers, AreCited-numbers, absent_not_found, found_held, granted_as, granted_is, live_from_registry, none_in_registry, one_held, refused_grants_none, said_length, same_cites, stand_registered}
 use Rattle.access_history.proofs.NumberedLemmas.{Contains-numbered, none_fails, first_failing}
 use Rattle.op_gate.specs.declared.damage.Damage.{Damage}
@@ -180,17 +181,26 @@ good_cites statements cited proof g good = record { numbers_are = sym good.cited
 pub good_found : (statements : List StatementView) (cited : List ℕ) (proof : ProofView) (g : GrantView) (number : ℕ) → IsGoodIssue statements (record { cited = cited; proof = proof; grant = g }) → IsAbsent (whole_book statements) cited number → ⊥
 good_found statements cited proof g number good absent = absent_not_found (whole_book statements) cited number good.cites absent (good_cites statements cited proof g good)
 
+-- a grant of either form is the proved one with what it names
+form_names : (proved g : GrantView) (numbers : List ℕ) → IsGrantOf proved numbers g → issued_grant proved g.cited ≡ g
+form_names proved _ numbers as_proved = same_grant (issued_grant proved proved.cited) proved refl refl refl refl
+form_names proved _ numbers naming = refl
+
+-- seen through the call that returns the proved grant, and through the numbers that were handed in
+pub form_of_both : (shown proved : GrantView) (cited numbers : List ℕ) (g : GrantView) → shown ≡ proved → numbers ≡ cited → IsGrantOf shown cited g → IsGrantOf proved numbers g
+form_of_both shown proved cited numbers g shown_is numbers_are form = subst (λ (p : GrantView). IsGrantOf p numbers g) shown_is (subst (λ (ns : List ℕ). IsGrantOf shown ns g) (sym numbers_are) form)
+
 -- a checked proof with this grant
-pub same_checked : (checked : CheckedView) (g : GrantView) → IsChecked checked → checked.goal ≡ g.goal → checked.grant ≡ g → IsCheckedAs checked.cited checked.proof g checked
-same_checked checked g is goal same = record {
+pub same_checked : (checked : CheckedView) (g : GrantView) → IsChecked checked → checked.goal ≡ g.goal → IsGrantOf checked.grant (numbers_of checked.cited) g → IsCheckedAs checked.cited checked.proof g checked
+same_checked checked g is goal form = record {
   cited_is = refl;
   proof_is = refl;
-  grant_is = same;
-  granted = granted_as checked.cited checked.goal checked.proof checked.grant g is goal same;
+  grant_is = form_names checked.grant g (numbers_of checked.cited) form;
+  granted = granted_as checked.cited checked.goal checked.proof checked.grant g is goal form;
 }
 
 -- a grant that the proof does not give
-pub other_grant : (checked : CheckedView) (g : GrantView) → IsChecked checked → checked.goal ≡ g.goal → (checked.grant ≡ g → ⊥) → GivesChecked checked.cited checked.proof g (Err (Damaged Unproved))
+pub other_grant : (checked : CheckedView) (g : GrantView) → IsChecked checked → checked.goal ≡ g.goal → (IsGrantOf checked.grant (numbers_of checked.cited) g → ⊥) → GivesChecked checked.cited checked.proof g (Err (Damaged Unproved))
 other_grant checked g is goal differs = (
   refl,
   λ from. differs (granted_is checked.cited checked.goal checked.proof checked.grant g is.verdict_is goal from),
@@ -209,10 +219,10 @@ not_granted cites proof g checks.NoMemory fails = tt
 
 -- what is reported of an issue whose proof is checked
 pub issued_told : (pass : ℕ) (cites : List Cite) (proof : ProofView) (g : GrantView) (checked : CheckedView) (result : Result Pending AdmitFault) → IsCheckedAs cites proof g checked →
-    IfOk result (λ pending. pending ≡ pending_issue pass (numbers_of checked.cited) checked.proof checked.grant) → IfErr result (λ fault. fault ≡ NoMemory) → GivesIssue pass cites proof g result
+    IfOk result (λ pending. pending ≡ pending_issue pass (numbers_of checked.cited) checked.proof (issued_grant checked.grant g.cited)) → IfErr result (λ fault. fault ≡ NoMemory) → GivesIssue pass cites proof g result
 issued_told pass cites proof g checked (Ok pending) is ok err = (
   is.granted,
-  ok ∙ ap (λ (cs : List Cite). pending_issue pass (numbers_of cs) checked.proof checked.grant) is.cited_is ∙ ap (λ (p : ProofView). pending_issue pass (numbers_of cites) p checked.grant) is.proof_is
+  ok ∙ ap (λ (cs : List Cite). pending_issue pass (numbers_of cs) checked.proof (issued_grant checked.grant g.cited)) is.cited_is ∙ ap (λ (p : ProofView). pending_issue pass (numbers_of cites) p (issued_grant checked.grant g.cited)) is.proof_is
       ∙ ap (λ (h : GrantView). pending_issue pass (numbers_of cites) proof h) is.grant_is,
 )
 issued_told pass cites proof g checked (Err fault) is ok err = subst (λ (f : AdmitFault). GivesIssue pass cites proof g (Err f)) (sym err) tt

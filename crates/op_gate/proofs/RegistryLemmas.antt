@@ -1,5 +1,5 @@
 -- What the registry and the history tell of statements and issues, over plain values.
-use Rattle.std.proofs.Common.{◌≡◌, ◌≤◌, ◌<◌, ℕ, zero, suc, List, length, refl, sym, subst, ◌∙◌, arith, Some, Bool, false}
+use Rattle.std.proofs.Common.{◌≡◌, ◌<◌, ℕ, zero, suc, List, length, refl, sym, subst, ◌∙◌, arith, Some, Bool, false}
 use Rattle.std.specs.Prelude.{◌↔◌, Contains, ℤ, Result, Ok, Err, IsTrue, MatchOption}
 use Rattle.std.specs.List.{slice_get}
 use Rattle.std.proofs.lemmas.Option.{slice_get-map, slice_get_read}

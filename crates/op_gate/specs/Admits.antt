@@ -17,16 +17,18 @@ use Rattle.policy_statement.specs.declared.registry.WithdrawFault.{WithdrawFault
 use Rattle.policy_statement.specs.declared.registry.WithdrawFault.TheVariants as withdrawals
 use Rattle.access_history.specs.declared.event.Addition.TheVariants as additions
 use Rattle.access_history.specs.declared.event.Event.{Event}
+use Rattle.access_history.specs.declared.event.Issue.{Issue}
 use Rattle.access_history.specs.declared.event.Event.TheVariants.{Registered, Withdrawn, Issued}
 use Rattle.bl_syntax.specs.Citable.{AreCitable}
 use Rattle.access_history.specs.Books.{Book}
-use Rattle.access_history.specs.Citing.{AreFound, IsGrantedFrom, numbers_of}
+use Rattle.access_history.specs.Citing.{AreFound, IsGrantedFrom, issued_grant, numbers_of}
 use Rattle.access_history.specs.History.{HistoryView, authority_of, state_of, addition_of, IsReadyFor}
 use Rattle.access_history.specs.Lawful.{MayFollow}
 use Rattle.access_history.specs.WellFormed.{BringsEnough}
 use Rattle.op_gate.specs.declared.damage.Damage.TheVariants.{Shape, Unsigned, Unproved, Duplicate}
 use Rattle.op_gate.specs.declared.damage.AdmitFault.{AdmitFault}
 use Rattle.op_gate.specs.declared.damage.AdmitFault.TheVariants.{Damaged, NoMemory}
+use Rattle.op_gate.specs.declared.decide.IssueParts.{IssueParts}
 use Rattle.op_gate.specs.declared.planned.Pending.{Pending}
 use Rattle.op_gate.specs.Damage.{IsDamagedBy}
 
@@ -57,15 +59,24 @@ pending_statement pass statement signature = record { event = Registered pass st
 abbrev pub pending_withdrawal : ℕ → ℕ → List ℕ → Pending
 pending_withdrawal pass number signature = record { event = Withdrawn pass number signature; addition = additions.Withdrawal number }
 
+-- the issue of a checked proof whose grant names these statements
+abbrev pub issue_naming : CheckedView → List ℕ → Issue
+issue_naming checked named = record { cited = numbers_of checked.cited; proof = checked.proof; grant = issued_grant checked.grant named }
+
+-- the event that issues the grant of a checked proof by these parts, and what the state keeps of it
+abbrev pub pending_parts : ℕ → CheckedView → IssueParts → Pending
+pending_parts pass checked parts =
+    record { event = Issued pass parts.cited checked.proof (issued_grant checked.grant parts.named); addition = additions.Issue parts.issue }
+
 -- what the state keeps of an issue, pending with its event
 abbrev pub pending_issue : ℕ → List ℕ → ProofView → GrantView → Pending
 pending_issue pass cited proof g = record { event = Issued pass cited proof g; addition = additions.Issue (record { cited = cited; proof = proof; grant = g }) }
 
--- the checked proof is this one from what is cited, and the grant is the verdict on it
+-- the checked proof is this one from what is cited, and the grant is the verdict on it, with what it names
 pub record IsCheckedAs (cites : List Cite) (proof : ProofView) (g : GrantView) (checked : CheckedView) : Type 0 where
   pub cited_is : checked.cited ≡ cites
   pub proof_is : checked.proof ≡ proof
-  pub grant_is : checked.grant ≡ g
+  pub grant_is : issued_grant checked.grant g.cited ≡ g
   pub granted : IsGrantedFrom cites proof g
 
 -- the proof is checked, or the grant is not the verdict on it, or there was no memory

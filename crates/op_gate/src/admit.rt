@@ -2,8 +2,9 @@
 
 ghost use Rattle.std.specs.Prelude.{◌≡◌, ◌↔◌, ◌<◌, ◌-◌, ◌^◌, ◌≤◌, ℕ, List, IfErr, IfOk, IsTrue, MatchOption, OnOk};
 ghost use Rattle.access_history.specs.declared.event.Event.TheVariants as events;
+ghost use Rattle.bl_syntax.specs.Grant.{MayName};
 ghost use Rattle.proof_verifier.specs.Cited.{AreCited};
-ghost use Rattle.access_history.specs.Citing.{numbers_of};
+ghost use Rattle.access_history.specs.Citing.{issued_grant, numbers_of};
 ghost use Rattle.access_history.specs.History.{authority_of, state_of};
 ghost use Rattle.op_gate.specs.Admits.{FindsCited, GivesChecked, GivesPending, GivesIssue, IsTimely, LacksNext, pending_issue, pending_statement, proof_damage, register_damage, withdraw_damage};
 ghost use Rattle.op_gate.specs.Citations.{book_among};
@@ -15,9 +16,11 @@ use crate::cite::{Among, Citation, cite};
 use crate::damage::{AdmitFault, Damage};
 use crate::decide::{issue_parts, pend_issue, registered, withdrawn};
 use crate::planned::{Pending, Planned};
-use access_history::{Event, History, Procaps};
+use access_history::{Event, History, Procaps, is_grant_of};
 use bl_syntax::limits::MOST_EVENTS;
-use bl_syntax::{Bytes, Grant, Numbers, Principal, Statement, are_citable, is_moment};
+use bl_syntax::{
+    Bytes, Grant, Numbers, Principal, Statement, are_citable, copy_numbers, is_moment,
+};
 use file_world::Op;
 use policy_statement::{RegisterFault as RegistryFault, Registered, WithdrawFault};
 use procap::Procap;
@@ -111,41 +114,45 @@ fn proof_damage(fault: CheckFault) -> AdmitFault
     }
 }
 
-// The issue of a checked proof, in memory of its own.
-fn issue(alloc: Global, pass: u64, checked: Checked) -> Result<Pending, AdmitFault>
-    ensures ok { IfOk result (λ pending. pending ≡ pending_issue pass (numbers_of checked.cited) checked.proof checked.grant) }
+// The issue of a checked proof whose grant names these statements, in memory of its own.
+fn issue(alloc: Global, pass: u64, checked: Checked, named: Numbers) -> Result<Pending, AdmitFault>
+    requires { MayName named }
+    ensures ok { IfOk result (λ pending. pending ≡ pending_issue pass (numbers_of checked.cited) checked.proof (issued_grant checked.grant named)) }
     ensures err { IfErr result (λ fault. fault ≡ AdmitFault.NoMemory) }
 {
-    match issue_parts(alloc, &checked) {
+    match issue_parts(alloc, &checked, named) {
         Ok(parts) => Ok(pend_issue(pass, checked, parts)),
         Err(_) => Err(AdmitFault::NoMemory),
     }
 }
 
-// The checked proof, if this is its grant.
-fn granting(checked: Checked, grant: &Grant) -> Result<Checked, AdmitFault>
-    requires { checked.goal ≡ grant.now.goal }
+// The checked proof, if this is its grant, or that one naming what the proof cites.
+fn granting(checked: Checked, cited: &[u32], grant: &Grant) -> Result<Checked, AdmitFault>
+    requires goal { checked.goal ≡ grant.now.goal }
+    requires cited { numbers_of checked.cited ≡ cited.now }
     ensures { GivesChecked checked.cited checked.proof grant.now result }
 {
-    if checked.grant().is_same(grant) {
+    if is_grant_of(checked.grant(), cited, grant) {
         Ok(checked)
     } else {
         Err(AdmitFault::Damaged(Damage::Unproved))
     }
 }
 
-/// The proof, checked again, if this grant is the verdict on it from what is cited.
+/// The proof, checked again, if this grant is the verdict on it from what these numbers cite, naming them or not.
 pub fn check_again(
     alloc: Global,
     cites: Cites,
     proof: ProofTree,
+    cited: &[u32],
     grant: &Grant,
 ) -> Result<Checked, AdmitFault>
-    requires { AreCited cites }
+    requires rising { AreCited cites }
+    requires cited { numbers_of cites ≡ cited.now }
     ensures { GivesChecked cites proof grant.now result }
 {
     match verify(alloc, cites, grant.goal(), proof) {
-        Ok(checked) => granting(checked, grant),
+        Ok(checked) => granting(checked, cited, grant),
         Err(fault) => Err(proof_damage(fault)),
     }
 }
@@ -156,13 +163,18 @@ fn issue_again(
     pass: u64,
     cites: Cites,
     proof: ProofTree,
+    cited: &[u32],
     grant: &Grant,
 ) -> Result<Pending, AdmitFault>
-    requires { AreCited cites }
+    requires rising { AreCited cites }
+    requires cited { numbers_of cites ≡ cited.now }
     ensures { GivesIssue pass cites proof grant.now result }
 {
-    match check_again(alloc, cites, proof, grant) {
-        Ok(checked) => issue(alloc, pass, checked),
+    match check_again(alloc, cites, proof, cited, grant) {
+        Ok(checked) => match copy_numbers(alloc, grant.cited()) {
+            Ok(named) => issue(alloc, pass, checked, named),
+            Err(_) => Err(AdmitFault::NoMemory),
+        },
         Err(fault) => Err(fault),
     }
 }
@@ -200,7 +212,7 @@ fn admit_issued(
     ensures { GivesPending history.now history.now (events.Issued pass cited.now proof grant.now) result }
 {
     match find_cited(alloc, history.statements(), Among::Live, cited.as_slice()) {
-        Ok(cites) => issue_again(alloc, pass, cites, proof, grant),
+        Ok(cites) => issue_again(alloc, pass, cites, proof, cited.as_slice(), grant),
         Err(fault) => Err(fault),
     }
 }

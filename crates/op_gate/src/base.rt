@@ -62,9 +62,10 @@ fn test_signatures(alloc: Global, ring: &Keyring, entries: &[Registered]) -> Res
 fn test_issue(alloc: Global, entries: &[Registered], issue: &Issue) -> Result<(), AdmitFault>
     ensures { TellsTest (IsGoodIssue (sayings entries.now) issue.now) Damage.Unproved result }
 {
-    match find_cited(alloc, entries, Among::Registered, issue.cited.as_slice()) {
+    let cited = issue.cited.as_slice();
+    match find_cited(alloc, entries, Among::Registered, cited) {
         Ok(cites) => match issue.proof.copy(alloc) {
-            Ok(proof) => match check_again(alloc, cites, proof, &issue.grant) {
+            Ok(proof) => match check_again(alloc, cites, proof, cited, &issue.grant) {
                 Ok(_) => Ok(()),
                 Err(fault) => Err(fault),
             },

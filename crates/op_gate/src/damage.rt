@@ -10,7 +10,7 @@ pub enum Damage {
     Header,
     /// The bytes are no image or event, or they are cut or too long; a moment lies outside the range, or the image's count
     /// or the event's number would; or no statement stands that is withdrawn.
-    #[error("the bytes are no image or event, or a moment or number lies outside its range, or what is withdrawn does not stand")]
+    #[error("the bytes are no image or event, or a moment or number lies outside its range")]
     Shape,
     /// A signature is not accepted.
     #[error("a signature is not accepted")]

@@ -1,11 +1,14 @@
 //! The answers to requests on statements and issues, and what is to be kept.
 
 ghost use Rattle.std.specs.Prelude.{◌≡◌, ◌↔◌, Some, None, IfOk, MatchOption, IsTrue, ℕ, ℤ, length};
+ghost use Rattle.bl_syntax.specs.Citable.{AreNamed};
+ghost use Rattle.bl_syntax.specs.Grant.{MayName};
 ghost use Rattle.bl_syntax.specs.Statement.{IsStatement};
 ghost use Rattle.access_history.specs.declared.request.StepRequest.TheVariants as requests;
 ghost use Rattle.access_history.specs.Answer.{Answers, MaySee};
 ghost use Rattle.access_history.specs.Citing.{issued_grant, numbers_of};
 ghost use Rattle.access_history.specs.History.{authority_of, state_of};
+ghost use Rattle.op_gate.specs.Admits.{issue_naming, pending_parts};
 ghost use Rattle.op_gate.specs.Decision.{IsPlanned, Keeps, plan_of_withdrawal};
 ghost use Rattle.access_history.specs.Numbered.{HasNone};
 ghost use Rattle.op_gate.specs.Issued.{IsProcapOf};
@@ -199,61 +202,88 @@ pub fn decide_show(
     }
 }
 
-// The grant that a checked proof issues, in memory of its own.
-fn issue_of(alloc: Global, checked: &Checked) -> Result<Issue, NoMemory>
-    ensures { IfOk result (λ issue. issue ≡ record { cited = numbers_of checked.now.cited; proof = checked.now.proof; grant = checked.now.grant }) }
+// The issue of a checked proof whose grant names these statements, in memory of its own.
+fn issue_of(alloc: Global, checked: &Checked, named: &Numbers) -> Result<Issue, NoMemory>
+    requires { MayName named.now }
+    ensures { IfOk result (λ issue. issue ≡ issue_naming checked.now named.now) }
 {
     let cited = cited_numbers(alloc, checked.cited().as_slice())?;
     let proof = checked.proof().copy(alloc)?;
     let grant = checked.grant().copy(alloc)?;
+    let named = named.copy(alloc)?;
     Ok(Issue {
         cited,
         proof,
-        grant,
+        grant: grant.naming(named),
     })
 }
 
-/// What is made of a checked proof beside it: the numbers that it cites, and what the state keeps of its issue.
+/// What is made of a checked proof beside it: the numbers that it cites, those that its grant names, and what the state
+/// keeps of its issue.
 #[derive(Debug, Drop)]
 pub struct IssueParts {
     cited: Numbers,
+    named: Numbers,
     issue: Issue,
 }
 
-/// What is made of the checked proof beside it.
-pub fn issue_parts(alloc: Global, checked: &Checked) -> Result<IssueParts, NoMemory>
+/// What is made of the checked proof beside it, of which the grant names these statements.
+pub fn issue_parts(alloc: Global, checked: &Checked, named: Numbers) -> Result<IssueParts, NoMemory>
+    requires { MayName named }
     ensures cited { IfOk result (λ parts. parts.cited ≡ numbers_of checked.now.cited) }
-    ensures issue { IfOk result (λ parts. parts.issue ≡ record { cited = numbers_of checked.now.cited; proof = checked.now.proof; grant = checked.now.grant }) }
+    ensures named { IfOk result (λ parts. parts.named ≡ named) }
+    ensures issue { IfOk result (λ parts. parts.issue ≡ issue_naming checked.now named) }
 {
-    let issue = issue_of(alloc, checked)?;
+    let issue = issue_of(alloc, checked, &named)?;
     let cited = cited_numbers(alloc, checked.cited().as_slice())?;
-    Ok(IssueParts { cited, issue })
+    Ok(IssueParts {
+        cited,
+        named,
+        issue,
+    })
 }
 
-/// The event that issues the grant of the checked proof, and what the state keeps of it.
+/// The event that issues the grant of the checked proof, and what the state keeps of it. It takes no memory.
 pub fn pend_issue(pass: u64, checked: Checked, parts: IssueParts) -> Pending
-    ensures { result ≡ record { event = Event.Issued pass parts.cited checked.proof checked.grant; addition = Addition.Issue parts.issue } }
+    requires { MayName parts.named }
+    ensures { result ≡ pending_parts pass checked parts }
 {
-    let IssueParts { cited, issue } = parts;
+    let IssueParts {
+        cited,
+        named,
+        issue,
+    } = parts;
     let (_cites, proof, grant) = checked.into_parts();
     Pending {
         event: Event::Issued {
             pass,
             cited,
             proof,
-            grant,
+            grant: grant.naming(named),
         },
         addition: Addition::Issue(issue),
     }
 }
 
-// Has the grant of the checked proof to be kept under that number.
+// What is made beside a checked proof of which the grant names what its proof cites.
+fn parts_naming_cited(alloc: Global, checked: &Checked) -> Result<IssueParts, NoMemory>
+    requires { AreNamed (numbers_of checked.now.cited) }
+    ensures cited { IfOk result (λ parts. parts.cited ≡ numbers_of checked.now.cited) }
+    ensures named { IfOk result (λ parts. parts.named ≡ numbers_of checked.now.cited) }
+    ensures issue { IfOk result (λ parts. parts.issue ≡ issue_naming checked.now (numbers_of checked.now.cited)) }
+{
+    let named = cited_numbers(alloc, checked.cited().as_slice())?;
+    issue_parts(alloc, checked, named)
+}
+
+// Has the grant of the checked proof to be kept under that number. It names what the proof cites.
 fn keep_issue(alloc: Global, pass: u64, number: u64, checked: Checked) -> Planned
+    requires { AreNamed (numbers_of checked.cited) }
     ensures { Keeps (StepReply.Issue number (length checked.grant.times) (length checked.grant.states)) (Event.Issued pass (numbers_of checked.cited) checked.proof (issued_grant checked.grant (numbers_of checked.cited))) result }
 {
     let times = checked.grant().times().len() as u32;
     let states = checked.grant().states().len() as u32;
-    match issue_parts(alloc, &checked) {
+    match parts_naming_cited(alloc, &checked) {
         Ok(parts) => Planned::Keep(
             StepReply::Issue(number, times, states),
             pend_issue(pass, checked, parts),

@@ -16,7 +16,7 @@ use Rattle.proof_verifier.specs.Verdict.{verdict}
 use Rattle.proof_verifier.specs.declared.fault.CheckFault.{CheckFault}
 use Rattle.proof_verifier.specs.declared.fault.CheckFault.TheVariants as checks
 use Rattle.access_history.specs.Books.{whole_book}
-use Rattle.access_history.specs.Citing.{AreFound, IsHeld, IsGoodIssue, IsGrantedFrom}
+use Rattle.access_history.specs.Citing.{AreFound, IsHeld, IsGoodIssue, IsGrantOf, IsGrantedFrom, numbers_of}
 use Rattle.access_history.specs.Numbered.{IsNumbered}
 use Rattle.access_history.proofs.CitingLemmas.{AreCited-found, HasNumber-held, IsNumbered-whole, granted_as, granted_is, refused_grants_none, same_cites}
 use Rattle.access_history.proofs.NumberedLemmas.{no_zero, numbered_in}
@@ -65,8 +65,8 @@ theirs statements numbers cites told same found citable =
 
 -- ---- grants
 
--- the verdict is this grant, or another
-pub granted_same : (cites : List Cite) (goal : Goal) (proof : ProofView) (granted g : GrantView) (is_same : Bool) → goal ≡ g.goal → IsGranted (statements_of cites) goal proof granted → (IsTrue is_same ↔ (granted ≡ g)) →
+-- the verdict is this grant, naming what is cited or not; or it is another
+pub granted_same : (cites : List Cite) (goal : Goal) (proof : ProofView) (granted g : GrantView) (is_same : Bool) → goal ≡ g.goal → IsGranted (statements_of cites) goal proof granted → (IsTrue is_same ↔ IsGrantOf granted (numbers_of cites) g) →
     IsTrue is_same ↔ IsGrantedFrom cites proof g
 granted_same cites goal proof granted g is_same of_goal is decides =
     (λ yes. granted_as cites goal proof granted g is of_goal (decides.0 yes), λ from. decides.1 (granted_is cites goal proof granted g is.verdict_is of_goal from))

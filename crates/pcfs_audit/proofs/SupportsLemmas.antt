@@ -13,11 +13,11 @@ use Rattle.issue_standings.specs.declared.standing.Standing.{Standing}
 use Rattle.issue_standings.specs.declared.standing.Standing.TheVariants as standings
 use Rattle.issue_standings.specs.Bearing.{BearingView, IsUnissued}
 use Rattle.issue_standings.specs.Standing.{after, after_issue, gone_by, standing_of}
-use Rattle.issue_standings.proofs.StandingLemmas.{not_gone, standing-unissued, standing_of-same}
+use Rattle.issue_standings.proofs.StandingLemmas.{find_nothing, find_same, not_gone, standing-unissued, standing_of-same}
 use Rattle.access_history.specs.declared.event.Event.{Event}
 use Rattle.access_history.specs.declared.event.Issue.{Issue}
 use Rattle.access_history.specs.Base.{BaseView}
-use Rattle.access_history.specs.Gone.{bearing, bearings, gone}
+use Rattle.access_history.specs.Gone.{bearing, bearings, gone, gone_by_issues, gone_by_names, gone_naming}
 use Rattle.access_history.specs.Replay.{next_state, replay}
 use Rattle.access_history.proofs.ReplayLemmas.{replay-more}
 use Rattle.access_history.proofs.ListLemmas.{AllByRecursion-contains, IsImage-from_map}
@@ -85,8 +85,8 @@ gone_matches place (standings.GoneBy number) kinds.Unissued h = absurd h
 gone_matches place (standings.GoneBy number) (kinds.Until end) h = sym (le-leb end place h)
 gone_matches place (standings.GoneBy number) kinds.Always h = absurd h
 
--- a grant is gone if it lost its support
-gone_told : (ends : List (Option ℕ)) (g : GrantView) (place : ℕ) (state : BaseView) → ((number : ℕ) → is_withdrawn state.statements number ≡ is_ended ends number place) → is_some (gone state g) ≡ has_lost (support_of ends g (bearings state.issues)) place
+-- a grant that names no statements is gone if it lost its support
+gone_told : (ends : List (Option ℕ)) (g : GrantView) (place : ℕ) (state : BaseView) → ((number : ℕ) → is_withdrawn state.statements number ≡ is_ended ends number place) → is_some (gone_by_issues state g) ≡ has_lost (support_of ends g (bearings state.issues)) place
 gone_told ends g place state same =
     let withdrawn : ℕ → Bool = λ (number : ℕ). is_ended ends number place in
     let issues = bearings state.issues in
@@ -211,9 +211,31 @@ follow_same dossier issues old new same follow = record {
 -- ---- what they tell
 
 -- nothing was ever withdrawn
+gone_never : (state : BaseView) (g : GrantView) (named : List ℕ) → ((number : ℕ) → is_withdrawn state.statements number ≡ false) → gone_naming state g named ≡ None
+gone_never state g [] none = not_gone (is_withdrawn state.statements) g (bearings state.issues) none
+gone_never state g (number ∷ numbers) none = find_nothing (is_withdrawn state.statements) none (number ∷ numbers)
+
 pub stands_always : (dossier : Dossier) (supports : Supports) (state : BaseView) (g : GrantView) → IsDossier dossier → dossier.papers.has_ended ≡ false → TellsGone dossier supports state → gone state g ≡ None
 stands_always dossier supports state g is none tells =
-    not_gone (is_withdrawn state.statements) g (bearings state.issues) (λ number. tells.ended_are number ∙ never_past dossier.papers.ends.items number supports.place (is.papers_are.none_ended none))
+    gone_never state g g.cited (λ number. tells.ended_are number ∙ never_past dossier.papers.ends.items number supports.place (is.papers_are.none_ended none))
+
+-- a grant that names statements stands if none of them was withdrawn
+by_names : (state : BaseView) (g : GrantView) (named : List ℕ) → (named ≡ [] → ⊥) → gone_by_names state named ≡ gone_naming state g named
+by_names state g [] some = absurd (some refl)
+by_names state g (number ∷ numbers) some = refl
+
+pub stands_by_names : (dossier : Dossier) (supports : Supports) (state : BaseView) (g : GrantView) (named : List ℕ) → named ≡ g.cited → (named ≡ [] → ⊥) → TellsGone dossier supports state →
+    IsTrue (not (is_past (first_end dossier.papers.ends.items named) supports.place)) ↔ (gone state g ≡ None)
+stands_by_names dossier supports state g named named_are some tells =
+    let ends = dossier.papers.ends.items in
+    let found : gone_by_names state named ≡ find (λ (number : ℕ). is_ended ends number supports.place) named = find_same (is_withdrawn state.statements) (λ (number : ℕ). is_ended ends number supports.place) tells.ended_are named in
+    let is : is_some (gone_by_names state named) ≡ is_past (first_end ends named) supports.place = ap is_some found ∙ sym (first_end_tells ends named supports.place) in
+    let same : gone_by_names state named ≡ gone state g = by_names state g named some ∙ ap (gone_naming state g) named_are in
+    none_if (gone state g) (is_past (first_end ends named) supports.place) (ap is_some (sym same) ∙ is)
+
+-- one that names none stands as its issues tell
+pub stands_plain : (state : BaseView) (g : GrantView) (named : List ℕ) (test : Bool) → named ≡ g.cited → named ≡ [] → IsTrue test ↔ (gone_by_issues state g ≡ None) → IsTrue test ↔ (gone state g ≡ None)
+stands_plain state g named test named_are none tells = subst (λ (ns : List ℕ). IsTrue test ↔ (gone_naming state g ns ≡ None)) (sym none ∙ named_are) tells
 
 no_issue : (grants : List GrantView) (issues : List Issue) (g : GrantView) → (Contains grants g → ⊥) → AllByRecursion (λ (issue : Issue). Contains grants issue.grant) issues → IsUnissued (bearings issues) g
 no_issue grants issues g none known place at =
@@ -222,18 +244,18 @@ no_issue grants issues g none known place at =
     none (subst (Contains grants) (ap (λ (b : BearingView). b.grant) image.same ∙ at.grant_is) here)
 
 -- a grant that is none of all
-pub stands_unissued : (dossier : Dossier) (supports : Supports) (state : BaseView) (g : GrantView) → (Contains (shown dossier.papers.grants.items) g → ⊥) → TellsGone dossier supports state → gone state g ≡ None
+pub stands_unissued : (dossier : Dossier) (supports : Supports) (state : BaseView) (g : GrantView) → (Contains (shown dossier.papers.grants.items) g → ⊥) → TellsGone dossier supports state → gone_by_issues state g ≡ None
 stands_unissued dossier supports state g none tells =
     ap gone_by (standing-unissued (is_withdrawn state.statements) g (bearings state.issues) (no_issue (shown dossier.papers.grants.items) state.issues g none tells.known))
 
 -- a grant by its row
 pub stands_by_row : (dossier : Dossier) (supports : Supports) (state : BaseView) (g : GrantView) (row : ℕ) (test : Bool) → dossier.papers.has_ended ≡ true → IsFirstOf (shown dossier.papers.grants.items) g row →
-    ((support : Support) → slice_get supports.rows.items row ≡ Some support → test ≡ not (has_lost support supports.place)) → TellsGone dossier supports state → IsTrue test ↔ (gone state g ≡ None)
+    ((support : Support) → slice_get supports.rows.items row ≡ Some support → test ≡ not (has_lost support supports.place)) → TellsGone dossier supports state → IsTrue test ↔ (gone_by_issues state g ≡ None)
 stands_by_row dossier supports state g row test some first test_is tells =
     let ends = dossier.papers.ends.items in
     let support = support_of ends g (bearings state.issues) in
     let is : test ≡ not (has_lost support supports.place) = test_is support (tells.follow.rows_are some g row first) in
-    subst (λ (b : Bool). IsTrue b ↔ (gone state g ≡ None)) (sym is) (none_if (gone state g) (has_lost support supports.place) (gone_told ends g supports.place state tells.ended_are))
+    subst (λ (b : Bool). IsTrue b ↔ (gone_by_issues state g ≡ None)) (sym is) (none_if (gone_by_issues state g) (has_lost support supports.place) (gone_told ends g supports.place state tells.ended_are))
 
 -- what is told before an event
 pub tells_gone : (dossier : Dossier) (supports : Supports) (base : BaseView) (events : List Event) (place : ℕ) (before : Before) → FollowIssues dossier (replay base (take place events)).issues supports → supports.place ≡ place →

@@ -8,7 +8,7 @@ use Rattle.issue_standings.specs.Bearing.{BearingView}
 use Rattle.access_history.specs.declared.event.Event.{Event}
 use Rattle.access_history.specs.declared.event.Issue.{Issue}
 use Rattle.access_history.specs.Base.{BaseView}
-use Rattle.access_history.specs.Gone.{bearings, gone}
+use Rattle.access_history.specs.Gone.{bearings, gone, gone_by_issues}
 use Rattle.access_history.specs.Replay.{next_state}
 use Rattle.procap.specs.Genuine.{IsGenuine}
 use Rattle.procap.specs.declared.procap.Procap.{Procap}
@@ -92,3 +92,8 @@ FollowsEvent dossier event old new = (state : BaseView) → FollowIssues dossier
 abbrev pub TellsStanding : Dossier → Supports → Procap → Bool → Type 0
 TellsStanding dossier supports p stands =
     (state : BaseView) → TellsGone dossier supports state → IsGenuine dossier.key p → IsTrue stands ↔ (gone state p.grant ≡ None)
+
+-- whether the grant of the procap is not gone by its issues, if its seal is right
+abbrev pub TellsStandingByIssues : Dossier → Supports → Procap → Bool → Type 0
+TellsStandingByIssues dossier supports p stands =
+    (state : BaseView) → TellsGone dossier supports state → IsGenuine dossier.key p → IsTrue stands ↔ (gone_by_issues state p.grant ≡ None)

@@ -1,11 +1,13 @@
-//! Issues that are good: the statements that they cite are there, and their grant is the verdict on their proof.
+//! Issues that are good: the statements that they cite are there, and their grant is the verdict on their proof, in one of
+//! its two forms.
 
 ghost use Rattle.std.specs.Prelude.{◌≡◌, ◌↔◌, IfOk, IsTrue, MatchOption};
 ghost use Rattle.proof_verifier.specs.Cited.{AreCited};
-ghost use Rattle.access_history.specs.Citing.{IsGoodIssue, IsGrantedFrom};
+ghost use Rattle.access_history.specs.Citing.{IsGoodIssue, IsGrantedFrom, numbers_of};
 ghost use Rattle.pcfs_audit.specs.Cites.{AreTheirs, HasNoIssue};
 ghost use Rattle.pcfs_audit.specs.Papers.{shown};
 
+use access_history::is_grant_of;
 use bl_syntax::{Grant, NoMemory, Statement, are_citable};
 use proof_term::ProofTree;
 use proof_verifier::{CheckFault, Cite, Cites, verdict};
@@ -45,19 +47,21 @@ fn is_without_memory(fault: CheckFault) -> bool
     }
 }
 
-// Whether the grant is the verdict on the proof from what is cited.
+// Whether the grant is the verdict on the proof from what these numbers cite, naming them or not.
 fn is_granted(
     alloc: Global,
     cites: &Cites,
+    cited: &[u32],
     proof: &ProofTree,
     grant: &Grant,
 ) -> Result<bool, NoMemory>
-    requires { AreCited cites.now }
+    requires rising { AreCited cites.now }
+    requires cited { numbers_of cites.now ≡ cited.now }
     ensures { IfOk result (λ granted. IsTrue granted ↔ IsGrantedFrom cites.now proof.now grant.now) }
 {
     let goal = grant.goal();
     match verdict(alloc, cites, &goal, proof) {
-        Ok(granted) => Ok(granted.is_same(grant)),
+        Ok(granted) => Ok(is_grant_of(&granted, cited, grant)),
         Err(fault) => {
             if is_without_memory(fault) {
                 return Err(NoMemory);
@@ -68,7 +72,7 @@ fn is_granted(
 }
 
 /// Whether an issue is good: it cites 1 to 64 of the statements by strictly rising numbers, and its grant is the verdict on
-/// its proof from them.
+/// its proof from them, or that one naming them.
 pub fn is_good_issue(
     alloc: Global,
     statements: &[&Statement],
@@ -79,7 +83,7 @@ pub fn is_good_issue(
     ensures { IfOk result (λ good. IsTrue good ↔ IsGoodIssue (shown statements.now) (record { cited = cited.now; proof = proof.now; grant = grant.now })) }
 {
     match cite(alloc, statements, cited) {
-        Ok(Some(cites)) => is_granted(alloc, &cites, proof, grant),
+        Ok(Some(cites)) => is_granted(alloc, &cites, cited, proof, grant),
         Ok(None) => Ok(false),
         Err(refused) => Err(refused),
     }

@@ -1,14 +1,14 @@
 //! Until when grants that were issued have support: an issue of whose statements none was withdrawn. A grant that was issued
-//! and has lost its support is gone.
+//! and has lost its support is gone, unless it names statements: then these tell.
 
 ghost use Rattle.std.specs.Prelude.{◌≡◌, ◌<◌, ◌+◌, [], true, Some, IfOk, length, not, replicate};
 ghost use Rattle.std.specs.List.{slice_get};
 ghost use Rattle.pcfs_audit.specs.Dossier.{IsDossier};
-ghost use Rattle.pcfs_audit.specs.Supports.{AreSupportsOf, CountsIssue, FollowIssues, FollowsEvent, FollowsIssue, TellsStanding, has_lost, supported};
+ghost use Rattle.pcfs_audit.specs.Supports.{AreSupportsOf, CountsIssue, FollowIssues, FollowsEvent, FollowsIssue, TellsStanding, TellsStandingByIssues, has_lost, supported};
 
 use crate::digests::tag_digest;
 use crate::dossier::Dossier;
-use crate::ends::first_end;
+use crate::ends::{first_end, is_past};
 use crate::grants::row_of;
 use access_history::Event;
 use bl_syntax::{Grant, NoMemory};
@@ -166,7 +166,7 @@ impl Supports {
         }
     }
 
-    /// Whether the grant of a sealed procap is not gone.
+    /// Whether the grant of a sealed procap is not gone: by the statements that it names, or else by its issues.
     pub fn does_stand(&self, dossier: &Dossier, procap: &Procap) -> bool
         requires { IsDossier dossier.now }
         ensures { TellsStanding dossier.now self.now procap.now result }
@@ -175,6 +175,19 @@ impl Supports {
         if !counts {
             return true;
         }
+        let named = procap.grant.cited();
+        if named.is_empty() {
+            return self.does_stand_by_issues(dossier, procap);
+        }
+        !is_past(first_end(dossier.papers.ends.as_slice(), named), self.place)
+    }
+
+    // Whether the grant of a sealed procap is not gone by its issues.
+    fn does_stand_by_issues(&self, dossier: &Dossier, procap: &Procap) -> bool
+        requires dossier { IsDossier dossier.now }
+        requires ended { dossier.now.papers.has_ended ≡ true }
+        ensures { TellsStandingByIssues dossier.now self.now procap.now result }
+    {
         match row_of(dossier, tag_digest(&procap.tag), &procap.grant) {
             None => true,
             Some(row) => self.has_support(row),

@@ -1,16 +1,14 @@
 -- No operation of a lawful history was admitted with a procap whose grant was gone.
-use Rattle.std.proofs.Common.{◌≡◌, ℕ, List, [], ◌∷◌, ◌++◌, subst}
+use Rattle.std.proofs.Common.{◌≡◌, ℕ, List, [], ◌∷◌, ◌++◌, Some, subst}
 use Rattle.std.specs.Prelude.{ℤ, Contains}
 use Rattle.procap.specs.declared.procap.Procap.{Procap}
-use Rattle.policy_statement.specs.Withdrawal.{is_withdrawn}
-use Rattle.issue_standings.specs.Gone.{IsGoneBy}
 use Rattle.file_world.specs.declared.operation.Op.{Op}
 use Rattle.file_world.specs.Needs.{Need, needs}
 use Rattle.access_history.specs.declared.event.Event.{Event}
 use Rattle.access_history.specs.declared.event.Event.TheVariants.{Acted}
 use Rattle.access_history.specs.Base.{BaseView}
 use Rattle.access_history.specs.Authority.{Authority}
-use Rattle.access_history.specs.Gone.{bearings}
+use Rattle.access_history.specs.Gone.{gone}
 use Rattle.access_history.specs.Numbered.{IsNumbered}
 use Rattle.access_history.specs.Replay.{replay, next_state}
 use Rattle.access_history.specs.Lawful.{AreLawful, no_event, one_more, MayFollow}
@@ -38,7 +36,7 @@ follows_there authority state (first ∷ earlier) later event each = follows_the
 
 pub gone_admits_nothing : (authority : Authority) (base : BaseView) (events earlier later : List Event) (pass : ℕ) (caller : List ℕ) (op : Op) (procaps : List Procap) (moment : ℤ) (need : Need) (p : Procap) (number : ℕ) → AreLawful authority base events →
     events ≡ earlier ++ Acted pass caller op procaps moment ∷ later → Contains (needs (replay base earlier).world op) need → IsNumbered procaps need.place p →
-    IsGoneBy (is_withdrawn (replay base earlier).statements) p.grant (bearings (replay base earlier).issues) number → ⊥
-gone_admits_nothing authority base events earlier later pass caller op procaps moment need p number lawful parts needed brought gone =
+    gone (replay base earlier) p.grant ≡ Some number → ⊥
+gone_admits_nothing authority base events earlier later pass caller op procaps moment need p number lawful parts needed brought fallen =
     let may = follows_there authority base earlier later (Acted pass caller op procaps moment) (subst (FollowEach authority base) parts (follow_each authority base events lawful)) in
-    gone_denied authority.key (replay base earlier) caller op procaps moment need p number needed brought gone may.admitted
+    gone_denied authority.key (replay base earlier) caller op procaps moment need p number needed brought fallen may.admitted

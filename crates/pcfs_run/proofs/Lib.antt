@@ -1,3 +1,4 @@
+pub mod AskedLemmas
 pub mod PassLemmas
 pub mod SentLemmas
 pub mod ServedLemmas

@@ -27,7 +27,7 @@ bare_all : (D : Type 0) (entries : List StoreEntry) → bare (numbered {D = D} e
 bare_all D [] = refl
 bare_all D (happened event ∷ entries) = ap (λ (l : List StoreEntry). happened event ∷ l) (bare_all D entries)
 bare_all D (checkpointed pass ∷ entries) = ap (λ (l : List StoreEntry). checkpointed pass ∷ l) (bare_all D entries)
-bare_all D (stopped pass ∷ entries) = ap (λ (l : List StoreEntry). stopped pass ∷ l) (bare_all D entries)
+bare_all D (stopped pass met ∷ entries) = ap (λ (l : List StoreEntry). stopped pass met ∷ l) (bare_all D entries)
 
 module _ {D : Type 0} where
   -- the passes that were taken in, each with its own entries without their numbers

@@ -2,7 +2,6 @@
 use Rattle.std.proofs.Common.{◌≡◌, ◌∙◌, ◌⊎◌, inl, inr, ℕ, ◌+◌, ◌≤◌, List, [], ◌∷◌, ◌++◌, ◌-◌, length, take, drop, append_assoc, append-nil, map, Bool, true, false, Option, Some, None, codes, decimal, refl, sym, ap, subst, arith, add-zero}
 use Rattle.pcfs_ports.specs.Accepted.{FallsBy}
 use Rattle.pcfs_ports.specs.Faults.{HasRisen}
-use Rattle.access_history.specs.Answer.{Answers}
 use Rattle.access_history.specs.Base.{BaseView}
 use Rattle.access_history.specs.History.{authority_with}
 use Rattle.access_history.specs.Lawful.{IsLawful}
@@ -19,8 +18,8 @@ use Rattle.pcfs_session.specs.Streams.{Streams}
 use Rattle.pcfs_session.proofs.StoredLemmas.{HasRisen-earlier}
 use Rattle.pcfs_store.specs.Entries.{Root, StoreEntry, happened, checkpointed, stopped, stop_entries, merged, root_of, entries_of, checkpoints_among, events_among}
 use Rattle.pcfs_store.specs.declared.checkpoints.Checkpoint.{Checkpoint}
-use Rattle.pcfs_store.specs.Newest.{SurvivesWholeClosed, one_of}
-use Rattle.pcfs_store.specs.Ready.{SurvivesWithOrWithout}
+use Rattle.pcfs_store.specs.Newest.{one_of}
+use Rattle.pcfs_store.specs.Ready.{SurvivesStop}
 use Rattle.pcfs_store.specs.StoredHistory.{state_after}
 use Rattle.pcfs_store.specs.StoreView.{StoreView, IsStore, first_disk, second_disk, head_of, image_since, image_of, last_after, records_of}
 use Rattle.pcfs_store.proofs.EntryLemmas.{events-entries, generation-entries}
@@ -28,14 +27,14 @@ use Rattle.recover.specs.declared.fault.OpenFault.{OpenFault}
 use Rattle.recover.specs.declared.fault.OpenFault.TheVariants as opens
 use Rattle.recover.specs.Opening.{IsNotOpened, IsNewestClosed}
 use Rattle.recover.specs.Opening as opening
-use Rattle.shared_store.specs.GoesOn.{HasGoneOn, HasMet, in_a_step, in_a_checkpoint}
+use Rattle.shared_store.specs.GoesOn.{HasGoneOn}
 use Rattle.pcfs_tools.specs.LastLine.{IsTold}
 use Rattle.pcfs_top.specs.Ports.{Rests, IfTold, AreBytesKept}
 use Rattle.pcfs_top.specs.Run.{IsNewestOf, TellsUnopened, damaged_text}
 use Rattle.pcfs_top.proofs.EndsWithLemmas.{disks_of, rests_of, newest_of, counts_now, closed_of, pinned_at, other_is, added_all, place_kept, place_moved, has_no_area}
 use Rattle.session_service.specs.Sessions.{SessionSources}
 use Rattle.pcfs_run.specs.Passes.{AreOfPasses, IsGrown, stop_among}
-use Rattle.pcfs_run.specs.Served.{Net, ServePorts, IsNetKept, AreAttended, IsMet, root_under, IsServed, TellsServed, ServeWrites, EndsServing, all_served, net_failed}
+use Rattle.pcfs_run.specs.Served.{Net, ServePorts, IsNetKept, AreAttended, root_under, IsServed, TellsServed, ServeWrites, EndsServing, all_served, net_failed}
 use Rattle.pcfs_run.specs.Served as serving
 
 -- ---- entries
@@ -44,18 +43,18 @@ events-append : (xs ys : List StoreEntry) → events_among (xs ++ ys) ≡ events
 events-append [] ys = refl
 events-append (happened event ∷ xs) ys = ap (λ (l : List Event). event ∷ l) (events-append xs ys)
 events-append (checkpointed pass ∷ xs) ys = events-append xs ys
-events-append (stopped pass ∷ xs) ys = events-append xs ys
+events-append (stopped pass met ∷ xs) ys = events-append xs ys
 
 checkpoints-append : (xs ys : List StoreEntry) → checkpoints_among (xs ++ ys) ≡ checkpoints_among xs + checkpoints_among ys
 checkpoints-append [] ys = omega arith
 checkpoints-append (happened event ∷ xs) ys = checkpoints-append xs ys
 checkpoints-append (checkpointed pass ∷ xs) ys = let rest = checkpoints-append xs ys in omega (arith, rest)
-checkpoints-append (stopped pass ∷ xs) ys = checkpoints-append xs ys
+checkpoints-append (stopped pass met ∷ xs) ys = checkpoints-append xs ys
 
 -- the entries of a store without checkpoints that runs are its events
 entries_opened : {D : Type 0} (s : StoreView D) → s.checkpoints ≡ [] → s.stop ≡ None → entries_of s ≡ map happened s.events
 entries_opened s none running =
-    ap (λ (cs : List Checkpoint). merged 0 s.events cs ++ stop_entries s.stop) none ∙ ap (λ (o : Option ℕ). map happened s.events ++ stop_entries o) running ∙ append-nil (map happened s.events)
+    ap (λ (cs : List Checkpoint). merged 0 s.events cs ++ stop_entries s.stop s.met) none ∙ ap (λ (o : Option ℕ). map happened s.events ++ stop_entries o s.met) running ∙ append-nil (map happened s.events)
 
 -- the mark among a store's entries is its stop
 stop-happened : (events : List Event) (rest : List StoreEntry) → stop_among (map happened events ++ rest) ≡ stop_among rest
@@ -71,18 +70,18 @@ stop-merged before events (checkpoint ∷ checkpoints) rest =
     ∙ stop-happened some (checkpointed checkpoint.pass ∷ (others ++ rest))
     ∙ stop-merged checkpoint.after (drop (checkpoint.after - before) events) checkpoints rest
 
-stop-last : (stop : Option ℕ) → stop_among (stop_entries stop) ≡ stop
-stop-last None = refl
-stop-last (Some pass) = refl
+stop-last : (stop : Option ℕ) (met : Option Event) → stop_among (stop_entries stop met) ≡ stop
+stop-last None met = refl
+stop-last (Some pass) met = refl
 
-stop-entries : (events : List Event) (checkpoints : List Checkpoint) (stop : Option ℕ) → stop_among (merged 0 events checkpoints ++ stop_entries stop) ≡ stop
-stop-entries events checkpoints stop = stop-merged 0 events checkpoints (stop_entries stop) ∙ stop-last stop
+stop-entries : (events : List Event) (checkpoints : List Checkpoint) (stop : Option ℕ) (met : Option Event) → stop_among (merged 0 events checkpoints ++ stop_entries stop met) ≡ stop
+stop-entries events checkpoints stop met = stop-merged 0 events checkpoints (stop_entries stop met) ∙ stop-last stop met
 
 stop-append : (xs ys : List StoreEntry) → stop_among xs ≡ None → stop_among (xs ++ ys) ≡ stop_among ys
 stop-append [] ys none = refl
 stop-append (happened event ∷ xs) ys none = stop-append xs ys none
 stop-append (checkpointed pass ∷ xs) ys none = stop-append xs ys none
-stop-append (stopped pass ∷ xs) ys none = absurd cc
+stop-append (stopped pass met ∷ xs) ys none = absurd cc
 
 same_place : (x y : Bool) → Some x ≡ Some y → x ≡ y
 same_place x y is = cc
@@ -163,7 +162,7 @@ module _ {D : Type 0} (sources : SessionSources) (clock : D → ℕ) (left_since
     -- the mark is none of the opening
     added_stop : (attended count : ℕ) (grown : IsGrown sources attended count s s') → stop_among grown.added ≡ s'.stop
     added_stop attended count grown =
-        sym (stop-append (entries_of s) grown.added (stop-entries s.events s.checkpoints s.stop ∙ opened.running)) ∙ ap stop_among (sym grown.parts) ∙ stop-entries s'.events s'.checkpoints s'.stop
+        sym (stop-append (entries_of s) grown.added (stop-entries s.events s.checkpoints s.stop s.met ∙ opened.running)) ∙ ap stop_among (sym grown.parts) ∙ stop-entries s'.events s'.checkpoints s'.stop s'.met
 
     added_checkpoints : (attended count : ℕ) (grown : IsGrown sources attended count s s') → checkpoints_among grown.added ≡ length s'.checkpoints
     added_checkpoints attended count grown =
@@ -195,30 +194,7 @@ module _ {D : Type 0} (sources : SessionSources) (clock : D → ℕ) (left_since
 
     added_events : (attended count : ℕ) (grown : IsGrown sources attended count s s') → s'.events ≡ s.events ++ events_among grown.added
     added_events attended count grown =
-        sym (events-entries s'.events s'.checkpoints s'.stop) ∙ ap events_among grown.parts ∙ events-append (entries_of s) grown.added ∙ ap (λ (l : List Event). l ++ events_among grown.added) (events-entries s.events s.checkpoints s.stop)
-
-    -- what is left by what met the fault
-    abbrev IsLeft : ℕ → Type 0
-    IsLeft pass =
-        IfTold (disks_of clock left_since image faults (first_disk s') (second_disk s')) (SurvivesWholeClosed s.base s'.events) ⊎
-        ((met : Event) × IsMet secrets s.base s'.events pass met × IfTold (disks_of clock left_since image faults (first_disk s') (second_disk s')) (SurvivesWithOrWithout s.base s'.events met))
-
-    left_by : (pass : ℕ) → HasMet clock left_since image s' pass → IsLeft pass
-    left_by pass (in_a_checkpoint survives) = inl (λ x y is_x is_y. under (λ key ring base. SurvivesWholeClosed base s'.events x y) (survives x y (may_stay (first_disk s') x is_x) (may_stay (second_disk s') y is_y)))
-    left_by pass (in_a_step halts) =
-        let asked = halts.asked in inr (
-          halts.met,
-          record {
-            moment = asked.moment;
-            request = asked.request;
-            reply = asked.reply;
-            in_range = asked.in_range;
-            well_formed = asked.well_formed;
-            answers = under (λ key ring base. Answers (authority_with key ring) (replay base s'.events) pass asked.moment asked.request asked.reply (Some halts.met)) asked.answers;
-            lawful = under (λ key ring base. IsLawful (authority_with key ring) base (s'.events ++ halts.met ∷ [])) (halts.follows lawful_then);
-          },
-          λ x y is_x is_y. under (λ key ring base. SurvivesWithOrWithout base s'.events halts.met x y) (halts.survives x y (may_stay (first_disk s') x is_x) (may_stay (second_disk s') y is_y)),
-        )
+        sym (events-entries s'.events s'.checkpoints s'.stop s'.met) ∙ ap events_among grown.parts ∙ events-append (entries_of s) grown.added ∙ ap (λ (l : List Event). l ++ events_among grown.added) (events-entries s.events s.checkpoints s.stop s.met)
 
     is_served : (attended count : ℕ) (stop : Option ℕ) → s'.stop ≡ stop → IsGrown sources attended count s s' →
         IsServed sources secrets (rests_of clock left_since image faults a b (first_disk s') (second_disk s')) (disks_of clock left_since image faults a b) (disks_of clock left_since image faults (first_disk s') (second_disk s')) attended count stop
@@ -234,7 +210,8 @@ module _ {D : Type 0} (sources : SessionSources) (clock : D → ℕ) (left_since
       checkpoints = s'.checkpoints;
       counted = added_checkpoints attended count grown;
       in_order = store'.in_order;
-      entries_are = ap (λ (o : Option ℕ). merged 0 s'.events s'.checkpoints ++ stop_entries o) (sym is) ∙ added_entries attended count grown;
+      met = s'.met;
+      entries_are = ap (λ (o : Option ℕ). merged 0 s'.events s'.checkpoints ++ stop_entries o s'.met) (sym is) ∙ added_entries attended count grown;
       stop_is = added_stop attended count grown ∙ is;
       events_are = added_events attended count grown;
       lawful = lawful_now;
@@ -256,7 +233,10 @@ module _ {D : Type 0} (sources : SessionSources) (clock : D → ℕ) (left_since
           counts_now clock left_since image faults s' store' (goes.current (opened.current x y is_x is_y) (is ∙ runs)) x' y' is_x' is_y'
           ∙ ap Some (place_moved goes.checkpoints_go_on.0 s'.checkpoints s.second_active second s'.second_active added_to (same_place s.second_active second (sym now ∙ counts)) goes.place_is);
       risen = λ pass stops. risen_since s s' opened (goes.failed pass (is ∙ stops));
-      survives = λ pass stops x y is_x is_y gate. left_by pass (goes.halts (opened.ready x y is_x is_y gate) pass (is ∙ stops));
+      follows = λ pass event stops same. under (λ key ring base. IsLawful (authority_with key ring) base (s'.events ++ event ∷ [])) (goes.follows pass event (is ∙ stops) same lawful_then);
+      survives = λ pass stops x y is_x is_y gate x' y' is_x' is_y'.
+          under (λ key ring base. SurvivesStop base s'.events s'.met x' y')
+          (goes.halts (opened.ready x y is_x is_y gate) pass (is ∙ stops) x' y' (may_stay (first_disk s') x' is_x') (may_stay (second_disk s') y' is_y'));
       other_stays = λ none x y is_x is_y second counts.
           let now = counts_now clock left_since image faults s store (opened.current x y is_x is_y) x y (opened.first_read.same ∙ is_x) (opened.second_read.same ∙ is_y) in
           subst (OtherAt stop) (same_place s.second_active second (sym now ∙ counts)) (other_by stop is none (goes.other_stays (added_to ∙ none)));

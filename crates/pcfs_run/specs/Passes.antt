@@ -31,4 +31,4 @@ abbrev pub stop_among : List StoreEntry → Option ℕ
 stop_among [] = None
 stop_among (happened event ∷ entries) = stop_among entries
 stop_among (checkpointed pass ∷ entries) = stop_among entries
-stop_among (stopped pass ∷ entries) = Some pass
+stop_among (stopped pass met ∷ entries) = Some pass

@@ -1,20 +1,15 @@
 -- How a run ends that gives connections sessions over the store in the areas. If a port does not tell what it has, nothing is said of that (this project's own).
-use Rattle.std.specs.Prelude.{◌≡◌, ◌⊎◌, ℕ, ℤ, ◌+◌, List, [], ◌∷◌, ◌++◌, String, codes, length, drop, map, Bool, Option, Some, None}
+use Rattle.std.specs.Prelude.{◌≡◌, ◌⊎◌, ℕ, ◌+◌, List, [], ◌∷◌, ◌++◌, String, codes, length, drop, map, Bool, Option, Some, None}
 use Rattle.std.specs.Fmt.{decimal}
 use Rattle.std.specs.declared.alloc.Global.{Global}
-use Rattle.bl_syntax.specs.TimeOrder.{IsMoment}
 use Rattle.pcfs_ports.specs.Faults.{HasRisen}
 use Rattle.pcfs_ports.specs.Told.{with_back, HoldsSome}
 use Rattle.journal_core.specs.Area.{generation_of}
-use Rattle.access_history.specs.Answer.{Answers}
 use Rattle.access_history.specs.Headline.{Headline}
 use Rattle.access_history.specs.Lawful.{IsLawful}
 use Rattle.access_history.specs.Base.{BaseView}
 use Rattle.access_history.specs.Replay.{replay}
-use Rattle.access_history.specs.WellFormed.{IsWellFormed}
 use Rattle.access_history.specs.declared.event.Event.{Event}
-use Rattle.access_history.specs.declared.request.StepRequest.{StepRequest}
-use Rattle.access_history.specs.declared.reply.StepReply.{StepReply}
 use Rattle.op_gate.specs.declared.damage.Damage.{Damage}
 use Rattle.pcfs_secrets.specs.declared.secrets.Secrets.{Secrets}
 use Rattle.pcfs_server.specs.declared.end.ServeEnd.{ServeEnd}
@@ -27,8 +22,8 @@ use Rattle.pcfs_store.specs.Entries.{Root, StoreEntry, happened, stop_entries, m
 use Rattle.pcfs_store.specs.Checkpoints.{place_after}
 use Rattle.pcfs_store.specs.StoredHistory.{state_after}
 use Rattle.pcfs_store.specs.StoreView.{AreInOrder, image_since, last_after}
-use Rattle.pcfs_store.specs.Newest.{SurvivesWholeClosed, newer, one_of}
-use Rattle.pcfs_store.specs.Ready.{SurvivesWithOrWithout}
+use Rattle.pcfs_store.specs.Newest.{newer, one_of}
+use Rattle.pcfs_store.specs.Ready.{SurvivesStop}
 use Rattle.recover.specs.Opening.{IsNewestHistory, IsNewestDamaged, IsNewestClosed}
 use Rattle.pcfs_tools.specs.LastLine.{IsTold, IsUntold}
 use Rattle.pcfs_top.specs.Ports.{Disks, Ports, Rests, IfTold, HasDiskFailed, AreBytesKept}
@@ -61,16 +56,6 @@ pub record AreAttended (count : ℕ) (before after : Net) (end : ServeEnd) : Typ
   pub cause : HasCause end count after.over after.waiting
   pub risen : IsNetFault end → HasRisen before.faults after.faults ⊎ HasRisen before.nonce_faults after.nonce_faults
 
--- The event is what the answer to a request of the pass keeps, over the history of these events, which it goes on lawfully.
-pub record IsMet (secrets : Secrets) (base : BaseView) (events : List Event) (pass : ℕ) (met : Event) : Type 0 where
-  pub moment : ℤ
-  pub request : StepRequest
-  pub reply : StepReply
-  pub in_range : IsMoment moment
-  pub well_formed : IsWellFormed request
-  pub answers : Answers (authority_under secrets) (replay base events) pass moment request reply (Some met)
-  pub lawful : IsLawful (authority_under secrets) base (events ++ met ∷ [])
-
 -- what a store was opened with under the secrets: an area of this generation, which begins with this image of this base
 abbrev pub root_under : Secrets → ℕ → List ℕ → BaseView → Root
 root_under secrets generation image base = record { base = base; key = secrets.seal_key; ring = secrets.ring; generation = generation; image_length = length image }
@@ -78,7 +63,8 @@ root_under secrets generation image base = record { base = base; key = secrets.s
 -- The store on the disks was opened, and connections had sessions over it. The history that was found is that of the newest area, from its image. Its events at the end are those, and then the ones that the sessions' passes added, and the checkpoints are those that these passes made, each after its
 -- number of events: each of them was added in a turn of a line of its pass's session; the events are lawful, so the headline holds of them. Unless a disk failed, the newest area has the generation of the opened one, and one more for each checkpoint, and stands for the state at the last of these, or for
 -- the opened base if there is none, and the events since; it is on the other disk after each of them; and if the opened one had its closed gate, it has too, and nothing is pending. If one failed in a turn of some pass, its count rose; and if the opened area had its closed gate, the newest one stands
--- for these events, or, in a step, for them with the one that met the fault. The area that did not count is as it was, if no checkpoint was made; only if one was tried, its disk may have failed.
+-- for these events, or, in a step, for them with the event that the step was keeping, which may follow them: this is in the mark, which is one of the entries of the pass's session, so that a line of the session asks for it. The area that did not count is as it was, if no checkpoint was made; only if
+-- one was tried, its disk may have failed.
 pub record IsServed (sources : SessionSources) (secrets : Secrets) (rests : Rests) (before after : Disks) (attended count : ℕ) (stop : Option ℕ) : Type 0 where
   pub generation : ℕ
   pub image : List ℕ
@@ -91,7 +77,8 @@ pub record IsServed (sources : SessionSources) (secrets : Secrets) (rests : Rest
   pub checkpoints : List Checkpoint
   pub counted : checkpoints_among added ≡ length checkpoints
   pub in_order : AreInOrder 0 (length events) checkpoints
-  pub entries_are : merged 0 events checkpoints ++ stop_entries stop ≡ map happened opened ++ added
+  pub met : Option Event
+  pub entries_are : merged 0 events checkpoints ++ stop_entries stop met ≡ map happened opened ++ added
   pub stop_is : stop_among added ≡ stop
   pub events_are : events ≡ opened ++ events_among added
   pub lawful : IsLawful (authority_under secrets) base events
@@ -101,7 +88,8 @@ pub record IsServed (sources : SessionSources) (secrets : Secrets) (rests : Rest
       rests.after × IfTold after (IsNewestClosed (generation + length checkpoints) (image_since image (state_after base events (last_after 0 checkpoints)) checkpoints) (drop (last_after 0 checkpoints) events)))
   pub place : stop ≡ None → IfTold before (λ x y. (second : Bool) → newer (generation_of x) (generation_of y) ≡ Some second → IfTold after (λ u v. newer (generation_of u) (generation_of v) ≡ Some (place_after (length checkpoints) second)))
   pub risen : (pass : ℕ) → stop ≡ Some pass → HasDiskFailed before after
-  pub survives : (pass : ℕ) → stop ≡ Some pass → IfTold before (λ x y. IsNewestClosed generation image opened x y → IfTold after (SurvivesWholeClosed base events) ⊎ ((met : Event) × IsMet secrets base events pass met × IfTold after (SurvivesWithOrWithout base events met)))
+  pub follows : (pass : ℕ) (event : Event) → stop ≡ Some pass → met ≡ Some event → IsLawful (authority_under secrets) base (events ++ event ∷ [])
+  pub survives : (pass : ℕ) → stop ≡ Some pass → IfTold before (λ x y. IsNewestClosed generation image opened x y → IfTold after (SurvivesStop base events met))
   pub other_stays : checkpoints ≡ [] → IfTold before (λ x y. (second : Bool) → newer (generation_of x) (generation_of y) ≡ Some second →
       (one_of after.b after.a second ≡ one_of before.b before.a second) ⊎ ((pass : ℕ) × (stop ≡ Some pass) × HasRisen (one_of before.b_faults before.a_faults second) (one_of after.b_faults after.a_faults second)))
 

@@ -2,7 +2,7 @@
 
 ghost use Rattle.pcfs_ports.specs.Disk.{IsPinned};
 ghost use Rattle.session_service.specs.Sessions.{sources_of};
-ghost use Rattle.pcfs_run.specs.Laws.{GoneAdmitNothing, NothingIsAddedUnsaid};
+ghost use Rattle.pcfs_run.specs.Laws.{GoneAdmitNothing, NothingIsAddedUnsaid, EachEntryHasItsLine};
 ghost use Rattle.pcfs_run.specs.Healthy.{HealthyRunsEndSo};
 
 use pcfs_ports::{Clock, Disk, Listener, Source};
@@ -10,6 +10,15 @@ use pcfs_ports::{Clock, Disk, Listener, Source};
 /// If no connection may say a line, as where all inputs tell that they are empty, nothing is added.
 pub fn nothing_is_added_unsaid<I: Source, C: Clock>(input: &I, clock: &C)
     ensures { NothingIsAddedUnsaid (sources_of (C.gives clock.now) I.left) }
+{
+    let _ = input;
+    let _ = clock;
+}
+
+/// Each entry that was added is one that a line of a session asks for, of somebody who logged in, at a moment that the clock
+/// gives; and so is the event with which a disk failed, which may be on the disk.
+pub fn each_entry_has_its_line<I: Source, C: Clock>(input: &I, clock: &C)
+    ensures { EachEntryHasItsLine (sources_of (C.gives clock.now) I.left) }
 {
     let _ = input;
     let _ = clock;
@@ -31,8 +40,8 @@ pub fn healthy_runs_end_so<I: Source, D: Disk, C: Clock, L: Listener>(
     let _ = net;
 }
 
-/// No operation of a history that a run leaves, of which the headline holds, was admitted with a procap that was issued, if
-/// each issue of its grant cites a statement that was withdrawn before that very step.
+/// No operation of a history that a run leaves, of which the headline holds, was admitted with a procap whose grant was gone
+/// at that very step: by a statement that it names and that was withdrawn before, or, if it names none, by its issues.
 pub fn gone_procaps_admit_nothing()
     ensures { GoneAdmitNothing }
 {}

@@ -112,7 +112,7 @@ IsFollowed-show before after number sees reply sees_is asked =
 
 -- the gate of a store
 abbrev gate_of : {D : Type 0} → StoreView D → GateView
-gate_of s = record { key = s.key; ring = s.ring; base = s.base; events = s.events; pending = None }
+gate_of s = record { key = s.key; ring = s.ring; base = s.base; events = s.events; pending = s.met }
 
 -- the signature of a withdrawal where an interpreter stands, by the history that its gate shows
 pub withdrawal_here : {D : Type 0} (history : HistoryView) (gate : GateView) (inside seated : InterpreterView D) (number : ℕ) (given : Option (List ℕ)) (signature : List ℕ) → history.ring ≡ gate.ring → history.base ≡ gate.base → history.events ≡ gate.events →

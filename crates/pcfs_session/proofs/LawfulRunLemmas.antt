@@ -38,7 +38,7 @@ abbrev FollowsIn : Authority → BaseView → Option StoreEntry → Type 0
 FollowsIn authority state None = Unit {0}
 FollowsIn authority state (Some (happened event)) = MayFollow authority state event
 FollowsIn authority state (Some (checkpointed pass)) = Unit {0}
-FollowsIn authority state (Some (stop_mark pass)) = Unit {0}
+FollowsIn authority state (Some (stop_mark pass met)) = Unit {0}
 
 follows_in : (authority : Authority) (state : BaseView) (pass : ℕ) (clock : ℤ) (request : StepRequest) (reply : StepReply) (event : Option Event) → IsLawfulBase authority state → IsMoment clock → IsWellFormed request →
     Answers authority state pass clock request reply event → FollowsIn authority state (option_map happened event)
@@ -90,7 +90,7 @@ with_event authority base events event lawful few follows = record {
 kept_stands : (s : Standing) (entry : Option StoreEntry) (asker : Asker) → IsLawfulStanding s → IsAsker asker → HasRoom s entry → FollowsIn (authority_under s.secrets) (state_of_standing s) entry → IsLawfulStanding (standing_after s entry asker)
 kept_stands s None asker stands is_asker room follows = record { lawful = stands.lawful; asker = is_asker }
 kept_stands s (Some (checkpointed pass)) asker stands is_asker room follows = record { lawful = stands.lawful; asker = is_asker }
-kept_stands s (Some (stop_mark pass)) asker stands is_asker room follows = record { lawful = stands.lawful; asker = is_asker }
+kept_stands s (Some (stop_mark pass met)) asker stands is_asker room follows = record { lawful = stands.lawful; asker = is_asker }
 kept_stands s (Some (happened event)) asker stands is_asker room follows =
     record { lawful = with_event (authority_under s.secrets) s.base s.events event stands.lawful (has_number s event room) follows; asker = is_asker }
 
@@ -127,7 +127,7 @@ kept_on s None asker = record { added = []; made = []; secrets = refl; base = re
 kept_on s (Some (happened event)) asker = record { added = event ∷ []; made = []; secrets = refl; base = refl; events = refl; checkpoints = sym (append-nil s.checkpoints); generation = omega arith }
 kept_on s (Some (checkpointed pass)) asker =
     record { added = []; made = record { after = length s.events; pass = pass } ∷ []; secrets = refl; base = refl; events = sym (append-nil s.events); checkpoints = refl; generation = refl }
-kept_on s (Some (stop_mark pass)) asker = record { added = []; made = []; secrets = refl; base = refl; events = sym (append-nil s.events); checkpoints = sym (append-nil s.checkpoints); generation = omega arith }
+kept_on s (Some (stop_mark pass met)) asker = record { added = []; made = []; secrets = refl; base = refl; events = sym (append-nil s.events); checkpoints = sym (append-nil s.checkpoints); generation = omega arith }
 
 becomes_on : (s after : Standing) (told : LineReply) (asker : Asker) (entry : Option StoreEntry) (reply : LineReply) → Becomes s told asker entry reply after → GoesOn s after
 becomes_on s _ told asker _ _ (kept event room) = kept_on s event asker

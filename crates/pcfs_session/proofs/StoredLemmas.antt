@@ -6,14 +6,13 @@ use Rattle.access_history.specs.declared.event.Event.{Event}
 use Rattle.access_history.specs.declared.request.StepRequest.{StepRequest}
 use Rattle.access_history.specs.declared.reply.StepReply.{StepReply}
 use Rattle.access_history.specs.Lawful.{IsLawful}
-use Rattle.access_history.proofs.AnswerLemmas.{one_answer}
 use Rattle.line_wire.specs.declared.reply.LineReply.{LineReply}
 use Rattle.line_wire.specs.declared.reply.LineReply.TheVariants as replies
 use Rattle.pcfs_store.specs.declared.reply.StoreReply.{StoreReply}
 use Rattle.pcfs_store.specs.declared.reply.StoreReply.TheVariants as stores
 use Rattle.pcfs_store.specs.Newest.{one_of}
 use Rattle.pcfs_store.specs.StoreView.{StoreView, first_disk, second_disk, authority_of_store, AnswersIn}
-use Rattle.pcfs_store.specs.Ready.{IsReady, IsCurrent, StopsNow, SurvivesWithOrWithout}
+use Rattle.pcfs_store.specs.Ready.{IsReady, IsCurrent, StopsNow, SurvivesStop}
 use Rattle.pcfs_store.specs.Steps.{Steps}
 use Rattle.pcfs_store.specs.Steps as steps
 use Rattle.line_forms.specs.declared.command.Command.TheVariants as commands
@@ -109,8 +108,7 @@ module _ {D : Type 0} (clock : D → ℕ) (left_since : D → ℕ → List ℕ �
     pub answer : Steps faults old asker.pass asker.clock request result new
     pub stays_ready : IsReady clock left_since image old → result ≢ stores.Stopped → IsReady clock left_since image new
     pub stays_current : IsCurrent clock left_since image old → result ≢ stores.Stopped → IsCurrent clock left_since image new
-    pub met : IsReady clock left_since image old → result ≡ stores.Stopped →
-        (reply : StepReply) × (event : Event) × AnswersIn old asker.pass asker.clock request reply (Some event) × StopsNow clock left_since image new (SurvivesWithOrWithout old.base old.events event)
+    pub met : IsReady clock left_since image old → result ≡ stores.Stopped → StopsNow clock left_since image new (SurvivesStop old.base old.events new.met)
     pub first_never_falls : faults (first_disk old) ≤ faults (first_disk new)
     pub second_never_falls : faults (second_disk old) ≤ faults (second_disk new)
 
@@ -160,11 +158,6 @@ module _ {D : Type 0} (clock : D → ℕ) (left_since : D → ℕ → List ℕ �
   }
 
   -- a disk failed
-  same_event : (old : StoreView D) (asker : Asker) (request : StepRequest) → IsLawful (authority_of_store old) old.base old.events → (reply other : StepReply) (event found : Event) → AnswersIn old asker.pass asker.clock request reply (Some event) →
-      AnswersIn old asker.pass asker.clock request other (Some found) → found ≡ event
-  same_event old asker request lawful reply other event found answer answer' =
-      some_same found event (sym (one_answer (authority_of_store old) old.base old.events asker.pass asker.clock request reply other (Some event) (Some found) lawful answer answer').1)
-
   by_fault : (old new : StoreView D) (asker : Asker) (request : StepRequest) → IsLawful (authority_of_store old) old.base old.events → old.stop ≡ None → Stepped old asker request stores.Stopped new → Steps faults old asker.pass asker.clock request stores.Stopped new →
       LeadsTo clock left_since image faults (IsDecidedAs request) (seen old asker) replies.Stopped (seen new asker)
   by_fault old _ asker request lawful running s (steps.failed reply event active is answer room risen) = record {
@@ -179,9 +172,7 @@ module _ {D : Type 0} (clock : D → ℕ) (left_since : D → ℕ → List ℕ �
       other_stays = λ none untried. refl;
       ready = λ is_ready none. none_some (happened event) (sym none);
       halts = λ is_ready e same.
-          let m = s.met is_ready refl in
-          let it : happened m.1 ≡ e = ap happened (same_event old asker request lawful reply m.0 event m.1 answer m.2) ∙ some_same (happened event) e same in
-          subst (λ (x : StoreEntry). StopsNow clock left_since image (record old { active = active; stop = Some asker.pass }) (SurvivesMet old.base old.events x)) it m.3;
+          subst (λ (x : StoreEntry). StopsNow clock left_since image (record old { active = active; stop = Some asker.pass; met = Some event }) (SurvivesMet old.base old.events x)) (some_same (happened event) e same) (s.met is_ready refl);
       current = λ is_current none. none_some (happened event) (sym none);
       first_never_falls = s.first_never_falls;
       second_never_falls = s.second_never_falls;
@@ -260,7 +251,7 @@ module _ {D : Type 0} (clock : D → ℕ) (left_since : D → ℕ → List ℕ �
         goes_on = StoreGoesOn-same old running;
       })
   by_checkpoint old _ asker _ told running is s (makes.failed other goes fits risen) =
-      subst (λ (t : LineReply). LeadsTo clock left_since image faults (IsFollowed commands.Checkpoint) (seen old asker) t (seen (record old { other = other; stop = Some asker.pass }) asker)) (sym is)
+      subst (λ (t : LineReply). LeadsTo clock left_since image faults (IsFollowed commands.Checkpoint) (seen old asker) t (seen (record old { other = other; stop = Some asker.pass; met = None }) asker)) (sym is)
       (record {
         met = Some (checkpointed asker.pass);
         holds = record { told = replies.Checkpointed; entry = Some (checkpointed asker.pass); answer = line_answer.made line_answer.makes_checkpoint; becomes = stopped (checkpointed asker.pass) fits };
@@ -272,7 +263,7 @@ module _ {D : Type 0} (clock : D → ℕ) (left_since : D → ℕ → List ℕ �
           place_is = refl;
           other_stays = λ none untried. absurd (untried asker.pass refl);
           ready = λ is_ready none. none_some (checkpointed asker.pass) (sym none);
-          halts = λ is_ready e same. subst (λ (x : StoreEntry). StopsNow clock left_since image (record old { other = other; stop = Some asker.pass }) (SurvivesMet old.base old.events x)) (some_same (checkpointed asker.pass) e same) (s.halts is_ready refl);
+          halts = λ is_ready e same. subst (λ (x : StoreEntry). StopsNow clock left_since image (record old { other = other; stop = Some asker.pass; met = None }) (SurvivesMet old.base old.events x)) (some_same (checkpointed asker.pass) e same) (s.halts is_ready refl);
           current = λ is_current none. none_some (checkpointed asker.pass) (sym none);
           first_never_falls = s.first_never_falls;
           second_never_falls = s.second_never_falls;

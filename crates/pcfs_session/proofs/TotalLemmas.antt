@@ -219,7 +219,7 @@ full_or_not s (happened event) =
 full_or_not s (checkpointed pass) =
     bounds (length (image_spelling (state_of_standing s)) + 25) area_limit s.generation (2 ^ 48 - 1)
     (cases_lt area_limit (length (image_spelling (state_of_standing s)) + 25)) (cases_lt s.generation (2 ^ 48 - 1))
-full_or_not s (stop_mark pass) = inr (λ no. no)
+full_or_not s (stop_mark pass met) = inr (λ no. no)
 
 full_calm : IsUndisturbed replies.Full
 full_calm = record { had_memory = λ is. absurd cc; not_stopped = λ is. absurd cc }
@@ -228,7 +228,7 @@ full_calm = record { had_memory = λ is. absurd cc; not_stopped = λ is. absurd 
 no_fault : (s : Standing) (entry : StoreEntry) (asker : Asker) → s.met ≡ None → (standing_after s (Some entry) asker).met ≡ None
 no_fault s (happened event) asker going = going
 no_fault s (checkpointed pass) asker going = going
-no_fault s (stop_mark pass) asker going = going
+no_fault s (stop_mark pass met) asker going = going
 
 entry_goes : (s : Standing) (told : LineReply) (asker : Asker) (entry : StoreEntry) → s.met ≡ None → IsUndisturbed told → IsFullIn s entry ⊎ HasRoom s (Some entry) → GoesWell s told asker (Some entry)
 entry_goes s told asker entry going calm (inl is_full) = record { reply = replies.Full; after = s; becomes = full entry is_full; calm = full_calm; going = going }

@@ -47,7 +47,7 @@ pub record IsLawfulStanding (s : Standing) : Type 0 where
 abbrev pub IsFullIn : Standing → StoreEntry → Type 0
 IsFullIn s (happened event) = IsFull s.used (state_of_standing s).count event
 IsFullIn s (checkpointed pass) = (area_limit < length (image_spelling (state_of_standing s)) + 25) ⊎ (2 ^ 48 - 1 ≤ s.generation)
-IsFullIn s (stop_mark pass) = ⊥
+IsFullIn s (stop_mark pass met) = ⊥
 
 -- what is to be added has room here, if there is something
 abbrev pub HasRoom : Standing → Option StoreEntry → Type 0
@@ -59,7 +59,7 @@ abbrev pub standing_with : Standing → StoreEntry → Standing
 standing_with s (happened event) = record s { events = s.events ++ event ∷ []; used = used_with s.used event }
 standing_with s (checkpointed pass) =
     record s { checkpoints = s.checkpoints ++ record { after = length s.events; pass = pass } ∷ []; generation = s.generation + 1; used = 24 + length (image_spelling (state_of_standing s)) }
-standing_with s (stop_mark pass) = s
+standing_with s (stop_mark pass met) = s
 
 -- after an answer: what it adds is there
 abbrev pub standing_after : Standing → Option StoreEntry → Asker → Standing

@@ -22,7 +22,7 @@ use Rattle.pcfs_store.specs.Image.{IsImageOf}
 use Rattle.pcfs_store.specs.StoredHistory.{payloads_of, state_after, area_since}
 use Rattle.pcfs_store.specs.Newest.{newest, one_of, SurvivesWholeClosed}
 use Rattle.pcfs_store.specs.StoreView.{StoreView, first_disk, second_disk, last_after, settled_of, head_of, image_since, image_of, body_of, state_of_store, AreInOrder, IsStore}
-use Rattle.pcfs_store.specs.Ready.{tie, IsBehind, IsReady, IsCurrent, StopsLeave, StopsNow, Keeps, ready, halted, halted_whole}
+use Rattle.pcfs_store.specs.Ready.{tie, IsBehind, IsReady, IsCurrent, StopsLeave, StopsNow, Keeps, ready, halted}
 use Rattle.pcfs_store.specs.Checkpoints.{IsFullForCheckpoint, with_checkpoint, MakesCheckpoint, made, full, failed, stopped, without_memory, IsNewestCheckpoint, Checkpoints}
 use Rattle.pcfs_store.specs.Moving.{Overwrites}
 use Rattle.pcfs_store.proofs.SurvivalLemmas.{IsTellable, tellable_store, survives_closed, newest_active, generation_since, order_above, order_more, at_some, if_some, ready_survives_now}
@@ -327,13 +327,12 @@ module _ {D : Type 0} (clock : D → ℕ) (left_since : D → ℕ → List ℕ �
 
           stays : Keeps clock left_since image old → Keeps clock left_since image new
           stays (ready is_ready) = ready (next_ready is_ready)
-          stays (halted earlier met stop leaves) = absurd (none_some old.stop earlier running stop)
-          stays (halted_whole earlier stop leaves) = absurd (none_some old.stop earlier running stop)
+          stays (halted earlier stop leaves) = absurd (none_some old.stop earlier running stop)
 
     -- ---- the disk failed
 
     pub was_stopped : ((d : D) (t u : ℕ) (bytes : List ℕ) → t ≤ u → left_since d u bytes → left_since d t bytes) → HasRisen (faults old.other) (faults disk) → (pass : ℕ) → old.stop ≡ None →
-        Checkpoints clock left_since image faults old pass Stopped (record old { other = disk; stop = Some pass })
+        Checkpoints clock left_since image faults old pass Stopped (record old { other = disk; stop = Some pass; met = None })
     was_stopped earlier risen pass running = record {
       answer = failed disk running room risen;
       stays_ready = λ is_ready goes. absurd (goes refl);
@@ -352,14 +351,13 @@ module _ {D : Type 0} (clock : D → ℕ) (left_since : D → ℕ → List ℕ �
         unlike : Stopped ≡ Checkpointed → ⊥
         unlike e = cc
 
-        leaves_now : IsReady clock left_since image old → StopsNow clock left_since image (record old { other = disk; stop = Some pass }) (SurvivesWholeClosed old.base old.events)
+        leaves_now : IsReady clock left_since image old → StopsNow clock left_since image (record old { other = disk; stop = Some pass; met = None }) (SurvivesWholeClosed old.base old.events)
         leaves_now is_ready x y left_x left_y =
             let later : clock old.other ≤ clock disk = (goes_on is_ready).later in
             leaves is_ready x y
             (earlier (one_of old.active disk old.second_active) (clock (one_of old.active old.other old.second_active)) (clock (one_of old.active disk old.second_active)) x (later_other old.second_active old.active old.other disk later) left_x)
             (earlier (one_of disk old.active old.second_active) (clock (one_of old.other old.active old.second_active)) (clock (one_of disk old.active old.second_active)) y (later_one old.second_active old.active old.other disk later) left_y)
 
-        stays : Keeps clock left_since image old → Keeps clock left_since image (record old { other = disk; stop = Some pass })
-        stays (ready is_ready) = halted_whole pass refl (leaves_now is_ready)
-        stays (halted first met stop leaves) = absurd (none_some old.stop first running stop)
-        stays (halted_whole first stop leaves) = absurd (none_some old.stop first running stop)
+        stays : Keeps clock left_since image old → Keeps clock left_since image (record old { other = disk; stop = Some pass; met = None })
+        stays (ready is_ready) = halted pass refl (leaves_now is_ready)
+        stays (halted first stop leaves) = absurd (none_some old.stop first running stop)

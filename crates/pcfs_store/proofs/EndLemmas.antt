@@ -65,21 +65,28 @@ module _ {D : Type 0} (clock : D → ℕ) (left_since : D → ℕ → List ℕ �
     after_is : after ≡ record gate { pending = after.pending }
     after_is = gate_is gate after key ring base events
 
+    -- nothing was pending before
+    abbrev with_pending : Option Event → GateView
+    with_pending event = record gate { pending = event }
+
+    idle_is : with_pending None ≡ gate
+    idle_is = ap with_pending (sym (keeping.idle running))
+
     -- nothing is kept
-    same_end : (result : StoreReply) → (result ≡ Stopped → ⊥) → Steps faults before pass at request result before → Ends result (store_of area other second generation opened after checkpoints stop)
-    same_end result goes steps =
-        subst (λ (g : GateView). Ends result (store_of area other second generation opened g checkpoints stop)) (sym after_is)
+    same_end : (result : StoreReply) → after.pending ≡ None → (result ≡ Stopped → ⊥) → Steps faults before pass at request result before → Ends result (store_of area other second generation opened after checkpoints stop)
+    same_end result none goes steps =
+        subst (λ (g : GateView). Ends result (store_of area other second generation opened g checkpoints stop)) (sym (after_is ∙ ap with_pending none ∙ idle_is))
         (ends result before (nothing_changed clock left_since image faults before pass at request result keeping.store steps (λ _ is. goes is)))
 
-    pub answered_end : (reply : StepReply) → Answers (authority_with gate.key gate.ring) (replay gate.base gate.events) pass raw request reply None → Ends (Step reply) (store_of area other second generation opened after checkpoints stop)
-    answered_end reply answers =
-        same_end (Step reply) (λ is. unlike is) (answered reply running (subst (λ (z : ℤ). Answers (authority_with gate.key gate.ring) (replay gate.base gate.events) pass z request reply None) raw_is answers))
+    pub answered_end : (reply : StepReply) → Answers (authority_with gate.key gate.ring) (replay gate.base gate.events) pass raw request reply None → after.pending ≡ None → Ends (Step reply) (store_of area other second generation opened after checkpoints stop)
+    answered_end reply answers none =
+        same_end (Step reply) none (λ is. unlike is) (answered reply running (subst (λ (z : ℤ). Answers (authority_with gate.key gate.ring) (replay gate.base gate.events) pass z request reply None) raw_is answers))
       where
         unlike : Step reply ≡ Stopped → ⊥
         unlike is = cc
 
-    pub undecided_end : Ends NoMemory (store_of area other second generation opened after checkpoints stop)
-    undecided_end = same_end NoMemory (λ is. unlike is) (without_memory running)
+    pub undecided_end : after.pending ≡ None → Ends NoMemory (store_of area other second generation opened after checkpoints stop)
+    undecided_end none = same_end NoMemory none (λ is. unlike is) (without_memory running)
       where
         unlike : NoMemory ≡ Stopped → ⊥
         unlike is = cc
@@ -110,7 +117,7 @@ module _ {D : Type 0} (clock : D → ℕ) (left_since : D → ℕ → List ℕ �
       kept_is : HasWritten clock left_since image faults area area_after event → gate_after ≡ with_kept (record gate { pending = after.pending }) event →
           store_of area_after other second generation opened gate_after checkpoints stop ≡ with_event before event area_after.disk
       kept_is written is =
-          ap (λ (g : GateView). store_of area_after other second generation opened g checkpoints stop) is
+          ap (λ (g : GateView). store_of area_after other second generation opened g checkpoints stop) (is ∙ ap (λ (g : GateView). record g { events = gate.events ++ event ∷ [] }) idle_is)
           ∙ ap (λ (n : ℕ). record before { active = area_after.disk; used = n; events = gate.events ++ event ∷ [] }) (let long : area_after.end ≡ area.end + (5 + length (event_spelling event)) = omega (arith, written.end) in long)
 
       pub kept_end : IfSome after.pending (λ e. KeepsPending clock left_since image faults area after e (Ok tt) area_after gate_after) → Ends (Step reply) (store_of area_after other second generation opened gate_after checkpoints stop)
@@ -125,12 +132,12 @@ module _ {D : Type 0} (clock : D → ℕ) (left_since : D → ℕ → List ℕ �
           let k = became (Ok tt) keeps in
           record {
             store = subst IsStore (sym (kept_is k.0 k.2)) (push_store clock left_since image faults before event area_after keeping.store k.0.writes);
-            idle = ap (λ (g : GateView). g.pending) k.2;
+            idle = λ _. ap (λ (g : GateView). g.pending) k.2;
           }
 
       -- it was dropped
       dropped_is : area_after ≡ area → gate_after ≡ without_pending (record gate { pending = after.pending }) → store_of area_after other second generation opened gate_after checkpoints stop ≡ before
-      dropped_is same is = ap (λ (a : AreaView D). store_of a other second generation opened gate_after checkpoints stop) same ∙ ap (λ (g : GateView). store_of area other second generation opened g checkpoints stop) is
+      dropped_is same is = ap (λ (a : AreaView D). store_of a other second generation opened gate_after checkpoints stop) same ∙ ap (λ (g : GateView). store_of area other second generation opened g checkpoints stop) (is ∙ idle_is)
 
       dropped_end : (result : StoreReply) → (result ≡ Stopped → ⊥) → Steps faults before pass at request result before → area_after ≡ area → gate_after ≡ without_pending (record gate { pending = after.pending }) →
           Ends result (store_of area_after other second generation opened gate_after checkpoints stop)
@@ -154,16 +161,16 @@ module _ {D : Type 0} (clock : D → ℕ) (left_since : D → ℕ → List ℕ �
           unlike is = cc
 
       -- the disk failed
-      failed_is : HasFailed clock left_since image faults area area_after event → gate_after ≡ without_pending (record gate { pending = after.pending }) →
-          store_of area_after other second generation opened gate_after checkpoints (Some pass) ≡ record before { active = area_after.disk; stop = Some pass }
+      failed_is : HasFailed clock left_since image faults area area_after event → gate_after ≡ record gate { pending = after.pending } →
+          store_of area_after other second generation opened gate_after checkpoints (Some pass) ≡ record before { active = area_after.disk; stop = Some pass; met = Some event }
       failed_is fault is =
-          ap (λ (g : GateView). store_of area_after other second generation opened g checkpoints (Some pass)) is
-          ∙ ap (λ (n : ℕ). record before { active = area_after.disk; used = n; stop = Some pass }) fault.end
+          ap (λ (g : GateView). store_of area_after other second generation opened g checkpoints (Some pass)) (is ∙ ap with_pending decided.2)
+          ∙ ap (λ (n : ℕ). record before { active = area_after.disk; used = n; stop = Some pass; met = Some event }) fault.end
 
       pub failed_end : ((disk : D) (t u : ℕ) (bytes : List ℕ) → t ≤ u → left_since disk u bytes → left_since disk t bytes) →
           (fault : AreaFault) → fault ≡ faults_of_area.Disk → IfSome after.pending (λ e. KeepsPending clock left_since image faults area after e (Err fault) area_after gate_after) → Ends Stopped (store_of area_after other second generation opened gate_after checkpoints (Some pass))
       failed_end earlier fault fault_is keeps =
           let k = became (Err faults_of_area.Disk) (with_fault fault faults_of_area.Disk fault_is keeps) in
           subst (Ends Stopped) (sym (failed_is k.0 k.2))
-          (ends Stopped (record before { active = area_after.disk; stop = Some pass })
+          (ends Stopped (record before { active = area_after.disk; stop = Some pass; met = Some event })
           (has_failed clock left_since image faults before event area_after keeping.store k.0.writes earlier k.0.risen pass at request reply running answers k.1))

@@ -29,15 +29,15 @@ among-append : (xs ys : List StoreEntry) → events_among (xs ++ ys) ≡ events_
 among-append [] ys = refl
 among-append (happened event ∷ xs) ys = ap (λ (l : List Event). event ∷ l) (among-append xs ys)
 among-append (checkpointed pass ∷ xs) ys = among-append xs ys
-among-append (stop_mark pass ∷ xs) ys = among-append xs ys
+among-append (stop_mark pass met ∷ xs) ys = among-append xs ys
 
 among-happened : (events : List Event) → events_among (map happened events) ≡ events
 among-happened [] = refl
 among-happened (event ∷ events) = ap (λ (l : List Event). event ∷ l) (among-happened events)
 
-among-stop : (stop : Option ℕ) → events_among (stop_entries stop) ≡ []
-among-stop None = refl
-among-stop (Some pass) = refl
+among-stop : (stop : Option ℕ) (met : Option Event) → events_among (stop_entries stop met) ≡ []
+among-stop None met = refl
+among-stop (Some pass) met = refl
 
 among-merged : (before : ℕ) (events : List Event) (checkpoints : List Checkpoint) → events_among (merged before events checkpoints) ≡ events
 among-merged before events [] = among-happened events
@@ -48,11 +48,11 @@ among-merged before events (checkpoint ∷ checkpoints) =
     ∙ ap (λ (l : List Event). take some events ++ l) (among-merged checkpoint.after (drop some events) checkpoints)
     ∙ take-append-drop some events
 
-pub events-entries : (events : List Event) (checkpoints : List Checkpoint) (stop : Option ℕ) → events_among (merged 0 events checkpoints ++ stop_entries stop) ≡ events
-events-entries events checkpoints stop =
-    among-append (merged 0 events checkpoints) (stop_entries stop)
-    ∙ ap (λ (l : List Event). l ++ events_among (stop_entries stop)) (among-merged 0 events checkpoints)
-    ∙ ap (λ (l : List Event). events ++ l) (among-stop stop)
+pub events-entries : (events : List Event) (checkpoints : List Checkpoint) (stop : Option ℕ) (met : Option Event) → events_among (merged 0 events checkpoints ++ stop_entries stop met) ≡ events
+events-entries events checkpoints stop met =
+    among-append (merged 0 events checkpoints) (stop_entries stop met)
+    ∙ ap (λ (l : List Event). l ++ events_among (stop_entries stop met)) (among-merged 0 events checkpoints)
+    ∙ ap (λ (l : List Event). events ++ l) (among-stop stop met)
     ∙ append-nil events
 
 -- ---- checkpoints among entries
@@ -61,15 +61,15 @@ count-append : (xs ys : List StoreEntry) → checkpoints_among (xs ++ ys) ≡ ch
 count-append [] ys = omega arith
 count-append (happened event ∷ xs) ys = count-append xs ys
 count-append (checkpointed pass ∷ xs) ys = let rest = count-append xs ys in omega (arith, rest)
-count-append (stop_mark pass ∷ xs) ys = count-append xs ys
+count-append (stop_mark pass met ∷ xs) ys = count-append xs ys
 
 count-happened : (events : List Event) → checkpoints_among (map happened events) ≡ 0
 count-happened [] = refl
 count-happened (event ∷ events) = count-happened events
 
-count-stop : (stop : Option ℕ) → checkpoints_among (stop_entries stop) ≡ 0
-count-stop None = refl
-count-stop (Some pass) = refl
+count-stop : (stop : Option ℕ) (met : Option Event) → checkpoints_among (stop_entries stop met) ≡ 0
+count-stop None met = refl
+count-stop (Some pass) met = refl
 
 count-merged : (before : ℕ) (events : List Event) (checkpoints : List Checkpoint) → checkpoints_among (merged before events checkpoints) ≡ length checkpoints
 count-merged before events [] = count-happened events
@@ -81,9 +81,9 @@ count-merged before events (checkpoint ∷ checkpoints) =
 
 pub generation-entries : {D : Type 0} (s : StoreView D) → IsStore s → s.generation ≡ (root_of s).generation + checkpoints_among (entries_of s)
 generation-entries s store =
-    let parts = count-append (merged 0 s.events s.checkpoints) (stop_entries s.stop) in
+    let parts = count-append (merged 0 s.events s.checkpoints) (stop_entries s.stop s.met) in
     let all = count-merged 0 s.events s.checkpoints in
-    omega (arith, parts, all, count-stop s.stop, store.counted)
+    omega (arith, parts, all, count-stop s.stop s.met, store.counted)
 
 -- ---- bytes of the area
 
@@ -95,7 +95,7 @@ used-append : (state : BaseView) (used : ℕ) (xs ys : List StoreEntry) → used
 used-append state used [] ys = refl
 used-append state used (happened event ∷ xs) ys = used-append (next_state state event) (used + (5 + length (event_spelling event))) xs ys
 used-append state used (checkpointed pass ∷ xs) ys = used-append state (24 + length (image_spelling state)) xs ys
-used-append state used (stop_mark pass ∷ xs) ys = used-append state used xs ys
+used-append state used (stop_mark pass met ∷ xs) ys = used-append state used xs ys
 
 used-happened : (state : BaseView) (used : ℕ) (events : List Event) → used_after state used (map happened events) ≡ used + length (records (payloads_of events))
 used-happened state used [] = omega arith
@@ -103,9 +103,9 @@ used-happened state used (event ∷ events) =
     let rest = used-happened (next_state state event) (used + (5 + length (event_spelling event))) events in
     omega (arith, rest, record_length (event_spelling event), length-append (record_bytes (event_spelling event)) (records (payloads_of events)))
 
-used-stop : (state : BaseView) (used : ℕ) (stop : Option ℕ) → used_after state used (stop_entries stop) ≡ used
-used-stop state used None = refl
-used-stop state used (Some pass) = refl
+used-stop : (state : BaseView) (used : ℕ) (stop : Option ℕ) (met : Option Event) → used_after state used (stop_entries stop met) ≡ used
+used-stop state used None met = refl
+used-stop state used (Some pass) met = refl
 
 -- the area after these checkpoints of a history
 abbrev area_at : ℕ → List ℕ → BaseView → List Event → List Checkpoint → ℕ → List ℕ
@@ -152,8 +152,8 @@ used-entries s store =
     store.used_is
     ∙ ap (λ (n : ℕ). length (area_at s.generation s.opened s.base s.events s.checkpoints n)) (let none : settled_of s ≡ settled_of s - 0 = omega arith in none)
     ∙ sym (used-merged s.generation s.opened s.base 0 s.events (length s.events) s.checkpoints store.in_order)
-    ∙ sym (used-stop (replay s.base (events_among (merged 0 s.events s.checkpoints))) (used_after s.base (24 + image_length) (merged 0 s.events s.checkpoints)) s.stop)
-    ∙ sym (used-append s.base (24 + image_length) (merged 0 s.events s.checkpoints) (stop_entries s.stop))
+    ∙ sym (used-stop (replay s.base (events_among (merged 0 s.events s.checkpoints))) (used_after s.base (24 + image_length) (merged 0 s.events s.checkpoints)) s.stop s.met)
+    ∙ sym (used-append s.base (24 + image_length) (merged 0 s.events s.checkpoints) (stop_entries s.stop s.met))
 
 -- the same over the root of a store with this base and this image
 pub used-since : {D : Type 0} (opening now : StoreView D) → now.base ≡ opening.base → now.opened ≡ opening.opened → IsStore now → now.used ≡ used_by (root_of opening) (entries_of now)
@@ -198,25 +198,26 @@ merged-mark before most events mark (checkpoint ∷ checkpoints) order is at =
     (merged-mark checkpoint.after most (drop some events) mark checkpoints order.1 (let long = length-drop some events in omega (arith, long, order.0, above, under, is)) at)
     ∙ sym (append_assoc (map happened (take some events)) (checkpointed checkpoint.pass ∷ rest) (checkpointed mark.pass ∷ []))
 
-no-stop : (entries more : List StoreEntry) (stop : Option ℕ) → stop ≡ None → (entries ++ more) ++ stop_entries stop ≡ (entries ++ stop_entries stop) ++ more
-no-stop entries more None none = append-nil (entries ++ more) ∙ ap (λ (l : List StoreEntry). l ++ more) (sym (append-nil entries))
-no-stop entries more (Some pass) none = absurd cc
+no-stop : (entries more : List StoreEntry) (stop : Option ℕ) (met : Option Event) → stop ≡ None → (entries ++ more) ++ stop_entries stop met ≡ (entries ++ stop_entries stop met) ++ more
+no-stop entries more None met none = append-nil (entries ++ more) ∙ ap (λ (l : List StoreEntry). l ++ more) (sym (append-nil entries))
+no-stop entries more (Some pass) met none = absurd cc
 
 module _ {D : Type 0} (s : StoreView D) (running : s.stop ≡ None) where
   -- an event that is kept, a checkpoint that is made, and a disk that fails add their entry at the end
   pub entries-kept : (event : Event) (active : D) → IsStore s → entries_of (with_event s event active) ≡ entries_of s ++ happened event ∷ []
   entries-kept event active store =
-      ap (λ (l : List StoreEntry). l ++ stop_entries s.stop) (merged-push 0 (length s.events) s.events event s.checkpoints store.in_order (omega arith))
-      ∙ no-stop (merged 0 s.events s.checkpoints) (happened event ∷ []) s.stop running
+      ap (λ (l : List StoreEntry). l ++ stop_entries s.stop s.met) (merged-push 0 (length s.events) s.events event s.checkpoints store.in_order (omega arith))
+      ∙ no-stop (merged 0 s.events s.checkpoints) (happened event ∷ []) s.stop s.met running
 
   pub entries-made : (pass : ℕ) (active : D) → IsStore s → entries_of (with_checkpoint s pass active) ≡ entries_of s ++ checkpointed pass ∷ []
   entries-made pass active store =
-      ap (λ (l : List StoreEntry). l ++ stop_entries s.stop) (merged-mark 0 (length s.events) s.events (record { after = length s.events; pass = pass }) s.checkpoints store.in_order (omega arith) refl)
-      ∙ no-stop (merged 0 s.events s.checkpoints) (checkpointed pass ∷ []) s.stop running
+      ap (λ (l : List StoreEntry). l ++ stop_entries s.stop s.met) (merged-mark 0 (length s.events) s.events (record { after = length s.events; pass = pass }) s.checkpoints store.in_order (omega arith) refl)
+      ∙ no-stop (merged 0 s.events s.checkpoints) (checkpointed pass ∷ []) s.stop s.met running
 
-  pub entries-stopped : (active other : D) (pass : ℕ) → entries_of (record s { active = active; other = other; stop = Some pass }) ≡ entries_of s ++ stop_mark pass ∷ []
-  entries-stopped active other pass =
-      sym (ap (λ (o : Option ℕ). (merged 0 s.events s.checkpoints ++ stop_entries o) ++ stop_mark pass ∷ []) running ∙ ap (λ (l : List StoreEntry). l ++ stop_mark pass ∷ []) (append-nil (merged 0 s.events s.checkpoints)))
+  pub entries-stopped : (active other : D) (pass : ℕ) (met : Option Event) → entries_of (record s { active = active; other = other; stop = Some pass; met = met }) ≡ entries_of s ++ stop_mark pass met ∷ []
+  entries-stopped active other pass met =
+      sym (ap (λ (o : Option ℕ). (merged 0 s.events s.checkpoints ++ stop_entries o s.met) ++ stop_mark pass met ∷ []) running
+      ∙ ap (λ (l : List StoreEntry). l ++ stop_mark pass met ∷ []) (append-nil (merged 0 s.events s.checkpoints)))
 
 -- ---- full
 

@@ -104,7 +104,7 @@ module _ {D : Type 0} (clock : D → ℕ) (left_since : D → ℕ → List ℕ �
       (leaves.since (clock a) x idles_a.later left_x))
 
   -- the disk of a new store is at rest
-  pub new_rests : (a : D) (active : AreaView D) (other : D) (gate : GateView) (s : StoreView D) (first : List ℕ) → s ≡ store_of active other false 1 fresh_image gate [] None → gate.events ≡ [] →
+  pub new_rests : (a : D) (active : AreaView D) (other : D) (gate : GateView) (s : StoreView D) (first : List ℕ) → s ≡ record (store_of active other false 1 fresh_image gate [] None) { met = None } → gate.events ≡ [] →
       image active.disk ≡ option_map (written 0 (area_bytes 1 fresh_image [] ++ 0 ∷ [])) (image a) → IsPinned clock left_since image active.disk → image a ≡ Some first → Rests clock left_since image s.active (body_of s)
   new_rests a active other gate s first is none made pinned told =
       subst (λ (new : StoreView D). Rests clock left_since image new.active (body_of new)) (sym is)

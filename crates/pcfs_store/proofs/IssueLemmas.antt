@@ -15,7 +15,7 @@ use Rattle.journal_records.specs.EventSpelling.{event_spelling}
 use Rattle.checkpoint_image.specs.NodeSpelling.{nodes_spelling}
 use Rattle.checkpoint_image.specs.ImageSpelling.{head_spelling, statements_spelling, issue_spelling, issues_spelling, fields_spelling, image_spelling}
 use Rattle.checkpoint_image.specs.WithdrawnNumbers.{withdrawn_numbers_spelling}
-use Rattle.checkpoint.specs.Reading.{IsSpelledAs, current}
+use Rattle.checkpoint.specs.Reading.{IsSpelledAs, current, old}
 use Rattle.pcfs_store.specs.StoredHistory.{payloads_of, state_after}
 use Rattle.pcfs_store.specs.StoreView.{StoreView, settled_of, head_of, records_of, image_of, state_of_store, IsStore}
 use Rattle.pcfs_store.proofs.EntryLemmas.{area-length}
@@ -49,6 +49,7 @@ fields_long base =
 
 image_long : (base : BaseView) (image : List ℕ) → IsSpelledAs base image → length base.issues ≤ length image
 unfolding image_spelling
+image_long base _ (old fields) = fields_long base
 image_long base _ (current spelled) = omega (arith, fields_long base, length-append (fields_spelling base) (withdrawn_numbers_spelling base.statements))
 
 -- an event takes bytes, and adds one issue at most

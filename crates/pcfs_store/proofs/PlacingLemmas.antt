@@ -6,6 +6,7 @@ use Rattle.journal_core.specs.declared.area.AreaFault.{AreaFault}
 use Rattle.journal_core.specs.declared.area.AreaFault.TheVariants as faults_of_area
 use Rattle.journal_core.specs.AreaView.{AreaView}
 use Rattle.access_history.specs.Base.{BaseView}
+use Rattle.access_history.specs.declared.event.Event.{Event}
 use Rattle.access_history.specs.Replay.{replay}
 use Rattle.access_history.specs.History.{HistoryView, authority_of, state_of}
 use Rattle.access_history.specs.Lawful.{IsLawful}
@@ -124,10 +125,11 @@ module _ {D : Type 0} (clock : D → ℕ) (left_since : D → ℕ → List ℕ �
         unlike : NoMemory ≡ Checkpointed → ⊥
         unlike e = cc
 
-    failed_is : area_after ≡ area → store_of area_after other_after second generation opened gate checkpoints_after (Some pass) ≡ record before { other = other_after; stop = Some pass }
+    failed_is : area_after ≡ area → store_of area_after other_after second generation opened gate checkpoints_after (Some pass) ≡ record before { other = other_after; stop = Some pass; met = None }
     failed_is area_is =
         ap (λ (a : AreaView D). store_of a other_after second generation opened gate checkpoints_after (Some pass)) area_is
         ∙ ap (λ (cs : List Checkpoint). store_of area other_after second generation opened gate cs (Some pass)) checkpoints_are
+        ∙ ap (λ (met : Option Event). record before { other = other_after; stop = Some pass; met = met }) (keeping.idle running)
 
     pub failed_end : ((disk : D) (t u : ℕ) (left : List ℕ) → t ≤ u → left_since disk u left → left_since disk t left) →
         (fault : AreaFault) → fault ≡ faults_of_area.Disk → MovesArea clock left_since image faults area other next bytes (Err fault) area_after other_after →
@@ -135,7 +137,7 @@ module _ {D : Type 0} (clock : D → ℕ) (left_since : D → ℕ → List ℕ �
     failed_end earlier fault is m =
         let k = with_fault fault faults_of_area.Disk is m in
         subst (Ends Stopped) (sym (failed_is k.stays))
-        (ends Stopped (record before { other = other_after; stop = Some pass })
+        (ends Stopped (record before { other = other_after; stop = Some pass; met = None })
         (was_stopped clock left_since image faults before keeping.store is_image few other_after k.overwrites earlier k.risen pass running))
 
 -- ---- before the image is placed

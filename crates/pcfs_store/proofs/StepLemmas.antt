@@ -19,7 +19,7 @@ use Rattle.pcfs_store.specs.declared.reply.StoreReply.TheVariants.{Step, Stopped
 use Rattle.pcfs_store.specs.StoredHistory.{area_since}
 use Rattle.pcfs_store.specs.Newest.{one_of}
 use Rattle.pcfs_store.specs.StoreView.{StoreView, first_disk, second_disk, settled_of, image_since, image_of, body_of, AnswersIn, IsStore}
-use Rattle.pcfs_store.specs.Ready.{IsBehind, IsReady, IsCurrent, StopsLeave, StopsNow, SurvivesWithOrWithout, Keeps, ready, halted, halted_whole}
+use Rattle.pcfs_store.specs.Ready.{IsBehind, IsReady, IsCurrent, StopsLeave, StopsNow, SurvivesWithOrWithout, SurvivesStop, Keeps, ready, halted}
 use Rattle.pcfs_store.specs.Steps.{IsFullFor, with_event, Steps, kept, failed, LeavesStep}
 use Rattle.pcfs_store.specs.Keeping.{Writes, HasWritten}
 use Rattle.pcfs_store.proofs.SurvivalLemmas.{IsTellable, tellable_store, tellable_push, survives_closed, since_push, state_push, order_within, order_more, left_pairs, ready_survives_now, if_some}
@@ -40,8 +40,7 @@ module _ {D : Type 0} (clock : D → ℕ) (left_since : D → ℕ → List ℕ �
     pub makes_ready : IsCurrent clock left_since image old → length old.events < length new.events → (active other : List ℕ) → image old.active ≡ Some active → image old.other ≡ Some other →
         IsPinned clock left_since image old.other → IsReady clock left_since image new
     pub any_moment : IsReady clock left_since image old → StopsLeave clock left_since image old new (LeavesStep old pass at request)
-    pub met : IsReady clock left_since image old → result ≡ Stopped →
-        (reply : StepReply) × (event : Event) × AnswersIn old pass at request reply (Some event) × StopsNow clock left_since image new (SurvivesWithOrWithout old.base old.events event)
+    pub met : IsReady clock left_since image old → result ≡ Stopped → StopsNow clock left_since image new (SurvivesStop old.base old.events new.met)
     pub first_told : is_some (image (first_disk new)) ≡ is_some (image (first_disk old))
     pub second_told : is_some (image (second_disk new)) ≡ is_some (image (second_disk old))
     pub first_never_falls : faults (first_disk old) ≤ faults (first_disk new)
@@ -227,8 +226,7 @@ module _ {D : Type 0} (clock : D → ℕ) (left_since : D → ℕ → List ℕ �
         where
           stays : Keeps clock left_since image old → Keeps clock left_since image (with_event old event after.disk)
           stays (ready is_ready) = ready (ready_after is_ready)
-          stays (halted earlier met stop leaves) = absurd (none_some old.stop earlier running stop)
-          stays (halted_whole earlier stop leaves) = absurd (none_some old.stop earlier running stop)
+          stays (halted earlier stop leaves) = absurd (none_some old.stop earlier running stop)
 
           unlike : Step reply ≡ Stopped → ⊥
           unlike e = cc
@@ -237,7 +235,7 @@ module _ {D : Type 0} (clock : D → ℕ) (left_since : D → ℕ → List ℕ �
 
     pub has_failed : ((disk : D) (t u : ℕ) (bytes : List ℕ) → t ≤ u → left_since disk u bytes → left_since disk t bytes) → HasRisen (faults old.active) (faults after.disk) →
         (pass : ℕ) (at : ℤ) (request : StepRequest) (reply : StepReply) → old.stop ≡ None → AnswersIn old pass at request reply (Some event) → (IsFullFor old event → ⊥) →
-        Clauses old pass at request Stopped (record old { active = after.disk; stop = Some pass })
+        Clauses old pass at request Stopped (record old { active = after.disk; stop = Some pass; met = Some event })
     has_failed earlier risen pass at request reply running answers fits = record {
       answer = failed reply event after.disk running answers fits risen;
       stays_ready = λ is_ready goes. absurd (goes refl);
@@ -245,21 +243,20 @@ module _ {D : Type 0} (clock : D → ℕ) (left_since : D → ℕ → List ℕ �
       stays_current = λ current goes. absurd (goes refl);
       makes_ready = λ _ more _ _ _ _ _. absurd (none_more old.events more);
       any_moment = λ is_ready. leaves_step pass at request reply answers is_ready;
-      met = λ is_ready _. (reply, event, answers, leaves_now is_ready);
+      met = λ is_ready _. leaves_now is_ready;
       first_told = told_first old.second_active after.disk old.active old.other writes.told;
       second_told = told_second old.second_active after.disk old.active old.other writes.told;
       first_never_falls = falls_first old.second_active after.disk old.active old.other writes.never_falls;
       second_never_falls = falls_second old.second_active after.disk old.active old.other writes.never_falls;
     }
       where
-        leaves_now : IsReady clock left_since image old → StopsNow clock left_since image (record old { active = after.disk; stop = Some pass }) (SurvivesWithOrWithout old.base old.events event)
+        leaves_now : IsReady clock left_since image old → StopsNow clock left_since image (record old { active = after.disk; stop = Some pass; met = Some event }) (SurvivesWithOrWithout old.base old.events event)
         leaves_now is_ready x y left_x left_y =
             let later : clock old.active ≤ clock after.disk = (goes_on is_ready).later in
             leaves is_ready x y
             (earlier (one_of after.disk old.other old.second_active) (clock (one_of old.active old.other old.second_active)) (clock (one_of after.disk old.other old.second_active)) x (later_first old.second_active after.disk old.active old.other later) left_x)
             (earlier (one_of old.other after.disk old.second_active) (clock (one_of old.other old.active old.second_active)) (clock (one_of old.other after.disk old.second_active)) y (later_second old.second_active after.disk old.active old.other later) left_y)
 
-        stays : Keeps clock left_since image old → Keeps clock left_since image (record old { active = after.disk; stop = Some pass })
-        stays (ready is_ready) = halted pass event refl (leaves_now is_ready)
-        stays (halted first met stop leaves) = absurd (none_some old.stop first running stop)
-        stays (halted_whole first stop leaves) = absurd (none_some old.stop first running stop)
+        stays : Keeps clock left_since image old → Keeps clock left_since image (record old { active = after.disk; stop = Some pass; met = Some event })
+        stays (ready is_ready) = halted pass refl (leaves_now is_ready)
+        stays (halted first stop leaves) = absurd (none_some old.stop first running stop)

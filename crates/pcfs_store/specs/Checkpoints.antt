@@ -37,7 +37,7 @@ place_after (suc n) second = not (place_after n second)
 abbrev pub SurvivesMet : BaseView → List Event → StoreEntry → List ℕ → List ℕ → Type 0
 SurvivesMet base events (happened event) first second = SurvivesWithOrWithout base events event first second
 SurvivesMet base events (checkpointed pass) first second = SurvivesWholeClosed base events first second
-SurvivesMet base events (stop_mark pass) first second = SurvivesWholeClosed base events first second
+SurvivesMet base events (stop_mark pass met) first second = SurvivesWholeClosed base events first second
 
 -- What a checkpoint answers, and the store after it. Nothing else comes.
 pub data MakesCheckpoint {D : Type 0} (faults : D → ℕ) (old : StoreView D) (pass : ℕ) : CheckpointReply → StoreView D → Type 0 where
@@ -48,7 +48,7 @@ pub data MakesCheckpoint {D : Type 0} (faults : D → ℕ) (old : StoreView D) (
   full : old.stop ≡ None → IsFullForCheckpoint old → MakesCheckpoint faults old pass Full old
   -- the other disk failed
   failed : (other : D) → old.stop ≡ None → (IsFullForCheckpoint old → ⊥) → HasRisen (faults old.other) (faults other) →
-      MakesCheckpoint faults old pass Stopped (record old { other = other; stop = Some pass })
+      MakesCheckpoint faults old pass Stopped (record old { other = other; stop = Some pass; met = None })
   -- a disk failed before
   stopped : (earlier : ℕ) → old.stop ≡ Some earlier → MakesCheckpoint faults old pass Stopped old
   -- memory ran out

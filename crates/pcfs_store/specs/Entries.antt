@@ -17,16 +17,16 @@ pub record Root : Type 0 where
   pub generation : ℕ
   pub image_length : ℕ
 
--- An entry: an event, with its pass; a checkpoint, with its pass; or the mark Stop, which ends the list, with the pass of the step or checkpoint in which a disk failed. Of a store with this mark the disks' counts
--- of faults are those at the mark, since it touches no disk any more.
+-- An entry: an event, with its pass; a checkpoint, with its pass; or the mark Stop, which ends the list, with the pass of the step or checkpoint in which a disk failed, and with the event that the step was
+-- keeping. Of a store with this mark the disks' counts of faults are those at the mark, since it touches no disk any more.
 pub data StoreEntry : Type 0 where
   happened : Event → StoreEntry
   checkpointed : ℕ → StoreEntry
-  stopped : ℕ → StoreEntry
+  stopped : ℕ → Option Event → StoreEntry
 
-abbrev pub stop_entries : Option ℕ → List StoreEntry
-stop_entries None = []
-stop_entries (Some pass) = stopped pass ∷ []
+abbrev pub stop_entries : Option ℕ → Option Event → List StoreEntry
+stop_entries None met = []
+stop_entries (Some pass) met = stopped pass met ∷ []
 
 abbrev pub root_of : {D : Type 0} → StoreView D → Root
 root_of s = record { base = s.base; key = s.key; ring = s.ring; generation = s.generation - length s.checkpoints; image_length = length s.opened }
@@ -39,21 +39,21 @@ merged before events (checkpoint ∷ checkpoints) =
 
 -- the entries after the root
 abbrev pub entries_of : {D : Type 0} → StoreView D → List StoreEntry
-entries_of s = merged 0 s.events s.checkpoints ++ stop_entries s.stop
+entries_of s = merged 0 s.events s.checkpoints ++ stop_entries s.stop s.met
 
 -- the events among entries
 abbrev pub events_among : List StoreEntry → List Event
 events_among [] = []
 events_among (happened event ∷ entries) = event ∷ events_among entries
 events_among (checkpointed pass ∷ entries) = events_among entries
-events_among (stopped pass ∷ entries) = events_among entries
+events_among (stopped pass met ∷ entries) = events_among entries
 
 -- how many checkpoints there are among entries
 abbrev pub checkpoints_among : List StoreEntry → ℕ
 checkpoints_among [] = 0
 checkpoints_among (happened event ∷ entries) = checkpoints_among entries
 checkpoints_among (checkpointed pass ∷ entries) = checkpoints_among entries + 1
-checkpoints_among (stopped pass ∷ entries) = checkpoints_among entries
+checkpoints_among (stopped pass met ∷ entries) = checkpoints_among entries
 
 -- the state to which the entries lead
 abbrev pub state_of_entries : Root → List StoreEntry → BaseView
@@ -69,7 +69,7 @@ abbrev pub used_after : BaseView → ℕ → List StoreEntry → ℕ
 used_after state used [] = used
 used_after state used (happened event ∷ entries) = used_after (next_state state event) (used + bytes_for event) entries
 used_after state used (checkpointed pass ∷ entries) = used_after state (24 + length (image_spelling state)) entries
-used_after state used (stopped pass ∷ entries) = used_after state used entries
+used_after state used (stopped pass met ∷ entries) = used_after state used entries
 
 -- how many bytes the area has before its closed gate: at the root the header and the image
 abbrev pub used_by : Root → List StoreEntry → ℕ

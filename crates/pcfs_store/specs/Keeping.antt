@@ -55,9 +55,9 @@ module _ {D : Type 0} (clock : D → ℕ) (left_since : D → ℕ → List ℕ �
   AppendsEvent old event (Err AreaFull) new = (area_limit < old.end + length (event_spelling event) + 6) × (new ≡ old)
   AppendsEvent old event (Err NoMemory) new = new ≡ old
 
-  -- what became of the pending event of a gate
+  -- what became of the pending event of a gate: if the disk failed, it is pending still
   abbrev pub KeepsPending : AreaView D → GateView → Event → Result (Unit {0}) AreaFault → AreaView D → GateView → Type 0
   KeepsPending old gate event (Ok done) new after = HasWritten old new event × (IsFull old.end (count_of gate) event → ⊥) × (after ≡ with_kept gate event)
-  KeepsPending old gate event (Err DiskFailed) new after = HasFailed old new event × (IsFull old.end (count_of gate) event → ⊥) × (after ≡ without_pending gate)
+  KeepsPending old gate event (Err DiskFailed) new after = HasFailed old new event × (IsFull old.end (count_of gate) event → ⊥) × (after ≡ gate)
   KeepsPending old gate event (Err AreaFull) new after = IsFull old.end (count_of gate) event × (new ≡ old) × (after ≡ without_pending gate)
   KeepsPending old gate event (Err NoMemory) new after = (new ≡ old) × (after ≡ without_pending gate)

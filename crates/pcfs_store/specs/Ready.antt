@@ -22,6 +22,11 @@ IsBehind second_active generation (Some found) = found + tie second_active ≤ g
 abbrev pub SurvivesWithOrWithout : BaseView → List Event → Event → List ℕ → List ℕ → Type 0
 SurvivesWithOrWithout base events met first second = SurvivesWholeClosed base events first second ⊎ SurvivesWholeClosed base (events ++ met ∷ []) first second
 
+-- what a crash leaves of a history when a disk failed: with or without the event that was being kept; and whole if none was
+abbrev pub SurvivesStop : BaseView → List Event → Option Event → List ℕ → List ℕ → Type 0
+SurvivesStop base events None first second = SurvivesWholeClosed base events first second
+SurvivesStop base events (Some met) first second = SurvivesWithOrWithout base events met first second
+
 -- Below, `clock d` is the present moment of a disk d, `left_since d t bytes` says that a crash at some moment since t may have left these bytes, and `image d` is what a read gives, if d tells it.
 module _ {D : Type 0} (clock : D → ℕ) (left_since : D → ℕ → List ℕ → Type 0) (image : D → Option (List ℕ)) where
   -- The store is ready: no disk failed; nothing is pending; the area that counts is closed, and stands for its history.
@@ -48,9 +53,7 @@ module _ {D : Type 0} (clock : D → ℕ) (left_since : D → ℕ → List ℕ �
   abbrev pub StopsNow : StoreView D → (List ℕ → List ℕ → Type 0) → Type 0
   StopsNow s P = StopsLeave s s P
 
-  -- What a store keeps through all its steps and checkpoints: it is ready; or a disk failed in a step, and a crash now leaves its history, or with it the event that met the fault; or a disk failed in a
-  -- checkpoint, and a crash now leaves its history.
+  -- What a store keeps through all its steps and checkpoints: it is ready; or a disk failed, and a crash now leaves its history, or, if it failed in a step, with it the event that the step was keeping.
   pub data Keeps (s : StoreView D) : Type 0 where
     ready : IsReady s → Keeps s
-    halted : (pass : ℕ) (met : Event) → s.stop ≡ Some pass → StopsNow s (SurvivesWithOrWithout s.base s.events met) → Keeps s
-    halted_whole : (pass : ℕ) → s.stop ≡ Some pass → StopsNow s (SurvivesWholeClosed s.base s.events) → Keeps s
+    halted : (pass : ℕ) → s.stop ≡ Some pass → StopsNow s (SurvivesStop s.base s.events s.met) → Keeps s

@@ -33,7 +33,7 @@ pub data Steps {D : Type 0} (faults : D → ℕ) (old : StoreView D) (pass : ℕ
   -- the disk failed under the answer's event
   failed : (reply : StepReply) (event : Event) (active : D) → old.stop ≡ None → AnswersIn old pass clock request reply (Some event) → (IsFullFor old event → ⊥) →
       HasRisen (faults old.active) (faults active) →
-      Steps faults old pass clock request Stopped (record old { active = active; stop = Some pass })
+      Steps faults old pass clock request Stopped (record old { active = active; stop = Some pass; met = Some event })
   -- a disk failed before
   stopped : (earlier : ℕ) → old.stop ≡ Some earlier → Steps faults old pass clock request Stopped old
   -- memory ran out

@@ -18,7 +18,8 @@ use Rattle.pcfs_store.specs.Newest.{one_of}
 
 -- the disk with the area that counts, and the other one; whether it is the second; the area's generation, and how many bytes stand in it before its closed gate;
 -- the key of the seal and the ring of those whose signatures are accepted; the base, the image of it with which the store was opened, and the events since,
--- each with its pass, which is 0 if it was read from an area; the checkpoints that were made of them; and, if a disk failed, the pass of the step or checkpoint in which it did
+-- each with its pass, which is 0 if it was read from an area; the checkpoints that were made of them; and, if a disk failed, the pass of the step or checkpoint in which it did, and, if that was a step, the
+-- event that was being kept, of which only the disk knows whether it was
 pub record StoreView (D : Type 0) : Type 0 where
   pub active : D
   pub other : D
@@ -32,6 +33,7 @@ pub record StoreView (D : Type 0) : Type 0 where
   pub events : List Event
   pub checkpoints : List Checkpoint
   pub stop : Option ℕ
+  pub met : Option Event
 
 -- the disks in the order in which they were given
 abbrev pub first_disk : {D : Type 0} → StoreView D → D

@@ -73,7 +73,8 @@ fn append_pending<D: Disk>(alloc: Global, area: &mut Area<D>, gate: &Gate) -> Re
 }
 
 /// Keeps the pending event on the disk and then in the history, or forgets it. `AreaFull` is returned exactly if it does
-/// not fit, and `Disk` only if the disk failed. All memory is taken before the first write.
+/// not fit, and `Disk` only if the disk failed: the event is pending still, since only the disk knows whether it has it.
+/// All memory is taken before the first write.
 pub fn keep_pending<D: Disk>(
     alloc: Global,
     area: &mut Area<D>,
@@ -91,9 +92,14 @@ pub fn keep_pending<D: Disk>(
             gate.commit();
             Ok(())
         }
-        Err(fault) => {
+        Err(AreaFault::Disk) => Err(AreaFault::Disk),
+        Err(AreaFault::AreaFull) => {
             gate.forget();
-            Err(fault)
+            Err(AreaFault::AreaFull)
+        }
+        Err(AreaFault::NoMemory) => {
+            gate.forget();
+            Err(AreaFault::NoMemory)
         }
     }
 }

@@ -56,11 +56,9 @@ impl<D: Disk> Store<D> {
     ghost use Rattle.std.specs.Prelude.{Option, List, ℕ, IfOk};
     ghost use Rattle.pcfs_ports.specs.Disk.{IsPinned};
     ghost use Rattle.bl_syntax.specs.TimeOrder.{IsMoment};
-    ghost use Rattle.access_history.specs.declared.event.Event.{Event};
-    ghost use Rattle.access_history.specs.declared.reply.StepReply.{StepReply};
     ghost use Rattle.access_history.specs.WellFormed.{IsWellFormed};
-    ghost use Rattle.pcfs_store.specs.StoreView.{IsStore, AnswersIn, first_disk, second_disk, state_of_store};
-    ghost use Rattle.pcfs_store.specs.Ready.{IsReady, IsCurrent, Keeps, StopsLeave, StopsNow, SurvivesWithOrWithout};
+    ghost use Rattle.pcfs_store.specs.StoreView.{IsStore, first_disk, second_disk, state_of_store};
+    ghost use Rattle.pcfs_store.specs.Ready.{IsReady, IsCurrent, Keeps, StopsLeave, StopsNow, SurvivesStop};
     ghost use Rattle.pcfs_store.specs.Steps.{Steps, LeavesStep};
     ghost use Rattle.pcfs_store.specs.Checkpoints.{MakesCheckpoint, IsNewestCheckpoint, Checkpoints};
     ghost use Rattle.pcfs_store.specs.Newest.{SurvivesWholeClosed};
@@ -94,6 +92,7 @@ impl<D: Disk> Store<D> {
           events = gate.events;
           checkpoints = [];
           stop = None;
+          met = None;
         } }
     {
         Store {
@@ -122,9 +121,10 @@ impl<D: Disk> Store<D> {
         self.stop.is_some()
     }
 
-    /// The gate, with the history. Nothing is pending.
+    /// The gate, with the history. If a disk failed in a step, the event that the step was keeping is pending; otherwise
+    /// nothing is.
     pub fn gate(&self) -> &Gate
-        ensures { result.now ≡ record { key = self.now.key; ring = self.now.ring; base = self.now.base; events = self.now.events; pending = None } }
+        ensures { result.now ≡ record { key = self.now.key; ring = self.now.ring; base = self.now.base; events = self.now.events; pending = self.now.met } }
     {
         &self.gate
     }
@@ -166,10 +166,9 @@ impl<D: Disk> Store<D> {
         // A crash at any moment leaves the history as it was, or with the one event that the answer keeps.
         ensures any_moment { IsReady D.clock D.left_since D.image self.old → StopsLeave D.clock D.left_since D.image self.old self.new (LeavesStep self.old pass clock request) }
 
-        // After a fault of a disk both remain possible.
+        // After a fault of a disk both remain possible: with the event that the answer keeps, and without it.
         ensures met { IsReady D.clock D.left_since D.image self.old → result ≡ StoreReply.Stopped →
-            (reply : StepReply) × (event : Event) × AnswersIn self.old pass clock request reply (Some event)
-            × StopsNow D.clock D.left_since D.image self.new (SurvivesWithOrWithout self.old.base self.old.events event) }
+            StopsNow D.clock D.left_since D.image self.new (SurvivesStop self.old.base self.old.events self.new.met) }
 
         ensures first_told { is_some (D.image (first_disk self.new)) ≡ is_some (D.image (first_disk self.old)) }
         ensures second_told { is_some (D.image (second_disk self.new)) ≡ is_some (D.image (second_disk self.old)) }

@@ -6,13 +6,13 @@ use Rattle.bl_syntax.specs.declared.codec_fault.CodecFault.TheVariants as faults
 use Rattle.bl_syntax.specs.declared.terms.Constraint.{Constraint}
 use Rattle.bl_syntax.specs.declared.terms.StatePred.{StatePred}
 use Rattle.bl_syntax.specs.declared.grant.Goal.{Goal}
-use Rattle.bl_syntax.specs.Grant.{GrantView, MayName, IsTimeCondition, IsStateCondition}
+use Rattle.bl_syntax.specs.Grant.{GrantView, IsTimeCondition, IsStateCondition}
 use Rattle.bl_syntax.proofs.GrantLemmas.{granted}
 use Rattle.bl_syntax.proofs.EqualityLemmas.{same_grant}
 use Rattle.bl_syntax.proofs.ReportsFaultLemmas.{stops, hands_on}
 use Rattle.bl_syntax.specs.Reading.{◌>>=◌, Reading, place}
 use Rattle.bl_syntax.specs.Codec.{AreBytes, ReportsFault}
-use Rattle.procap.specs.GrantReading.{time_condition_at, state_condition_at, may_follow_times, may_follow_states, items_at, count_at, conditions_at, head_at, grant_at}
+use Rattle.procap.specs.GrantReading.{time_condition_at, state_condition_at, may_follow_times, may_follow_states, items_at, count_at, conditions_at, versioned_names_at, head_at, grant_at}
 use Rattle.procap.proofs.ConditionLemmas.{time_may_follow, state_may_follow}
 use Rattle.procap.proofs.PartLemmas.{time_codec, state_codec}
 
@@ -67,9 +67,11 @@ conditions_more one_at may_follow most input bytes count rest e = rw e refl
 
 -- ---- grants
 
--- a grant is its goal and its conditions
-pub unnamed : (g : GrantView) → MayName g.cited → granted g.goal g.times g.states ≡ g
-unnamed g none = same_grant (granted g.goal g.times g.states) g refl refl refl (sym none)
+-- a grant is its parts
+pub grant_of_parts : (g : GrantView) (goal : Goal) (times : List Constraint) (states : List StatePred) (cited : List ℕ)
+    → g.goal ≡ goal → g.times ≡ times → g.states ≡ states → g.cited ≡ cited → granted goal times states cited ≡ g
+grant_of_parts g goal times states cited goal_is times_are states_are cited_are =
+    same_grant (granted goal times states cited) g (sym goal_is) (sym times_are) (sym states_are) (sym cited_are)
 
 abbrev pub read_before : List ℕ → GrantView → Reading GrantView
 read_before rest g = Ok (g, rest)
@@ -80,13 +82,17 @@ times_at input bytes = conditions_at time_condition_at may_follow_times 64 input
 abbrev states_at : List Constraint → ℕ → List ℕ → Reading (List StatePred)
 states_at times input bytes = conditions_at state_condition_at may_follow_states (64 - length times) input bytes
 
--- the conditions on the server's state after those on time
-abbrev with_states : ℕ → Goal → List Constraint × List ℕ → Reading GrantView
-with_states input goal times = states_at times.0 input times.1 >>= λ states. Ok (granted goal times.0 states.0, states.1)
+-- the statements that are named after the conditions
+abbrev with_names : ℕ → ℕ → Goal → List Constraint → List StatePred × List ℕ → Reading GrantView
+with_names input version goal times states = versioned_names_at version input states.1 >>= λ cited. Ok (granted goal times states.0 cited.0, cited.1)
 
--- all conditions after a goal
-abbrev with_conditions : ℕ → Goal × List ℕ → Reading GrantView
-with_conditions input goal = times_at input goal.1 >>= with_states input goal.0
+-- the conditions on the server's state, and the names, after the conditions on time
+abbrev with_states : ℕ → ℕ → Goal → List Constraint × List ℕ → Reading GrantView
+with_states input version goal times = states_at times.0 input times.1 >>= with_names input version goal times.0
+
+-- all after the head
+abbrev with_conditions : ℕ → (ℕ × Goal) × List ℕ → Reading GrantView
+with_conditions input head = times_at input head.1 >>= with_states input head.0.0 head.0.1
 
 grant_is : (input : ℕ) (bytes : List ℕ) → grant_at input bytes ≡ (head_at input bytes >>= with_conditions input)
 unfolding grant_at
@@ -95,22 +101,34 @@ grant_is input bytes = refl
 pub head_stops : (input : ℕ) (bytes : List ℕ) (fault : CodecFault) → head_at input bytes ≡ Err fault → ReportsFault fault (grant_at input bytes)
 head_stops input bytes fault e = rw (grant_is input bytes) (hands_on fault (head_at input bytes) (with_conditions input) (stops fault (head_at input bytes) e))
 
-behind_head : (input : ℕ) (bytes rest : List ℕ) (goal : Goal) → head_at input bytes ≡ Ok (goal, rest) → grant_at input bytes ≡ (times_at input rest >>= with_states input goal)
-behind_head input bytes rest goal e = grant_is input bytes ∙ ap (λ (r : Reading Goal). r >>= with_conditions input) e
+behind_head : (input : ℕ) (bytes rest : List ℕ) (version : ℕ) (goal : Goal) → head_at input bytes ≡ Ok ((version, goal), rest) → grant_at input bytes ≡ (times_at input rest >>= with_states input version goal)
+behind_head input bytes rest version goal e = grant_is input bytes ∙ ap (λ (r : Reading (ℕ × Goal)). r >>= with_conditions input) e
 
-behind_times : (input : ℕ) (bytes rest behind : List ℕ) (goal : Goal) (times : List Constraint) → head_at input bytes ≡ Ok (goal, rest) → times_at input rest ≡ Ok (times, behind)
-    → grant_at input bytes ≡ with_states input goal (times, behind)
-behind_times input bytes rest behind goal times e h = behind_head input bytes rest goal e ∙ ap (λ (r : Reading (List Constraint)). r >>= with_states input goal) h
+behind_times : (input : ℕ) (bytes rest behind : List ℕ) (version : ℕ) (goal : Goal) (times : List Constraint) → head_at input bytes ≡ Ok ((version, goal), rest) → times_at input rest ≡ Ok (times, behind)
+    → grant_at input bytes ≡ with_states input version goal (times, behind)
+behind_times input bytes rest behind version goal times e h = behind_head input bytes rest version goal e ∙ ap (λ (r : Reading (List Constraint)). r >>= with_states input version goal) h
 
-pub times_stop : (input : ℕ) (bytes rest : List ℕ) (goal : Goal) (fault : CodecFault) → head_at input bytes ≡ Ok (goal, rest) → ReportsFault fault (times_at input rest) → ReportsFault fault (grant_at input bytes)
-times_stop input bytes rest goal fault e h = rw (behind_head input bytes rest goal e) (hands_on fault (times_at input rest) (with_states input goal) h)
+behind_states : (input : ℕ) (bytes rest behind after : List ℕ) (version : ℕ) (goal : Goal) (times : List Constraint) (states : List StatePred) → head_at input bytes ≡ Ok ((version, goal), rest)
+    → times_at input rest ≡ Ok (times, behind) → states_at times input behind ≡ Ok (states, after) → grant_at input bytes ≡ with_names input version goal times (states, after)
+behind_states input bytes rest behind after version goal times states e h k =
+    behind_times input bytes rest behind version goal times e h ∙ ap (λ (r : Reading (List StatePred)). r >>= with_names input version goal times) k
 
-pub states_stop : (input : ℕ) (bytes rest behind : List ℕ) (goal : Goal) (times : List Constraint) (fault : CodecFault) → head_at input bytes ≡ Ok (goal, rest) → times_at input rest ≡ Ok (times, behind)
-    → ReportsFault fault (states_at times input behind) → ReportsFault fault (grant_at input bytes)
-states_stop input bytes rest behind goal times fault e h k =
-    rw (behind_times input bytes rest behind goal times e h) (hands_on fault (states_at times input behind) (λ states. Ok (granted goal times states.0, states.1)) k)
+pub times_stop : (input : ℕ) (bytes rest : List ℕ) (version : ℕ) (goal : Goal) (fault : CodecFault) → head_at input bytes ≡ Ok ((version, goal), rest) → ReportsFault fault (times_at input rest)
+    → ReportsFault fault (grant_at input bytes)
+times_stop input bytes rest version goal fault e h = rw (behind_head input bytes rest version goal e) (hands_on fault (times_at input rest) (with_states input version goal) h)
 
-pub grant_is_read : (input : ℕ) (bytes rest behind end : List ℕ) (goal : Goal) (times : List Constraint) (states : List StatePred) → head_at input bytes ≡ Ok (goal, rest) → times_at input rest ≡ Ok (times, behind)
-    → states_at times input behind ≡ Ok (states, end) → grant_at input bytes ≡ Ok (granted goal times states, end)
-grant_is_read input bytes rest behind end goal times states e h k =
-    behind_times input bytes rest behind goal times e h ∙ ap (λ (r : Reading (List StatePred)). r >>= λ all. Ok (granted goal times all.0, all.1)) k
+pub states_stop : (input : ℕ) (bytes rest behind : List ℕ) (version : ℕ) (goal : Goal) (times : List Constraint) (fault : CodecFault) → head_at input bytes ≡ Ok ((version, goal), rest)
+    → times_at input rest ≡ Ok (times, behind) → ReportsFault fault (states_at times input behind) → ReportsFault fault (grant_at input bytes)
+states_stop input bytes rest behind version goal times fault e h k =
+    rw (behind_times input bytes rest behind version goal times e h) (hands_on fault (states_at times input behind) (with_names input version goal times) k)
+
+pub names_stop : (input : ℕ) (bytes rest behind after : List ℕ) (version : ℕ) (goal : Goal) (times : List Constraint) (states : List StatePred) (fault : CodecFault) → head_at input bytes ≡ Ok ((version, goal), rest)
+    → times_at input rest ≡ Ok (times, behind) → states_at times input behind ≡ Ok (states, after) → ReportsFault fault (versioned_names_at version input after) → ReportsFault fault (grant_at input bytes)
+names_stop input bytes rest behind after version goal times states fault e h k l =
+    rw (behind_states input bytes rest behind after version goal times states e h k) (hands_on fault (versioned_names_at version input after) (λ cited. Ok (granted goal times states cited.0, cited.1)) l)
+
+pub grant_is_read : (input : ℕ) (bytes rest behind after end : List ℕ) (version : ℕ) (goal : Goal) (times : List Constraint) (states : List StatePred) (cited : List ℕ) → head_at input bytes ≡ Ok ((version, goal), rest)
+    → times_at input rest ≡ Ok (times, behind) → states_at times input behind ≡ Ok (states, after) → versioned_names_at version input after ≡ Ok (cited, end)
+    → grant_at input bytes ≡ Ok (granted goal times states cited, end)
+grant_is_read input bytes rest behind after end version goal times states cited e h k l =
+    behind_states input bytes rest behind after version goal times states e h k ∙ ap (λ (r : Reading (List ℕ)). r >>= λ all. Ok (granted goal times states all.0, all.1)) l

@@ -1,9 +1,10 @@
 -- Reading grants from their canonical bytes, from the left: the value and the bytes after it, or the first fault. The order of the faults is this project's
--- own. A condition is read whole, and then tested as one field; the number of conditions is tested as soon as it is there.
-use Rattle.std.specs.Prelude.{ℕ, zero, suc, ◌-◌, List, [], ◌∷◌, ◌++◌, length, Bool, not, ◌&&◌, nat_lt, ◌==◌, if◌then◌else◌, Result, Ok, Err}
+-- own. A condition is read whole, and then tested as one field; the number of conditions is tested as soon as it is there, and so
+-- is that of the statements that a grant names.
+use Rattle.std.specs.Prelude.{ℕ, zero, suc, ◌-◌, List, [], ◌∷◌, ◌++◌, length, Bool, not, ◌&&◌, ◌||◌, nat_lt, nat_le, ◌==◌, if◌then◌else◌, Result, Ok, Err}
 use Rattle.std.specs.List.{list_any}
-use Rattle.std.specs.Int.{w64}
-use Rattle.bl_syntax.specs.declared.limits.TheConstants.{MOST_CONDITIONS}
+use Rattle.std.specs.Int.{w32, w64}
+use Rattle.bl_syntax.specs.declared.limits.TheConstants.{MOST_CONDITIONS, MOST_CITED}
 use Rattle.bl_syntax.specs.declared.codec_fault.CodecFault.{CodecFault}
 use Rattle.bl_syntax.specs.declared.codec_fault.CodecFault.TheVariants.{Short, BadTag, NotCanonical}
 use Rattle.bl_syntax.specs.declared.terms.Constraint.{Constraint}
@@ -86,17 +87,41 @@ conditions_at one_at may_follow most input bytes = do
   count ← count_at most input bytes
   items_at one_at may_follow count.0 input [] count.1
 
--- the byte of grants, the version, and the goal
-unfoldable pub head_at : ℕ → List ℕ → Reading Goal
-head_at input bytes = do
-  version ← marker_at 71 input bytes
-  goal ← marker_at 1 input version
-  goal_at input goal
+-- the version: 1, or 2 of a grant that names statements
+unfoldable pub version_at : ℕ → List ℕ → Reading ℕ
+version_at input [] = Err Short
+version_at input (version ∷ rest) = if version == 1 || version == 2 then Ok (version, rest) else Err (BadTag (place input (version ∷ rest)))
 
--- a grant: its head, and its conditions, at most 64 together
+-- the byte of grants, the version, and the goal
+unfoldable pub head_at : ℕ → List ℕ → Reading (ℕ × Goal)
+head_at input bytes = do
+  mark ← marker_at 71 input bytes
+  version ← version_at input mark
+  goal ← goal_at input version.1
+  Ok ((version.0, goal.0), goal.1)
+
+-- so many numbers of statements after those before, each above the previous one
+unfoldable pub rising_at : ℕ → ℕ → ℕ → List ℕ → List ℕ → Reading (List ℕ)
+rising_at zero previous input before bytes = Ok (before, bytes)
+rising_at (suc count) previous input before bytes = do
+  number ← number_at w32 bytes
+  if nat_lt previous number.0 then rising_at count number.0 input (before ++ number.0 ∷ []) number.1 else Err (NotCanonical (place input bytes))
+
+-- how many statements are named, 1 to 64, and the number of each; numbers count from 1
+unfoldable pub names_at : ℕ → List ℕ → Reading (List ℕ)
+names_at input [] = Err Short
+names_at input (count ∷ rest) =
+    if nat_lt 0 count && nat_le count MOST_CITED then rising_at count 0 input [] rest else Err (NotCanonical (place input (count ∷ rest)))
+
+-- the statements that a grant of this version names
+unfoldable pub versioned_names_at : ℕ → ℕ → List ℕ → Reading (List ℕ)
+versioned_names_at version input bytes = if version == 1 then Ok ([], bytes) else names_at input bytes
+
+-- a grant: its head, its conditions, at most 64 together, and the statements that it names
 unfoldable pub grant_at : ℕ → List ℕ → Reading GrantView
 grant_at input bytes = do
-  goal ← head_at input bytes
-  times ← conditions_at time_condition_at may_follow_times MOST_CONDITIONS input goal.1
+  head ← head_at input bytes
+  times ← conditions_at time_condition_at may_follow_times MOST_CONDITIONS input head.1
   states ← conditions_at state_condition_at may_follow_states (MOST_CONDITIONS - length times.0) input times.1
-  Ok (record { goal = goal.0; times = times.0; states = states.0; cited = [] }, states.1)
+  cited ← versioned_names_at head.0.0 input states.1
+  Ok (record { goal = head.0.1; times = times.0; states = states.0; cited = cited.0 }, cited.1)

@@ -1,16 +1,17 @@
 //! The bytes of a grant as they are fed to a keyed text. Nothing here takes memory.
 
-ghost use Rattle.std.specs.Prelude.{◌≡◌, ◌≤◌, ◌++◌, length};
+ghost use Rattle.std.specs.Prelude.{◌≡◌, ◌≤◌, ◌∷◌, ◌++◌, length};
 ghost use Rattle.bl_syntax.specs.Terms.{HasTimeInRange};
 ghost use Rattle.bl_syntax.specs.Grant.{IsTimeCondition, IsStateCondition};
 ghost use Rattle.bl_syntax.specs.WellSorted.{terms_of_state};
 ghost use Rattle.bl_syntax.specs.Spelling.{term_spelling, time_spelling, IsSpellable};
 ghost use Rattle.bl_syntax.specs.FormulaSpelling.{state_spelling};
 ghost use Rattle.std.specs.List.{AllByRecursion, flat_map};
-ghost use Rattle.procap.specs.GrantSpelling.{goal_spelling, time_condition_spelling, list_spelling, grant_spelling, IsSpellableGoal, IsSpellableTime, IsSpellableState, IsSpellableGrant};
+ghost use Rattle.procap.specs.GrantSpelling.{goal_spelling, time_condition_spelling, list_spelling, version_of, name_spelling, names_spelling, grant_spelling, IsSpellableGoal, IsSpellableTime, IsSpellableState, IsSpellableName, IsSpellableGrant};
 
+use crate::writing::version_of;
 use bl_syntax::fields::{permission_code, second_bytes, u32_bytes, u64_bytes};
-use bl_syntax::limits::MOST_CONDITIONS;
+use bl_syntax::limits::{MOST_CITED, MOST_CONDITIONS};
 use bl_syntax::{Constraint, Goal, Grant, StatePred, Term, TimePoint};
 use pcfs_hmac::Mac;
 
@@ -165,8 +166,46 @@ pub(crate) fn feed_grant(text: &mut Mac, g: &Grant)
     ensures fed { text.new ≡ record text.old { text = text.old.text ++ grant_spelling g.now } }
     ensures spelled { IsSpellableGrant g.now }
 {
-    text.update(&[71, 1]);
-    feed_goal(text, &g.goal());
+    feed_head(text, g);
     feed_times(text, g.times());
     feed_states(text, g.states());
+    feed_names(text, g.cited());
+}
+
+/// Adds the byte of grants, the version, and the bytes of the goal.
+fn feed_head(text: &mut Mac, g: &Grant)
+    ensures fed { text.new ≡ record text.old { text = text.old.text ++ 71 ∷ version_of g.now.cited ∷ goal_spelling g.now.goal } }
+    ensures spelled { IsSpellableGoal g.now.goal }
+{
+    text.update(&[71, version_of(g.cited())]);
+    feed_goal(text, &g.goal());
+}
+
+/// Adds the number of the statements that a grant names, and the number of each, or nothing if it names none.
+fn feed_names(text: &mut Mac, numbers: &[u32])
+    requires { length numbers.now ≤ MOST_CITED }
+    ensures fed { text.new ≡ record text.old { text = text.old.text ++ names_spelling numbers.now } }
+    ensures spelled { AllByRecursion IsSpellableName numbers.now }
+{
+    match numbers {
+        [] => {}
+        [_, ..] => {
+            text.update(&[numbers.len() as u8]);
+            feed_each_name(text, numbers);
+        }
+    }
+}
+
+/// Adds the bytes of each number.
+fn feed_each_name(text: &mut Mac, numbers: &[u32])
+    ensures fed { text.new ≡ record text.old { text = text.old.text ++ flat_map name_spelling numbers.now } }
+    ensures spelled { AllByRecursion IsSpellableName numbers.now }
+{
+    match numbers {
+        [] => {}
+        [first, others @ ..] => {
+            text.update(&u32_bytes(*first));
+            feed_each_name(text, others);
+        }
+    }
 }

@@ -1,23 +1,21 @@
 //! Reading grants and procaps.
 
-ghost use Rattle.std.specs.Prelude.{◌≡◌, ◌≤◌, ◌+◌, ◌-◌, [], IfOk, length};
+ghost use Rattle.std.specs.Prelude.{◌≡◌, ◌<◌, ◌≤◌, ◌+◌, ◌-◌, [], IfOk, length};
 ghost use Rattle.bl_syntax.specs.Reading.{GivesReading, reading, term_at};
+ghost use Rattle.bl_syntax.specs.Citable.{AreNamed};
 ghost use Rattle.bl_syntax.specs.Codec.{GivesReadingOrReports, ReadsFront};
 ghost use Rattle.procap.specs.GrantSpelling.{grant_spelling, IsSpellableGrant};
-ghost use Rattle.procap.specs.GrantReading.{marker_at, goal_at, both_at, time_condition_at, state_terms_at, state_condition_at, is_time_among, is_state_among, may_follow_times, may_follow_states, items_at, count_at, conditions_at, head_at, grant_at};
+ghost use Rattle.procap.specs.GrantReading.{marker_at, goal_at, both_at, time_condition_at, state_terms_at, state_condition_at, is_time_among, is_state_among, may_follow_times, may_follow_states, items_at, count_at, conditions_at, version_at, head_at, rising_at, names_at, versioned_names_at, grant_at};
 ghost use Rattle.procap.specs.Procap.{procap_spelling, IsSpellableProcap, procap_at, whole_procap, ReadsWholeProcap};
 
 use crate::procap::Procap;
-use bl_syntax::fields::{is_formula_tag, name_at, permission_at, place, term_at, u64_at};
-use bl_syntax::limits::MOST_CONDITIONS;
+use bl_syntax::fields::{is_formula_tag, name_at, permission_at, place, term_at, u32_at, u64_at};
+use bl_syntax::limits::{MOST_CITED, MOST_CONDITIONS};
 use bl_syntax::{
-    CodecFault, Constraint, Goal, Grant, NodeId, StatePred, Term, is_state_condition,
-    is_time_condition,
+    CodecFault, Constraint, Goal, Grant, NodeId, Numbers, Sequence, StatePred, Term,
+    is_state_condition, is_time_condition,
 };
 use std::alloc::Global;
-
-/// The version of a grant's bytes.
-const VERSION: u8 = 1;
 
 /// The number of a tag's bytes.
 const TAG_LENGTH: usize = 32;
@@ -63,16 +61,36 @@ fn goal_at(input: usize, bytes: &[u8]) -> Result<(Goal, &[u8]), CodecFault>
     }
 }
 
+/// The version of a grant's bytes.
+#[tactic(auto, unfolding(crate::specs::GrantReading::version_at))]
+fn version_at(input: usize, bytes: &[u8]) -> Result<(u8, &[u8]), CodecFault>
+    ensures { GivesReading (λ x. (x.0, x.1.now)) result (version_at input bytes.now) }
+{
+    match bytes {
+        [] => Err(CodecFault::Short),
+        [version, rest @ ..] => {
+            if *version == 1 || *version == 2 {
+                Ok((*version, rest))
+            } else {
+                Err(CodecFault::BadTag(place(input, bytes)))
+            }
+        }
+    }
+}
+
 /// The byte of grants, the version, and the goal.
 #[tactic(auto, unfolding(crate::specs::GrantReading::head_at))]
-fn head_at(input: usize, bytes: &[u8]) -> Result<(Goal, &[u8]), CodecFault>
-    ensures { GivesReading (λ x. (x.0, x.1.now)) result (head_at input bytes.now) }
+fn head_at(input: usize, bytes: &[u8]) -> Result<(u8, Goal, &[u8]), CodecFault>
+    ensures { GivesReading (λ x. ((x.0, x.1), x.2.now)) result (head_at input bytes.now) }
 {
     match marker_at(b'G', input, bytes) {
         Err(fault) => Err(fault),
-        Ok(rest) => match marker_at(VERSION, input, rest) {
+        Ok(rest) => match version_at(input, rest) {
             Err(fault) => Err(fault),
-            Ok(rest) => goal_at(input, rest),
+            Ok((version, rest)) => match goal_at(input, rest) {
+                Err(fault) => Err(fault),
+                Ok((goal, rest)) => Ok((version, goal, rest)),
+            },
         },
     }
 }
@@ -293,6 +311,92 @@ fn states_at<'a>(grant: &mut Grant, input: usize, bytes: &'a [u8]) -> Result<&'a
     }
 }
 
+/// So many numbers, each above the previous one, which are added after these.
+fn add_rising_at<'a>(
+    numbers: &mut Numbers,
+    count: usize,
+    previous: u32,
+    input: usize,
+    bytes: &'a [u8],
+) -> Result<&'a [u8], CodecFault>
+    ensures { GivesReadingOrReports (λ rest. (numbers.new, rest.now)) result (rising_at count previous input numbers.old bytes.now) }
+{
+    if count == 0 {
+        return Ok(bytes);
+    }
+    match u32_at(bytes) {
+        Err(fault) => Err(fault),
+        Ok((number, rest)) => {
+            if number <= previous {
+                return Err(CodecFault::NotCanonical(place(input, bytes)));
+            }
+            numbers.push(number)?;
+            add_rising_at(numbers, count - 1, number, input, rest)
+        }
+    }
+}
+
+/// The statements that a grant names: how many, and the number of each.
+#[tactic(auto, using(crate::proofs::NamesLemmas::names_counted, crate::proofs::NamesLemmas::names_uncounted), unfolding(crate::specs::GrantReading::names_at))]
+fn names_at(alloc: Global, input: usize, bytes: &[u8]) -> Result<(Numbers, &[u8]), CodecFault>
+    ensures read { GivesReadingOrReports (λ x. (x.0, x.1.now)) result (names_at input bytes.now) }
+    ensures named { IfOk result (λ x. AreNamed x.0) }
+{
+    match bytes {
+        [] => Err(CodecFault::Short),
+        [count, rest @ ..] => {
+            let count = *count as usize;
+            if 0 < count && count <= MOST_CITED {
+                counted_names_at(alloc, count, input, rest)
+            } else {
+                Err(CodecFault::NotCanonical(place(input, bytes)))
+            }
+        }
+    }
+}
+
+/// So many numbers of named statements, in memory that is taken at once.
+#[tactic(auto, using(crate::proofs::NamesLemmas::counted_named))]
+fn counted_names_at(
+    alloc: Global,
+    count: usize,
+    input: usize,
+    bytes: &[u8],
+) -> Result<(Numbers, &[u8]), CodecFault>
+    requires some { 0 < count }
+    requires few { count ≤ MOST_CITED }
+    ensures read { GivesReadingOrReports (λ x. (x.0, x.1.now)) result (rising_at count 0 input [] bytes.now) }
+    ensures named { IfOk result (λ x. AreNamed x.0) }
+{
+    let mut numbers = Sequence::new(alloc);
+    numbers.reserve(count)?;
+    match add_rising_at(&mut numbers, count, 0, input, bytes) {
+        Err(fault) => Err(fault),
+        Ok(rest) => Ok((numbers, rest)),
+    }
+}
+
+/// The grant, which names no statements yet, with those that one of this version names.
+fn naming_at(
+    alloc: Global,
+    grant: Grant,
+    version: u8,
+    input: usize,
+    bytes: &[u8],
+) -> Result<(Grant, &[u8]), CodecFault>
+    requires { grant.cited ≡ [] }
+    ensures read { GivesReadingOrReports (λ x. (x.0.cited, x.1.now)) result (versioned_names_at version input bytes.now) }
+    ensures others { IfOk result (λ x. x.0 ≡ record grant { cited = x.0.cited }) }
+{
+    if version == 1 {
+        return Ok((grant, bytes));
+    }
+    match names_at(alloc, input, bytes) {
+        Err(fault) => Err(fault),
+        Ok((numbers, rest)) => Ok((grant.naming(numbers), rest)),
+    }
+}
+
 /// A grant at the front of `bytes`, the rest of an input of `input` bytes, and the bytes after it, or the first fault with
 /// its place in the input.
 pub fn grant_at(alloc: Global, input: usize, bytes: &[u8]) -> Result<(Grant, &[u8]), CodecFault>
@@ -300,13 +404,16 @@ pub fn grant_at(alloc: Global, input: usize, bytes: &[u8]) -> Result<(Grant, &[u
 {
     match head_at(input, bytes) {
         Err(fault) => Err(fault),
-        Ok((goal, rest)) => {
+        Ok((version, goal, rest)) => {
             let mut grant = Grant::new(alloc, goal);
             match times_at(&mut grant, input, rest) {
                 Err(fault) => Err(fault),
                 Ok(rest) => match states_at(&mut grant, input, rest) {
                     Err(fault) => Err(fault),
-                    Ok(rest) => Ok((grant, rest)),
+                    Ok(rest) => match naming_at(alloc, grant, version, input, rest) {
+                        Err(fault) => Err(fault),
+                        Ok((grant, rest)) => Ok((grant, rest)),
+                    },
                 },
             }
         }

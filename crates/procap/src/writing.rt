@@ -7,12 +7,12 @@ ghost use Rattle.bl_syntax.specs.Terms.{HasTimeInRange};
 ghost use Rattle.bl_syntax.specs.Grant.{IsGrant, IsTimeCondition, IsStateCondition};
 ghost use Rattle.bl_syntax.specs.WellSorted.{terms_of_state};
 ghost use Rattle.bl_syntax.specs.FormulaSpelling.{state_spelling};
-ghost use Rattle.procap.specs.GrantSpelling.{goal_spelling, time_condition_spelling, list_spelling, grant_spelling, IsSpellableGoal, IsSpellableTime, IsSpellableState, IsSpellableGrant};
+ghost use Rattle.procap.specs.GrantSpelling.{goal_spelling, time_condition_spelling, list_spelling, version_of, name_spelling, names_spelling, parts_spelling, grant_spelling, IsSpellableGoal, IsSpellableTime, IsSpellableState, IsSpellableName, IsSpellableGrant};
 ghost use Rattle.procap.specs.Procap.{procap_spelling, IsSpellableProcap};
 
 use crate::procap::Procap;
-use bl_syntax::fields::{permission_code, u64_bytes};
-use bl_syntax::limits::MOST_CONDITIONS;
+use bl_syntax::fields::{permission_code, u32_bytes, u64_bytes};
+use bl_syntax::limits::{MOST_CITED, MOST_CONDITIONS};
 use bl_syntax::{Bytes, Constraint, Goal, Grant, NoMemory, StatePred, write_name, write_term};
 
 /// Adds the bytes of a condition on time, or a front of them.
@@ -128,28 +128,74 @@ fn add_each_state(states: &[StatePred], out: &mut Bytes) -> Result<(), NoMemory>
     }
 }
 
-/// Adds the byte of grants, the version, and the bytes of a goal, or a front of them.
-#[tactic(auto, using(bl_syntax::proofs::BeginsWithLemmas::writing))]
-fn add_head(goal: &Goal, out: &mut Bytes) -> Result<(), NoMemory>
-    ensures ok { OnOk result (out.new ≡ out.old ++ 71 ∷ 1 ∷ goal_spelling goal.now) }
-    ensures spelled { OnOk result (IsSpellableGoal goal.now) }
-    ensures err { OnErr result (BeginsWith out.new out.old) }
+/// The version of the grants that name these statements.
+pub(crate) fn version_of(numbers: &[u32]) -> u8
+    ensures { result ≡ version_of numbers.now }
 {
-    out.extend(&[71, 1])?;
-    add_goal(goal, out)
+    match numbers {
+        [] => 1,
+        [_, ..] => 2,
+    }
 }
 
-/// Adds the bytes of the conditions of a grant, or a front of them.
+/// Adds the byte of grants, the version, and the bytes of the goal, or a front of them.
 #[tactic(auto, using(bl_syntax::proofs::BeginsWithLemmas::writing))]
-fn add_conditions(g: &Grant, out: &mut Bytes) -> Result<(), NoMemory>
-    ensures ok { OnOk result (out.new ≡ out.old ++ (list_spelling time_condition_spelling g.now.times ++ list_spelling state_spelling g.now.states)) }
+fn add_head(g: &Grant, out: &mut Bytes) -> Result<(), NoMemory>
+    ensures ok { OnOk result (out.new ≡ out.old ++ 71 ∷ version_of g.now.cited ∷ goal_spelling g.now.goal) }
+    ensures spelled { OnOk result (IsSpellableGoal g.now.goal) }
+    ensures err { OnErr result (BeginsWith out.new out.old) }
+{
+    out.extend(&[71, version_of(g.cited())])?;
+    add_goal(&g.goal(), out)
+}
+
+/// Adds the number of the statements that a grant names, and the number of each, or a front of them; nothing if it names
+/// none.
+#[tactic(auto, using(bl_syntax::proofs::BeginsWithLemmas::writing))]
+fn add_names(numbers: &[u32], out: &mut Bytes) -> Result<(), NoMemory>
+    requires { length numbers.now ≤ MOST_CITED }
+    ensures ok { OnOk result (out.new ≡ out.old ++ names_spelling numbers.now) }
+    ensures spelled { OnOk result (AllByRecursion IsSpellableName numbers.now) }
+    ensures err { OnErr result (BeginsWith out.new out.old) }
+{
+    match numbers {
+        [] => Ok(()),
+        [_, ..] => {
+            out.push(numbers.len() as u8)?;
+            add_each_name(numbers, out)
+        }
+    }
+}
+
+/// Adds the bytes of each number, or a front of them.
+#[tactic(auto, using(bl_syntax::proofs::BeginsWithLemmas::writing))]
+fn add_each_name(numbers: &[u32], out: &mut Bytes) -> Result<(), NoMemory>
+    ensures ok { OnOk result (out.new ≡ out.old ++ flat_map name_spelling numbers.now) }
+    ensures spelled { OnOk result (AllByRecursion IsSpellableName numbers.now) }
+    ensures err { OnErr result (BeginsWith out.new out.old) }
+{
+    match numbers {
+        [] => Ok(()),
+        [first, others @ ..] => {
+            out.extend(&u32_bytes(*first))?;
+            add_each_name(others, out)
+        }
+    }
+}
+
+/// Adds the bytes of the conditions of a grant, and of the statements that it names, or a front of them.
+#[tactic(auto, using(bl_syntax::proofs::BeginsWithLemmas::writing))]
+fn add_parts(g: &Grant, out: &mut Bytes) -> Result<(), NoMemory>
+    ensures ok { OnOk result (out.new ≡ out.old ++ parts_spelling g.now) }
     ensures times { OnOk result (AllByRecursion IsSpellableTime g.now.times) }
     ensures states { OnOk result (AllByRecursion IsSpellableState g.now.states) }
+    ensures names { OnOk result (AllByRecursion IsSpellableName g.now.cited) }
     ensures kept { IsGrant g.now }
     ensures err { OnErr result (BeginsWith out.new out.old) }
 {
     add_times(g.times(), out)?;
-    add_states(g.states(), out)
+    add_states(g.states(), out)?;
+    add_names(g.cited(), out)
 }
 
 /// Adds the bytes of a grant, or a front of them.
@@ -159,8 +205,8 @@ fn add_grant(g: &Grant, out: &mut Bytes) -> Result<(), NoMemory>
     ensures spelled { OnOk result (IsSpellableGrant g.now) }
     ensures err { OnErr result (BeginsWith out.new out.old) }
 {
-    add_head(&g.goal(), out)?;
-    add_conditions(g, out)
+    add_head(g, out)?;
+    add_parts(g, out)
 }
 
 /// Adds the bytes of a procap, or a front of them.

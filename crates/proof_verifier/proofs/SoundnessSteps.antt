@@ -36,16 +36,18 @@ pub record AreKept (left_over : LeftOver) : Type 0 where
 -- the grant keeps its goal and its conditions, and may have more of these
 pub record Grows (left_over : LeftOver) (old new : GrantView) : Type 0 where
   pub same_goal : new.goal ≡ old.goal
+  pub same_cited : new.cited ≡ old.cited
   pub times : Includes new.times old.times
   pub states : Includes new.states old.states
   pub keeps : AreKept left_over → IsGrant old → IsGrant new
 
 pub Grows-not : {left_over : LeftOver} → (g : GrantView) → Grows left_over g g
-Grows-not g = record { same_goal = refl; times = λ c among. among; states = λ s among. among; keeps = λ are_kept h. h }
+Grows-not g = record { same_goal = refl; same_cited = refl; times = λ c among. among; states = λ s among. among; keeps = λ are_kept h. h }
 
 pub Grows-twice : {left_over : LeftOver} {old middle new : GrantView} → Grows left_over old middle → Grows left_over middle new → Grows left_over old new
 Grows-twice first second = record {
   same_goal = second.same_goal ∙ first.same_goal;
+  same_cited = second.same_cited ∙ first.same_cited;
   times = λ c among. second.times c (first.times c among);
   states = λ s among. second.states s (first.states s among);
   keeps = λ are_kept h. second.keeps are_kept (first.keeps are_kept h);
@@ -69,6 +71,7 @@ unfolding with_time
 gives_with_time left_over c g open_ new room = record {
   grows = record {
     same_goal = refl;
+    same_cited = refl;
     times = λ d among. Contains-append_left g.times (c ∷ []) d among;
     states = λ s among. among;
     keeps = λ are_kept h. IsGrant-push_time g c h (are_kept.time c open_)
@@ -99,6 +102,7 @@ unfolding with_state
 gives_with_state left_over s g open_ new room = record {
   grows = record {
     same_goal = refl;
+    same_cited = refl;
     times = λ c among. among;
     states = λ t among. Contains-append_left g.states (s ∷ []) t among;
     keeps = λ are_kept h. IsGrant-push_state g s h (are_kept.state s open_)

@@ -1,5 +1,5 @@
 -- A grant that the verdict gives is sound.
-use Rattle.std.proofs.Common.{◌≡◌, ◌∙◌, List, Ok, Some, refl, sym, subst, arith}
+use Rattle.std.proofs.Common.{◌≡◌, ◌∙◌, List, [], inl, Ok, Some, refl, sym, subst, arith}
 use Rattle.std.specs.Prelude.{Contains}
 use Rattle.std.specs.List.{AllByRecursion}
 use Rattle.std.proofs.lemmas.Option.{same_Some}
@@ -48,7 +48,7 @@ answer-sound left_over (claim h p) = by_claim-sound left_over h (answer left_ove
 answer-sound left_over (at_l h p) = by_at_l-sound left_over h (answer left_over p) (answer-sound left_over p)
 
 IsGrant-without_conditions : (goal : Goal) → IsGrant (without_conditions goal)
-IsGrant-without_conditions goal = record { time_conditions = tt; state_conditions = tt; distinct_times = tt; distinct_states = tt; count = omega arith; names = refl }
+IsGrant-without_conditions goal = record { time_conditions = tt; state_conditions = tt; distinct_times = tt; distinct_states = tt; count = omega arith; names = inl refl }
 
 -- a grant's own conditions and the statements cover the root
 root_covered : (statements : List StatementView) (goal : Goal) (g : GrantView) → Covers g.times g.states (claims_of statements) (root statements goal) g
@@ -68,6 +68,10 @@ root_step left_over statements goal d g e = ((answer-sound left_over d).step 0 (
 
 pub goal-verdict : (statements : List StatementView) (goal : Goal) (d : ProofView) (g : GrantView) → verdict statements goal d ≡ Ok g → g.goal ≡ goal
 goal-verdict statements goal d g e = (root_step by_rule statements goal d g e).grows.same_goal
+
+-- the grant of a proof names no statements
+pub cited-verdict : (statements : List StatementView) (goal : Goal) (d : ProofView) (g : GrantView) → verdict statements goal d ≡ Ok g → g.cited ≡ []
+cited-verdict statements goal d g e = (root_step by_rule statements goal d g e).grows.same_cited
 
 grants_keep : AreKept by_grant
 grants_keep = record { time = IsTimeCondition-from_test; state = IsStateCondition-from_test }

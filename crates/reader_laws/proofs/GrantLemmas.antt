@@ -1,14 +1,14 @@
 -- Grants and procaps are read steadily.
 use Rattle.std.proofs.Common.{◌≡◌, ℕ, zero, suc, ◌-◌, List, [], ◌∷◌, ◌++◌, length, Bool, cond, Result, Ok, Err}
-use Rattle.std.specs.Prelude.{◌==◌, nat_lt}
-use Rattle.std.specs.Int.{w64}
+use Rattle.std.specs.Prelude.{◌==◌, ◌&&◌, ◌||◌, nat_le, nat_lt}
+use Rattle.std.specs.Int.{w32, w64}
 use Rattle.bl_syntax.specs.declared.codec_fault.CodecFault.{CodecFault}
 use Rattle.bl_syntax.specs.declared.codec_fault.CodecFault.TheVariants.{Short}
 use Rattle.bl_syntax.specs.declared.terms.StatePred.TheVariants.{Owner, HasXattr, InDir}
 use Rattle.bl_syntax.specs.Grant.{GrantView}
 use Rattle.bl_syntax.specs.Reading.{◌>>=◌, Reading, place, map_reading, number_at, name_at, permission_at, term_at}
 use Rattle.bl_syntax.specs.FormulaReading.{is_formula_tag}
-use Rattle.procap.specs.GrantReading.{marker_at, goal_at, both_at, time_condition_at, state_terms_at, state_condition_at, may_follow_times, may_follow_states, items_at, count_at, conditions_at, head_at, grant_at}
+use Rattle.procap.specs.GrantReading.{marker_at, goal_at, both_at, time_condition_at, state_terms_at, state_condition_at, may_follow_times, may_follow_states, items_at, count_at, conditions_at, version_at, head_at, rising_at, names_at, versioned_names_at, grant_at}
 use Rattle.procap.specs.Procap.{tag_at, procap_at}
 use Rattle.reader_laws.proofs.ExtendedLemmas.{Extended, behind, ReadsOn, IsSteady, done, cut, faults, either_way, one_then, made, taken}
 use Rattle.reader_laws.proofs.FieldLemmas.{numbers, names, permissions, terms}
@@ -72,20 +72,47 @@ conditions one_at may_follow steady most input onward bytes more =
     one_then (behind more) (behind more) _ _ _ _ (counts most input onward bytes more)
     (λ count. items one_at may_follow steady count.0 input onward [] count.1 more)
 
+versions : IsSteady version_at
+unfolding version_at
+versions input onward [] more = cut Short (behind more) _
+versions input onward (version ∷ rest) more =
+    either_way Short (behind more) (version == 1 || version == 2) _ _ _ _ (done Short (behind more) (version, rest)) (faults Short (behind more) _ _)
+
 heads : IsSteady head_at
 unfolding head_at
 heads input onward bytes more =
     one_then (λ rest. rest ++ more) (behind more) _ _ _ _ (markers 71 input onward bytes more)
-    (λ version. one_then (λ rest. rest ++ more) (behind more) _ _ _ _ (markers 1 input onward version more)
-    (λ goal. goals input onward goal more))
+    (λ mark. one_then (behind more) (behind more) _ _ _ _ (versions input onward mark more)
+    (λ version. one_then (behind more) (behind more) _ _ _ _ (goals input onward version.1 more)
+    (λ goal. done Short (behind more) ((version.0, goal.0), goal.1))))
+
+rising : (count previous input onward : ℕ) (before : List ℕ) → ReadsOn (rising_at count previous input before) (rising_at count previous onward before)
+unfolding rising_at
+rising zero previous input onward before bytes more = done Short (behind more) (before, bytes)
+rising (suc count) previous input onward before bytes more =
+    one_then (behind more) (behind more) _ _ _ _ (numbers w32 bytes more)
+    (λ number. either_way Short (behind more) (nat_lt previous number.0) _ _ _ _
+    (rising count number.0 input onward (before ++ number.0 ∷ []) number.1 more) (faults Short (behind more) _ _))
+
+counted_names : IsSteady names_at
+unfolding names_at
+counted_names input onward [] more = cut Short (behind more) _
+counted_names input onward (count ∷ rest) more =
+    either_way Short (behind more) (nat_lt 0 count && nat_le count 64) _ _ _ _ (rising count 0 input onward [] rest more) (faults Short (behind more) _ _)
+
+versioned_names : (version : ℕ) → IsSteady (versioned_names_at version)
+unfolding versioned_names_at
+versioned_names version input onward bytes more =
+    either_way Short (behind more) (version == 1) _ _ _ _ (done Short (behind more) ([], bytes)) (counted_names input onward bytes more)
 
 pub grants : IsSteady grant_at
 unfolding grant_at
 grants input onward bytes more =
     one_then (behind more) (behind more) _ _ _ _ (heads input onward bytes more)
-    (λ goal. one_then (behind more) (behind more) _ _ _ _ (conditions time_condition_at may_follow_times time_conditions 64 input onward goal.1 more)
+    (λ head. one_then (behind more) (behind more) _ _ _ _ (conditions time_condition_at may_follow_times time_conditions 64 input onward head.1 more)
     (λ times. one_then (behind more) (behind more) _ _ _ _ (conditions state_condition_at may_follow_states state_conditions (64 - length times.0) input onward times.1 more)
-    (λ states. done Short (behind more) (record { goal = goal.0; times = times.0; states = states.0; cited = [] }, states.1))))
+    (λ states. one_then (behind more) (behind more) _ _ _ _ (versioned_names head.0.0 input onward states.1 more)
+    (λ cited. done Short (behind more) (record { goal = head.0.1; times = times.0; states = states.0; cited = cited.0 }, cited.1)))))
 
 tags : ReadsOn tag_at tag_at
 unfolding tag_at

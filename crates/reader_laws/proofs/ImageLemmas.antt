@@ -122,7 +122,7 @@ parts : IsSteady parts_at
 unfolding parts_at
 parts input onward = both (λ head lists. (head, lists)) (head_at input) (head_at onward) (lists_at input) (lists_at onward) (heads input onward) (lists input onward)
 
-fields : IsSteady fields_at
+pub fields : IsSteady fields_at
 fields input onward bytes more = made base_of_parts more _ _ (parts input onward bytes more)
 
 withdrawn_number : (most previous : ℕ) → IsSteady (withdrawn_number_at most previous)

@@ -20,8 +20,8 @@ ghost use Rattle.record_parts.specs.RecordSpelling.{IsRegistration, registration
 ghost use Rattle.record_parts.specs.RecordReading.{registered_at, withdrawn_at, issued_at, acted_at};
 ghost use Rattle.journal_records.specs.EventSpelling.{event_spelling, IsSpellableEvent};
 ghost use Rattle.journal_records.specs.EventReading.{whole_event};
-ghost use Rattle.checkpoint_image.specs.ImageSpelling.{image_spelling, IsSpellableImage};
-ghost use Rattle.checkpoint_image.specs.ImageReading.{whole_image};
+ghost use Rattle.checkpoint_image.specs.ImageSpelling.{AreFieldsOf, fields_spelling, image_spelling, IsSpellableImage};
+ghost use Rattle.checkpoint_image.specs.ImageReading.{fields_at, whole_image};
 ghost use Rattle.reader_laws.specs.Cuts.{AreCutsRefused, IsLeftOverRefused, AreCutImagesShort};
 
 /// A name, a text, a point in time or a term that is cut short is refused as short.
@@ -57,6 +57,7 @@ pub fn cut_inputs_are_short()
     ensures procaps { AreCutsRefused Short IsSpellableProcap procap_spelling whole_procap }
     ensures events { AreCutsRefused Short IsSpellableEvent event_spelling whole_event }
     ensures images { AreCutsRefused Short IsSpellableImage image_spelling whole_image }
+    ensures old_images { AreCutsRefused Short AreFieldsOf fields_spelling (reading fields_at) }
     ensures states { AreCutImagesShort }
 {}
 

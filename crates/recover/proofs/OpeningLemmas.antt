@@ -146,7 +146,7 @@ module _ {D : Type 0} (clock : D → ℕ) (left_since : D → ℕ → List ℕ �
       (which : IfSome (image a) (λ x. IfSome (image b) (λ y. Some false ≡ newer (generation_of x) (generation_of y))))
       (area : IfSome (image a1) (λ bytes. IsArea bytes generation found (payloads_of gate.events))) where
     abbrev store_first : StoreView D
-    store_first = record { active = a2; other = b1; second_active = false; generation = generation; used = end; key = gate.key; ring = gate.ring; base = gate.base; opened = found; events = gate.events; checkpoints = []; stop = None }
+    store_first = record { active = a2; other = b1; second_active = false; generation = generation; used = end; key = gate.key; ring = gate.ring; base = gate.base; opened = found; events = gate.events; checkpoints = []; stop = None; met = None }
 
     area_first : (x : List ℕ) → image a ≡ Some x → IsArea x generation found (payloads_of gate.events)
     area_first x told = at_told (image a1) (λ bytes. IsArea bytes generation found (payloads_of gate.events)) x (read_a.same ∙ told) area
@@ -196,7 +196,7 @@ module _ {D : Type 0} (clock : D → ℕ) (left_since : D → ℕ → List ℕ �
       (which : IfSome (image a) (λ x. IfSome (image b) (λ y. Some true ≡ newer (generation_of x) (generation_of y))))
       (area : IfSome (image b1) (λ bytes. IsArea bytes generation found (payloads_of gate.events))) where
     abbrev store_second : StoreView D
-    store_second = record { active = b2; other = a1; second_active = true; generation = generation; used = end; key = gate.key; ring = gate.ring; base = gate.base; opened = found; events = gate.events; checkpoints = []; stop = None }
+    store_second = record { active = b2; other = a1; second_active = true; generation = generation; used = end; key = gate.key; ring = gate.ring; base = gate.base; opened = found; events = gate.events; checkpoints = []; stop = None; met = None }
 
     area_second : (y : List ℕ) → image b ≡ Some y → IsArea y generation found (payloads_of gate.events)
     area_second y told = at_told (image b1) (λ bytes. IsArea bytes generation found (payloads_of gate.events)) y (read_b.same ∙ told) area

@@ -29,12 +29,12 @@ use Rattle.session_history.specs.declared.reply.TurnReply.TheVariants as turn_re
 use Rattle.session_history.specs.declared.task.LineTask.{LineTask}
 use Rattle.session_history.specs.declared.task.LineTask.TheVariants as tasks
 use Rattle.session_history.specs.SessionState.{SessionState, guest_with}
-use Rattle.session_history.specs.Turn.{StorePass, authority_of_root, AnswersTurn, Turn}
+use Rattle.session_history.specs.Turn.{StorePass, authority_of_root, event_of, AnswersTurn, Turn}
 use Rattle.session_history.specs.Turn as turns
 use Rattle.session_history.specs.Tasks.{IsUserTask, IsCommandTask, IsReadTask, IsTaskOf, faulty, read}
 use Rattle.session_history.specs.Placed.{IsTold, LinePlaced, at_once, in_a_turn, proves_none, issues, is_done, state_after, LinesPlaced, no_line, one_more}
 use Rattle.session_history.specs.Placed as places
-use Rattle.session_history.specs.Laws.{HasSigned, IsByAccepted}
+use Rattle.session_history.specs.Laws.{HasSigned, IsMetByAccepted, IsByAccepted}
 
 -- so of who is logged in
 abbrev IsCallerAccepted : List KeyView → List ℕ → List (List ℕ) → Option (List ℕ) → Type 0
@@ -84,14 +84,11 @@ of_turn_answer ring nonce heard root state pass clock _ _ _ acts (turns.cites_no
 of_turn_answer ring nonce heard root state pass clock _ _ _ acts (turns.logs_in who nonce' signature is) = tt
 of_turn_answer ring nonce heard root state pass clock _ _ _ acts (turns.rejects who nonce' signature is) = tt
 
--- where there is an event, somebody logged in
-somebody : (ring : List KeyView) (nonce : List ℕ) (heard : List (List ℕ)) (entry : StoreEntry) → IsByAccepted ring nonce heard entry → (who : List ℕ) × HasSigned ring nonce heard who
-somebody ring nonce heard (happened (Registered pass statement signature)) by_some = by_some
-somebody ring nonce heard (happened (Issued pass cited proof grant)) by_some = by_some
-somebody ring nonce heard (happened (Withdrawn pass number signature)) by_some = by_some
-somebody ring nonce heard (happened (Acted pass caller op procaps moment)) by_some = (caller, by_some)
-somebody ring nonce heard (checkpointed pass) by_some = (codes "admin", by_some)
-somebody ring nonce heard (stopped pass) by_some = by_some
+-- what was being added when a disk failed is by whom it would have been
+met_by : (ring : List KeyView) (nonce : List ℕ) (heard : List (List ℕ)) (entry : StoreEntry) → IsByAccepted ring nonce heard entry → IsMetByAccepted ring nonce heard (event_of entry)
+met_by ring nonce heard (happened event) by_some = by_some
+met_by ring nonce heard (checkpointed pass) by_some = by_some
+met_by ring nonce heard (stopped pass met) by_some = by_some
 
 turn_by : (ring : List KeyView) (nonce : List ℕ) (heard : List (List ℕ)) (gives : ℤ → Type 0) (p : StorePass) (before : List StoreEntry) (request : TurnRequest) (reply : TurnReply) (given : List StoreEntry) → ActsAs (HasSigned ring nonce heard) request →
     Turn gives p before request reply given → AllByRecursion (IsByAccepted ring nonce heard) given
@@ -99,7 +96,7 @@ turn_by ring nonce heard gives p before request _ _ acts (turns.was_stopped is) 
 turn_by ring nonce heard gives p before request _ _ acts (turns.answered clock answer running shown answers) = tt
 turn_by ring nonce heard gives p before request _ _ acts (turns.full clock answer entry running shown answers is_full) = tt
 turn_by ring nonce heard gives p before request _ _ acts (turns.kept clock answer entry running shown answers room) = (of_turn_answer ring nonce heard p.root (state_of_entries p.root before) p.number clock request answer (Some entry) acts answers, tt)
-turn_by ring nonce heard gives p before request _ _ acts (turns.failed clock answer entry running shown answers room) = (somebody ring nonce heard entry (of_turn_answer ring nonce heard p.root (state_of_entries p.root before) p.number clock request answer (Some entry) acts answers), tt)
+turn_by ring nonce heard gives p before request _ _ acts (turns.failed clock answer entry running shown answers room) = (met_by ring nonce heard entry (of_turn_answer ring nonce heard p.root (state_of_entries p.root before) p.number clock request answer (Some entry) acts answers), tt)
 turn_by ring nonce heard gives p before request _ _ acts turns.without_memory = tt
 
 line_by : (ring : List KeyView) (nonce : List ℕ) (heard : List (List ℕ)) (gives : ℤ → Type 0) (p : StorePass) (history : List StoreEntry) (from : ℕ) (task : LineTask) (reply : LineReply) (to : ℕ) (given : List StoreEntry) → IsActedAs (HasSigned ring nonce heard) task →
@@ -229,11 +226,15 @@ module _ (ring : List KeyView) (nonce : List ℕ) (heard more : List (List ℕ))
   event_more (Withdrawn pass number signature) h = (h.0, signed_more h.0 h.1)
   event_more (Acted pass caller op procaps moment) h = signed_more caller h
 
+  met_more : (met : Option Event) → IsMetByAccepted ring nonce heard met → IsMetByAccepted ring nonce (heard ++ more) met
+  met_more None h = signed_more (codes "admin") h
+  met_more (Some event) h = event_more event h
+
   all_more : (given : List StoreEntry) → AllByRecursion (IsByAccepted ring nonce heard) given → AllByRecursion (IsByAccepted ring nonce (heard ++ more)) given
   all_more [] all = tt
   all_more (happened event ∷ given) all = (event_more event all.0, all_more given all.1)
   all_more (checkpointed pass ∷ given) all = (signed_more (codes "admin") all.0, all_more given all.1)
-  all_more (stopped pass ∷ given) all = ((all.0.0, signed_more all.0.0 all.0.1), all_more given all.1)
+  all_more (stopped pass met ∷ given) all = (met_more met all.0, all_more given all.1)
 
 -- what is kept of who is logged in
 record IsSignedState (ring : List KeyView) (nonce : List ℕ) (heard : List (List ℕ)) (s : SessionState) : Type 0 where

@@ -1,3 +1,4 @@
+pub mod AskedLemmas
 pub mod AskingLemmas
 pub mod CallerLemmas
 pub mod CheckpointLemmas
@@ -5,5 +6,6 @@ pub mod EndLemmas
 pub mod FormedLemmas
 pub mod GivenLemmas
 pub mod GrowthLemmas
+pub mod OperationLemmas
 pub mod StopLemmas
 pub mod TurnLemmas

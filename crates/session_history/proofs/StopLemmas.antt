@@ -21,7 +21,7 @@ use Rattle.session_history.specs.declared.request.TurnRequest.TheVariants as tur
 use Rattle.session_history.specs.declared.reply.TurnReply.{TurnReply}
 use Rattle.session_history.specs.declared.reply.TurnReply.TheVariants as turn_replies
 use Rattle.session_history.specs.Passes.{has_stop}
-use Rattle.session_history.specs.Turn.{StorePass, AnswersTurn, steps, makes, cites, cites_none, logs_in, rejects, Turn, was_stopped, answered, full, kept, failed, TurnPlaced}
+use Rattle.session_history.specs.Turn.{StorePass, event_of, AnswersTurn, steps, makes, cites, cites_none, logs_in, rejects, Turn, was_stopped, answered, full, kept, failed, TurnPlaced}
 use Rattle.session_history.specs.Turn as turns
 use Rattle.session_history.specs.SessionState.{SessionState}
 use Rattle.session_history.specs.declared.task.LineTask.{LineTask}
@@ -36,13 +36,13 @@ stop_before : (xs ys : List StoreEntry) → has_stop xs ≡ true → has_stop (x
 stop_before [] ys is = absurd cc
 stop_before (happened event ∷ xs) ys is = stop_before xs ys is
 stop_before (checkpointed pass ∷ xs) ys is = stop_before xs ys is
-stop_before (stopped pass ∷ xs) ys is = refl
+stop_before (stopped pass met ∷ xs) ys is = refl
 
-stop_within : (xs ys : List StoreEntry) (pass : ℕ) → has_stop (xs ++ stopped pass ∷ ys) ≡ true
-stop_within [] ys pass = refl
-stop_within (happened event ∷ xs) ys pass = stop_within xs ys pass
-stop_within (checkpointed other ∷ xs) ys pass = stop_within xs ys pass
-stop_within (stopped other ∷ xs) ys pass = refl
+stop_within : (xs ys : List StoreEntry) (pass : ℕ) (met : Option Event) → has_stop (xs ++ stopped pass met ∷ ys) ≡ true
+stop_within [] ys pass met = refl
+stop_within (happened event ∷ xs) ys pass met = stop_within xs ys pass met
+stop_within (checkpointed other ∷ xs) ys pass met = stop_within xs ys pass met
+stop_within (stopped other found ∷ xs) ys pass met = refl
 
 -- ---- turns
 
@@ -65,7 +65,7 @@ stop_there gives p before request _ _ (was_stopped stop) is = stop_before before
 stop_there gives p before request _ _ (answered clock reply running shown answers) is = absurd (answer_goes p.root (state_of_entries p.root before) p.number clock request reply None answers is)
 stop_there gives p before request _ _ (full clock reply entry running shown answers is_full) is = absurd cc
 stop_there gives p before request _ _ (kept clock reply entry running shown answers room) is = absurd (answer_goes p.root (state_of_entries p.root before) p.number clock request reply (Some entry) answers is)
-stop_there gives p before request _ _ (failed clock reply entry running shown answers room) is = stop_within before [] p.number
+stop_there gives p before request _ _ (failed clock reply entry running shown answers room) is = stop_within before [] p.number (event_of entry)
 stop_there gives p before request _ _ turns.without_memory is = absurd cc
 
 -- it keeps no event then

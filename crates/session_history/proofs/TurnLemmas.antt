@@ -73,7 +73,7 @@ is_full_or_not root before (happened event) =
 is_full_or_not root before (checkpointed pass) =
     bounds (length (image_spelling (state_of_entries root before)) + 25) area_limit (root.generation + checkpoints_among before) (2 ^ 48 - 1)
     (cases_lt area_limit (length (image_spelling (state_of_entries root before)) + 25)) (cases_lt (root.generation + checkpoints_among before) (2 ^ 48 - 1))
-is_full_or_not root before (stopped pass) = inr (λ no. no)
+is_full_or_not root before (stopped pass met) = inr (λ no. no)
 
 -- ---- some end
 

@@ -1,20 +1,37 @@
 -- Laws of turns, lines and sessions: what is placed stays placed, what is given is the pass's own, places do not go back, and each line and each turn has one outcome.
-use Rattle.std.specs.Prelude.{◌+◌, ◌⊎◌, [], ◌∷◌, false, ◌≡◌, ◌≢◌, ℕ, ℤ, ◌≤◌, List, ◌++◌, length, take, true, codes}
+use Rattle.std.specs.Prelude.{◌+◌, ◌⊎◌, [], ◌∷◌, false, ◌≡◌, ◌≢◌, ℕ, ℤ, ◌≤◌, List, ◌++◌, length, take, true, codes, Option, Some, None, Ok}
 use Rattle.std.specs.List.{AllByRecursion}
+use mathlib.Core.List.{IsPrefix}
+use Rattle.bl_syntax.specs.declared.grant.Goal.{Goal}
+use Rattle.bl_syntax.specs.Grant.{GrantView}
+use Rattle.proof_term.specs.Proof.{ProofView}
+use Rattle.proof_verifier.specs.declared.cites.Cite.{Cite}
+use Rattle.proof_verifier.specs.Cited.{statements_of}
+use Rattle.proof_verifier.specs.CheckedView.{checked_view}
+use Rattle.proof_verifier.specs.Verdict.{verdict}
 use Rattle.policy_statement.specs.Messages.{login_message}
 use Rattle.policy_statement.specs.Ring.{KeyView, is_accepted}
+use Rattle.access_history.specs.declared.event.Event.{Event}
 use Rattle.access_history.specs.declared.event.Event.TheVariants.{Registered, Issued, Withdrawn, Acted}
+use Rattle.access_history.specs.declared.request.StepRequest.TheVariants.{Issue, Act}
+use Rattle.access_history.specs.declared.reply.StepReply.{StepReply}
+use Rattle.access_history.specs.declared.reply.StepReply.TheVariants.{Operation}
+use Rattle.access_history.specs.Admission.{IsAdmitted}
+use Rattle.access_history.specs.Answer.{moment_of}
 use Rattle.access_history.specs.Lawful.{IsLawful}
+use Rattle.file_world.specs.declared.operation.Op.{Op}
+use Rattle.file_world.specs.Effect.{refusal, reply as effect_reply}
+use Rattle.procap.specs.declared.procap.Procap.{Procap}
 use Rattle.line_wire.specs.declared.reply.LineReply.{LineReply}
 use Rattle.line_wire.specs.declared.reply.LineReply.TheVariants as replies
-use Rattle.pcfs_store.specs.Entries.{StoreEntry, happened, checkpointed, stopped, events_among, checkpoints_among}
+use Rattle.pcfs_store.specs.Entries.{StoreEntry, happened, checkpointed, stopped, events_among, checkpoints_among, state_of_entries}
 use Rattle.session_history.specs.declared.request.TurnRequest.{TurnRequest}
-use Rattle.session_history.specs.declared.request.TurnRequest.TheVariants.{Login}
+use Rattle.session_history.specs.declared.request.TurnRequest.TheVariants.{Step, Login}
 use Rattle.session_history.specs.declared.request.TurnRequest.TheVariants as requests
 use Rattle.session_history.specs.declared.reply.TurnReply.{TurnReply}
 use Rattle.session_history.specs.declared.reply.TurnReply.TheVariants as turn_replies
 use Rattle.session_history.specs.Passes.{AllOfPass, has_stop}
-use Rattle.session_history.specs.Turn.{StorePass, authority_of_root, Turn, TurnPlaced, IsTurnFormed}
+use Rattle.session_history.specs.Turn.{StorePass, authority_of_root, AnswersTurn, IsFullAfter, Turn, TurnPlaced, IsTurnFormed}
 use Rattle.session_history.specs.SessionState.{SessionState, guest_with}
 use Rattle.session_history.specs.declared.task.LineTask.{LineTask}
 use Rattle.session_history.specs.declared.task.LineTask.TheVariants as tasks
@@ -76,19 +93,76 @@ pub record HasSigned (ring : List KeyView) (nonce : List ℕ) (heard : List (Lis
   pub asks : IsTaskOf state line (tasks.Turn (Login who nonce signature))
   pub accepted : is_accepted ring who (login_message who nonce) signature ≡ true
 
--- somebody logged in by one of these lines over this nonce; an operation is by who did, and a checkpoint by `admin`
+-- somebody logged in by one of these lines over this nonce; an operation is by who did
+abbrev pub IsEventByAccepted : List KeyView → List ℕ → List (List ℕ) → Event → Type 0
+IsEventByAccepted ring nonce heard (Acted pass caller op procaps moment) = HasSigned ring nonce heard caller
+IsEventByAccepted ring nonce heard (Registered pass statement signature) = (who : List ℕ) × HasSigned ring nonce heard who
+IsEventByAccepted ring nonce heard (Issued pass cited proof grant) = (who : List ℕ) × HasSigned ring nonce heard who
+IsEventByAccepted ring nonce heard (Withdrawn pass number signature) = (who : List ℕ) × HasSigned ring nonce heard who
+
+-- what was being added when a disk failed is by who did: an event, or a checkpoint
+abbrev pub IsMetByAccepted : List KeyView → List ℕ → List (List ℕ) → Option Event → Type 0
+IsMetByAccepted ring nonce heard None = HasSigned ring nonce heard (codes "admin")
+IsMetByAccepted ring nonce heard (Some event) = IsEventByAccepted ring nonce heard event
+
+-- the same of each entry: a checkpoint is by `admin`, and a mark by whom that is which was being added
 abbrev pub IsByAccepted : List KeyView → List ℕ → List (List ℕ) → StoreEntry → Type 0
-IsByAccepted ring nonce heard (happened (Acted pass caller op procaps moment)) = HasSigned ring nonce heard caller
-IsByAccepted ring nonce heard (happened (Registered pass statement signature)) = (who : List ℕ) × HasSigned ring nonce heard who
-IsByAccepted ring nonce heard (happened (Issued pass cited proof grant)) = (who : List ℕ) × HasSigned ring nonce heard who
-IsByAccepted ring nonce heard (happened (Withdrawn pass number signature)) = (who : List ℕ) × HasSigned ring nonce heard who
+IsByAccepted ring nonce heard (happened event) = IsEventByAccepted ring nonce heard event
 IsByAccepted ring nonce heard (checkpointed pass) = HasSigned ring nonce heard (codes "admin")
-IsByAccepted ring nonce heard (stopped pass) = (who : List ℕ) × HasSigned ring nonce heard who
+IsByAccepted ring nonce heard (stopped pass met) = IsMetByAccepted ring nonce heard met
 
 -- In a session that is given entries one of its lines asks for a login over its nonce that the ring accepts; each operation among them is by somebody of whom such a line says so, and each checkpoint by `admin`.
 abbrev pub CallersAreAccepted : (ℤ → Type 0) → Type 0
 CallersAreAccepted gives = (p : StorePass) (history : List StoreEntry) (nonce : List ℕ) (from : ℕ) (lines : List (List ℕ)) (answers : List LineReply) (end : SessionState) (to : ℕ) (given : List StoreEntry) →
     LinesPlaced gives p history (guest_with nonce) from lines answers end to given → AllByRecursion (IsByAccepted p.root.ring nonce lines) given
+
+-- what a task asks in a turn that may add an entry: what its line asks, or that the proof's grant is issued
+pub data Asks : LineTask → TurnRequest → Type 0 where
+  in_one_turn : (request : TurnRequest) → Asks (tasks.Turn request) request
+  by_a_proof : (goal : Goal) (numbers : List ℕ) (proof : ProofView) (cites : List Cite) (g : GrantView) → verdict (statements_of cites) goal proof ≡ Ok g →
+      Asks (tasks.Proof goal numbers proof) (Step (Issue (checked_view cites goal proof g)))
+
+-- One of these lines, which are placed in a history from this state on, asks for the entry: in the session's state after the lines before it,
+-- it has a task; and what the task asks in a turn of the pass, which finds first entries of the history, has an answer that adds the entry, at
+-- a moment that the clock gives.
+pub record IsAskedFor (gives : ℤ → Type 0) (p : StorePass) (history : List StoreEntry) (start : SessionState) (from : ℕ) (lines : List (List ℕ))
+    (entry : StoreEntry) : Type 0 where
+  pub earlier : List (List ℕ)
+  pub line : List ℕ
+  pub later : List (List ℕ)
+  pub among : lines ≡ earlier ++ line ∷ later
+  pub told : List LineReply
+  pub state : SessionState
+  pub at : ℕ
+  pub added : List StoreEntry
+  pub so_far : LinesPlaced gives p history start from earlier told state at added
+  pub task : LineTask
+  pub is_task : IsTaskOf state line task
+  pub request : TurnRequest
+  pub asks : Asks task request
+  pub found : List StoreEntry
+  pub begins : IsPrefix found history
+  pub moment : ℤ
+  pub shown : gives moment
+  pub answer : TurnReply
+  pub answers : AnswersTurn p.root (state_of_entries p.root found) p.number moment request answer (Some entry)
+
+-- what was asked for: of a mark, that which was being added when a disk failed
+abbrev pub asked_entry : StoreEntry → StoreEntry
+asked_entry (happened event) = happened event
+asked_entry (checkpointed pass) = checkpointed pass
+asked_entry (stopped pass None) = checkpointed pass
+asked_entry (stopped pass (Some event)) = happened event
+
+-- each of these entries is one that a line asks for; and so is, of a mark, the event that was being kept when a disk failed
+abbrev pub AreAskedFor : (ℤ → Type 0) → StorePass → List StoreEntry → SessionState → ℕ → List (List ℕ) → List StoreEntry → Type 0
+AreAskedFor gives p history start from lines given = AllByRecursion (λ entry. IsAskedFor gives p history start from lines (asked_entry entry)) given
+
+-- so are all entries that a session is given
+abbrev pub EntriesAreAskedFor : (ℤ → Type 0) → Type 0
+EntriesAreAskedFor gives = (p : StorePass) (history : List StoreEntry) (start : SessionState) (from : ℕ) (lines : List (List ℕ))
+    (answers : List LineReply) (end : SessionState) (to : ℕ) (given : List StoreEntry) →
+    LinesPlaced gives p history start from lines answers end to given → AreAskedFor gives p history start from lines given
 
 -- ---- one outcome
 
@@ -129,6 +203,24 @@ LinesHaveAnEnd gives = (p : StorePass) (s : SessionState) (line : List ℕ) (tas
 abbrev pub NothingAfterStop : (ℤ → Type 0) → Type 0
 NothingAfterStop gives = (p : StorePass) (before : List StoreEntry) (request : TurnRequest) (reply : TurnReply) (given : List StoreEntry) → has_stop before ≡ true → Turn gives p before request reply given →
     (given ≡ []) × ((reply ≡ turn_replies.Stopped) ⊎ (reply ≡ turn_replies.NoMemory))
+
+-- What becomes of an answer that keeps an event: it is told and the event is kept; unless the event does not fit or has no number, a disk fails
+-- under it, or memory runs out.
+pub data IsKeptUnless (p : StorePass) (before : List StoreEntry) (told : StepReply) (event : Event) : TurnReply → List StoreEntry → Type 0 where
+  kept : (IsFullAfter p.root before (happened event) → ⊥) → IsKeptUnless p before told event (turn_replies.Step told) (happened event ∷ [])
+  unless_full : IsFullAfter p.root before (happened event) → IsKeptUnless p before told event turn_replies.Full []
+  unless_stopped : IsKeptUnless p before told event turn_replies.Stopped (stopped p.number (Some event) ∷ [])
+  unless_out_of_memory : IsKeptUnless p before told event turn_replies.NoMemory []
+
+-- An operation whose procaps match and hold, and to which the world has an effect, gets the reply of the effect and is kept, at a store that is
+-- not stopped, unless one of these stands against it. So nobody is denied what a grant gives.
+abbrev pub AdmittedAreDone : Type 0
+AdmittedAreDone = (p : StorePass) (before : List StoreEntry) (clock : ℤ) (caller : List ℕ) (op : Op) (procaps : List Procap) (reply : TurnReply)
+    (given : List StoreEntry) → has_stop before ≡ false →
+    (let state = state_of_entries p.root before in
+    IsAdmitted p.root.key state caller op procaps (moment_of state clock) → refusal state.world op ≡ None →
+    Turn (λ moment. moment ≡ clock) p before (Step (Act caller op procaps)) reply given →
+    IsKeptUnless p before (Operation (effect_reply state.world op)) (Acted p.number caller op procaps (moment_of state clock)) reply given)
 
 -- over a lawful history a turn has one end at a moment, if it is not disturbed
 abbrev pub TurnsHaveOneEnd : Type 0

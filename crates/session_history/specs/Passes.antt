@@ -8,7 +8,7 @@ use Rattle.pcfs_store.specs.Entries.{StoreEntry, happened, checkpointed, stopped
 abbrev pub entry_pass : StoreEntry → ℕ
 entry_pass (happened event) = event_pass event
 entry_pass (checkpointed pass) = pass
-entry_pass (stopped pass) = pass
+entry_pass (stopped pass met) = pass
 
 -- each of the entries was added in a turn of this pass
 abbrev pub AllOfPass : ℕ → List StoreEntry → Type 0
@@ -19,4 +19,4 @@ abbrev pub has_stop : List StoreEntry → Bool
 has_stop [] = false
 has_stop (happened event ∷ entries) = has_stop entries
 has_stop (checkpointed pass ∷ entries) = has_stop entries
-has_stop (stopped pass ∷ entries) = true
+has_stop (stopped pass met ∷ entries) = true

@@ -55,7 +55,13 @@ pub data AnswersTurn (root : Root) (state : BaseView) (pass : ℕ) (clock : ℤ)
 abbrev pub IsFullAfter : Root → List StoreEntry → StoreEntry → Type 0
 IsFullAfter root before (happened event) = IsFull (used_by root before) (state_of_entries root before).count event
 IsFullAfter root before (checkpointed pass) = (area_limit < length (image_spelling (state_of_entries root before)) + 25) ⊎ (2 ^ 48 - 1 ≤ root.generation + checkpoints_among before)
-IsFullAfter root before (stopped pass) = ⊥
+IsFullAfter root before (stopped pass met) = ⊥
+
+-- the event that an entry has, if it has one
+abbrev pub event_of : StoreEntry → Option Event
+event_of (happened event) = Some event
+event_of (checkpointed pass) = None
+event_of (stopped pass met) = met
 
 -- What becomes of a turn of the pass that finds these entries, and asks this: its reply, and the entries that it adds. The first case that applies is the one; out of memory may be replied in each. `gives` says which moments the
 -- clock gives, of which the turn reads one.
@@ -71,9 +77,9 @@ pub data Turn (gives : ℤ → Type 0) (p : StorePass) (before : List StoreEntry
   -- what the answer adds is kept
   kept : (clock : ℤ) (answer : TurnReply) (entry : StoreEntry) → has_stop before ≡ false → gives clock → AnswersTurn p.root (state_of_entries p.root before) p.number clock request answer (Some entry) →
       (IsFullAfter p.root before entry → ⊥) → Turn gives p before request answer (entry ∷ [])
-  -- a disk fails under what the answer adds
+  -- a disk fails under what the answer adds: the mark has the event that was being kept, if it is one
   failed : (clock : ℤ) (answer : TurnReply) (entry : StoreEntry) → has_stop before ≡ false → gives clock → AnswersTurn p.root (state_of_entries p.root before) p.number clock request answer (Some entry) →
-      (IsFullAfter p.root before entry → ⊥) → Turn gives p before request turn_replies.Stopped (stopped p.number ∷ [])
+      (IsFullAfter p.root before entry → ⊥) → Turn gives p before request turn_replies.Stopped (stopped p.number (event_of entry) ∷ [])
   -- memory ran out
   without_memory : Turn gives p before request turn_replies.NoMemory []
 

@@ -1,7 +1,7 @@
 //! Laws of the definitions. The functions do nothing: each contract is a law. Where the moments of a clock occur, it holds
 //! of each clock.
 
-ghost use Rattle.session_history.specs.Laws.{TurnsStayPlaced, LinesStayPlaced, SessionsStayPlaced, GivenAreOfPass, PlacesGoOn, StopsAreTold, CheckpointsAreTold, StoppedAfterStop, CallersAreAccepted, LinesAreAnswered, LinesHaveATask, LinesHaveOneTask, TasksAreFormed, TurnsHaveAnEnd, LinesHaveAnEnd, NothingAfterStop, TurnsHaveOneEnd};
+ghost use Rattle.session_history.specs.Laws.{TurnsStayPlaced, LinesStayPlaced, SessionsStayPlaced, GivenAreOfPass, PlacesGoOn, StopsAreTold, CheckpointsAreTold, StoppedAfterStop, CallersAreAccepted, EntriesAreAskedFor, AdmittedAreDone, LinesAreAnswered, LinesHaveATask, LinesHaveOneTask, TasksAreFormed, TurnsHaveAnEnd, LinesHaveAnEnd, NothingAfterStop, TurnsHaveOneEnd};
 
 use pcfs_ports::Clock;
 
@@ -16,10 +16,12 @@ pub fn what_is_placed_stays_placed<C: Clock>(clock: &C)
 
 /// The entries that a session is given are of its own pass. If there are any, one of its lines asks that somebody be logged
 /// in over its nonce, by a signature that the ring accepts; each operation among them is by somebody of whom such a line says
-/// so, and each checkpoint by `admin`, of whom one does.
+/// so, and each checkpoint by `admin`, of whom one does. Each is one that a line asks for, and so is the event that was being
+/// kept when a disk failed in a turn of the session.
 pub fn given_entries_are_of_the_session<C: Clock>(clock: &C)
     ensures pass { GivenAreOfPass (C.gives clock.now) }
     ensures callers { CallersAreAccepted (C.gives clock.now) }
+    ensures asked { EntriesAreAskedFor (C.gives clock.now) }
 {
     let _ = clock;
 }
@@ -68,4 +70,10 @@ pub fn turns_and_lines_have_an_end<C: Clock>(clock: &C)
 /// Over a lawful history a turn has one end at a moment, if memory does not run out and no disk fails.
 pub fn turns_have_one_end()
     ensures { TurnsHaveOneEnd }
+{}
+
+/// An operation whose procaps match and hold, and to which the world has an effect, gets its reply and is kept, unless the
+/// store is stopped or stops, the event does not fit or has no number, or memory runs out.
+pub fn admitted_operations_are_done()
+    ensures { AdmittedAreDone }
 {}

@@ -8,6 +8,8 @@ use Rattle.line_framer.proofs.FramingLemmas.{lines_of-whole}
 use Rattle.line_wire.specs.declared.reply.LineReply.{LineReply}
 use Rattle.tree_lock.specs.Seen.{PassView}
 use Rattle.tree_lock.proofs.EntryLemmas.{prefix_refl, prefix_trans}
+use Rattle.session_history.specs.SessionState.{guest_with}
+use Rattle.session_history.proofs.AskedLemmas.{entries_asked}
 use Rattle.session_history.proofs.CallerLemmas.{callers_accepted}
 use Rattle.shared_store.specs.declared.entry.LockEntry.{LockEntry}
 use Rattle.shared_store.specs.LockHistory.{numbered, lock_history}
@@ -91,6 +93,7 @@ module _ {D : Type 0} (faults : D → ℕ) (sources : SessionSources) (nonce : L
               to = s.to;
               said = said;
               placed = placed;
+              asked = entries_asked sources.gives (pass_at opening old.number) entries (guest_with nonce) (entries_seen old) h.lines h.answers s.end s.to s.given placed;
               callers = callers_accepted sources.gives (pass_at opening old.number) entries nonce (entries_seen old) h.lines h.answers s.end s.to s.given placed;
             });
       }

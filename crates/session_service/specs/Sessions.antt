@@ -10,7 +10,7 @@ use Rattle.pcfs_store.specs.StoreView.{StoreView}
 use Rattle.session_history.specs.Turn.{StorePass}
 use Rattle.session_history.specs.SessionState.{SessionState, guest_with}
 use Rattle.session_history.specs.Placed.{LinesPlaced}
-use Rattle.session_history.specs.Laws.{IsByAccepted}
+use Rattle.session_history.specs.Laws.{IsByAccepted, AreAskedFor}
 use Rattle.shared_store.specs.declared.entry.LockEntry.{LockEntry}
 use Rattle.shared_store.specs.LockHistory.{numbered, lock_history}
 use Rattle.shared_store.specs.Turning.{pass_at}
@@ -29,7 +29,8 @@ abbrev pub sources_of : {I : Type 0} → (ℤ → Type 0) → (I → Option (Lis
 sources_of {I} gives left = record { gives = gives; may_say = λ lines. (input : I) × AreFirstLines (left input) lines }
 
 -- The pass had a session in this history, of which these are the entries: a connection said these lines, under this nonce, and at first nobody was logged in; each line has its place in the history with its reply, after the first `from` entries, and
--- places do not go back; and the entries are exactly those that were added in the turns of these lines, in this order. So one of the lines logged in whoever an entry is by. The nonce is some nonce, and `from` some place.
+-- places do not go back; and the entries are exactly those that were added in the turns of these lines, in this order. So each is what one of the lines asks for, at a moment that the clock gives, also, of the mark of a disk that failed, the
+-- event that was being kept; and one of the lines logged in whoever it is by. The nonce is some nonce, and `from` some place.
 pub record AreOfSession (sources : SessionSources) (p : StorePass) (history own : List StoreEntry) : Type 0 where
   pub nonce : List ℕ
   pub lines : List (List ℕ)
@@ -39,6 +40,7 @@ pub record AreOfSession (sources : SessionSources) (p : StorePass) (history own 
   pub to : ℕ
   pub said : sources.may_say lines
   pub placed : LinesPlaced sources.gives p history (guest_with nonce) from lines answers end to own
+  pub asked : AreAskedFor sources.gives p history (guest_with nonce) from lines own
   pub callers : AllByRecursion (IsByAccepted p.root.ring nonce lines) own
 
 module _ {D : Type 0} where

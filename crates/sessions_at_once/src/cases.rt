@@ -24,7 +24,7 @@ struct Case {
 }
 
 const ALICE_WRITES: &str =
-    "470105616c696365000000000000000102000040abf630a23d62f51c3c719dc8a45ba5f44c085085b3a2b52dcae37ff7a8d851";
+    "470205616c696365000000000000000102000001000000015c17fc1140a5e342973cb964bae1b0eedecb5b0d8e5a22660367385b4264fe25";
 
 /// The clock is read for alice's operation until bob has asked for his, which is allowed from second 200 on.
 const LATE: Case = Case {
@@ -34,7 +34,7 @@ verify alice #1 write 1 saysR(claim(0,init(1)))
 register - admin says may(bob,#1,write) from 200 to +inf
 verify bob #1 write 2 saysR(claim(0,init(1)))
 ",
-    bob_writes: "470103626f6200000000000000010201040100000000000000c80600525f7c1df0ca13ca6b7cf8daa465635d12b6f8875262d9ae9f69906ab35ed059",
+    bob_writes: "470203626f6200000000000000010201040100000000000000c806000100000002ade37b377b42a05bbca54b40952345b59568f11a41009a49ea9b33a68a60caf5",
     files_each: 1,
     bob_awaits: FIRST_IS_AT_HAND,
     holds_clock: true,
@@ -56,7 +56,7 @@ verify alice #1 write 1 saysR(claim(0,init(1)))
 register - admin says may(bob,#1,write) from -inf to +inf
 verify bob #1 write 2 saysR(claim(0,init(1)))
 ",
-    bob_writes: "470103626f620000000000000001020000423c3d31bd120b85dfff5b6eb6f5ff56e9b219dd5e90b52cd644ea08f9798965",
+    bob_writes: "470203626f6200000000000000010200000100000002be87b0564a321b39fc1d685d3ca0e2bd0f94ec35f41654673fdc4d0480a0bb50",
     files_each: 100,
     bob_awaits: BOTH_ARE_IN,
     holds_clock: false,

@@ -37,12 +37,12 @@ const PROVING: &str = "verify alice #1 write 1 saysR(claim(0,init(1)))\n";
 
 // What bob asks: a file.
 const MAKING: &str =
-    "do create #1 made 470103626f620000000000000001020000423c3d31bd120b85dfff5b6eb6f5ff56e9b219dd5e90b52cd644ea08f9798965\n";
+    "do create #1 made 470203626f6200000000000000010200000100000002be87b0564a321b39fc1d685d3ca0e2bd0f94ec35f41654673fdc4d0480a0bb50\n";
 
 // What bob asks: that the statement which alice's proof cites is withdrawn, by the signature of who said it; and a file.
 const WITHDRAWING: &str =
     "withdraw 1 6913177a6c16f1e3c2c4885cb4b6bff1a84f0f7e358882d156f676a359937b4f
-do create #1 made 470103626f620000000000000001020000423c3d31bd120b85dfff5b6eb6f5ff56e9b219dd5e90b52cd644ea08f9798965
+do create #1 made 470203626f6200000000000000010200000100000002be87b0564a321b39fc1d685d3ca0e2bd0f94ec35f41654673fdc4d0480a0bb50
 ";
 
 // Checks a proof once the other session was told that its file was made.

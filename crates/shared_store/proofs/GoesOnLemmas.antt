@@ -20,15 +20,15 @@ use Rattle.access_history.specs.declared.reply.StepReply.{StepReply}
 use Rattle.pcfs_store.specs.declared.reply.StoreReply.{StoreReply}
 use Rattle.pcfs_store.specs.declared.reply.StoreReply.TheVariants as stores
 use Rattle.pcfs_store.specs.Newest.{one_of}
-use Rattle.pcfs_store.specs.StoreView.{StoreView, authority_of_store, AnswersIn, first_disk, second_disk}
-use Rattle.pcfs_store.specs.Ready.{IsReady, IsCurrent, StopsNow, SurvivesWithOrWithout}
+use Rattle.pcfs_store.specs.StoreView.{StoreView, authority_of_store, first_disk, second_disk}
+use Rattle.pcfs_store.specs.Ready.{IsReady, IsCurrent, StopsNow, SurvivesStop}
 use Rattle.pcfs_store.specs.declared.checkpoints.Checkpoint.{Checkpoint}
 use Rattle.pcfs_store.specs.declared.reply.CheckpointReply.{CheckpointReply}
 use Rattle.pcfs_store.specs.Checkpoints.{place_after, MakesCheckpoint, Checkpoints}
 use Rattle.pcfs_store.specs.Checkpoints as makes
 use Rattle.pcfs_store.specs.Steps.{Steps}
 use Rattle.pcfs_store.specs.Steps as steps
-use Rattle.shared_store.specs.GoesOn.{HasMetEvent, HasMet, in_a_step, in_a_checkpoint, HasGoneOn}
+use Rattle.shared_store.specs.GoesOn.{HasGoneOn}
 
 pub none_some : {P : Type 0} (stop : Option ℕ) (pass : ℕ) → stop ≡ None → stop ≡ Some pass → P
 none_some stop pass none some = let both : ◌≡◌ {A = Option ℕ} None (Some pass) = sym none ∙ some in absurd cc
@@ -82,6 +82,7 @@ module _ {D : Type 0} (clock : D → ℕ) (left_since : D → ℕ → List ℕ �
     ready = λ is none. is;
     current = λ is none. is;
     halts = λ is pass some. none_some s.stop pass running some;
+    follows = λ pass event some. none_some s.stop pass running some;
     failed = λ pass some. none_some s.stop pass running some;
     first_told = refl;
     second_told = refl;
@@ -94,8 +95,7 @@ module _ {D : Type 0} (clock : D → ℕ) (left_since : D → ℕ → List ℕ �
     pub answer : Steps faults old pass moment request result new
     pub stays_ready : IsReady clock left_since image old → result ≢ stores.Stopped → IsReady clock left_since image new
     pub stays_current : IsCurrent clock left_since image old → result ≢ stores.Stopped → IsCurrent clock left_since image new
-    pub met : IsReady clock left_since image old → result ≡ stores.Stopped →
-        (reply : StepReply) × (event : Event) × AnswersIn old pass moment request reply (Some event) × StopsNow clock left_since image new (SurvivesWithOrWithout old.base old.events event)
+    pub met : IsReady clock left_since image old → result ≡ stores.Stopped → StopsNow clock left_since image new (SurvivesStop old.base old.events new.met)
     pub first_told : is_some (image (first_disk new)) ≡ is_some (image (first_disk old))
     pub second_told : is_some (image (second_disk new)) ≡ is_some (image (second_disk old))
     pub first_never_falls : faults (first_disk old) ≤ faults (first_disk new)
@@ -104,22 +104,8 @@ module _ {D : Type 0} (clock : D → ℕ) (left_since : D → ℕ → List ℕ �
   pub stepped_shown : (old new : StoreView D) (pass : ℕ) (given moment : ℤ) (request : StepRequest) (result : StoreReply) → given ≡ moment → Stepped old pass given request result new → Stepped old pass moment request result new
   stepped_shown old new pass given moment request result is s = subst (λ (m : ℤ). Stepped old pass m request result new) is s
 
-  -- the store that a step leaves in which the disk failed
-  abbrev stopped_at : StoreView D → D → ℕ → StoreView D
-  stopped_at old active pass = record old { active = active; stop = Some pass }
-
-  met_in : (old : StoreView D) (active : D) (pass other : ℕ) (moment : ℤ) (request : StepRequest) → IsMoment moment → IsWellFormed request → (2 ^ 48 - 1 ≤ (replay old.base old.events).count → ⊥) →
-      (reply : StepReply) × (event : Event) × AnswersIn old pass moment request reply (Some event) × StopsNow clock left_since image (stopped_at old active pass) (SurvivesWithOrWithout old.base old.events event) → ◌≡◌ {A = Option ℕ} (Some pass) (Some other) →
-      HasMetEvent clock left_since image (stopped_at old active pass) other
-  met_in old active pass other moment request at formed below m some =
-      let same : pass ≡ other = cc in
-      subst (HasMetEvent clock left_since image (stopped_at old active pass)) same
-      (record {
-        met = m.1;
-        asked = record { moment = moment; request = request; reply = m.0; in_range = at; well_formed = formed; answers = m.2 };
-        follows = λ lawful. lawful_more (authority_of_store old) old.base old.events pass moment request m.0 m.1 at formed below m.2 lawful;
-        survives = m.3;
-      })
+  some_event : (event found : Event) → ◌≡◌ {A = Option Event} (Some event) (Some found) → event ≡ found
+  some_event event found same = cc
 
   -- while no disk has failed the other one is not touched
   untouched : (opening old : StoreView D) → old.stop ≡ None → (old.other ≡ opening.other) ⊎ ((pass : ℕ) × (old.stop ≡ Some pass) × HasRisen (faults opening.other) (faults old.other)) → old.other ≡ opening.other
@@ -147,6 +133,7 @@ module _ {D : Type 0} (clock : D → ℕ) (left_since : D → ℕ → List ℕ �
       ready = λ first none. s.stays_ready (g.ready first was) going;
       current = λ first none. s.stays_current (g.current first was) going;
       halts = λ first pass some. none_some new.stop pass is some;
+      follows = λ pass event some. none_some new.stop pass is some;
       failed = λ pass some. none_some new.stop pass is some;
       first_told = s.first_told ∙ g.first_told;
       second_told = s.second_told ∙ g.second_told;
@@ -177,7 +164,10 @@ module _ {D : Type 0} (clock : D → ℕ) (left_since : D → ℕ → List ℕ �
       other_stays = λ none. inl (untouched opening old running (g.other_stays none));
       ready = λ first none. none_some (Some pass) pass none refl;
       current = λ first none. none_some (Some pass) pass none refl;
-      halts = λ first other some. in_a_step (met_in old active pass other moment request at formed (λ many. room (inr many)) (s.met (g.ready first running) refl) some);
+      halts = λ first other some. s.met (g.ready first running) refl;
+      follows = λ other found some same lawful.
+          subst (λ (e : Event). IsLawful (authority_of_store old) old.base (old.events ++ e ∷ [])) (some_event event found same)
+          (lawful_more (authority_of_store old) old.base old.events pass moment request reply event at formed (λ many. room (inr many)) goes lawful);
       failed = λ other some. ⊎_elim
           (λ (r : HasRisen (faults (first_disk old)) (faults (one_of active old.other old.second_active))). inl (risen_since (faults (first_disk opening)) (faults (first_disk old)) (faults (one_of active old.other old.second_active)) g.first_never_falls r))
           (λ (r : HasRisen (faults (second_disk old)) (faults (one_of old.other active old.second_active))). inr (risen_since (faults (second_disk opening)) (faults (second_disk old)) (faults (one_of old.other active old.second_active)) g.second_never_falls r))
@@ -198,7 +188,7 @@ module _ {D : Type 0} (clock : D → ℕ) (left_since : D → ℕ → List ℕ �
 
   -- the store that a checkpoint leaves in which the other disk failed
   abbrev stopped_other : StoreView D → D → ℕ → StoreView D
-  stopped_other old other pass = record old { other = other; stop = Some pass }
+  stopped_other old other pass = record old { other = other; stop = Some pass; met = None }
 
   -- the count of the other disk in its place
   risen_other : (active old other : D) (second_active : Bool) → HasRisen (faults old) (faults other) →
@@ -234,6 +224,7 @@ module _ {D : Type 0} (clock : D → ℕ) (left_since : D → ℕ → List ℕ �
     ready = λ first none. s.stays_ready (g.ready first running) (λ is. cc);
     current = λ first none. s.stays_current (g.current first running) (λ is. cc);
     halts = λ first other some. none_some old.stop other running some;
+    follows = λ other event some. none_some old.stop other running some;
     failed = λ other some. none_some old.stop other running some;
     first_told = s.first_told ∙ g.first_told;
     second_told = s.second_told ∙ g.second_told;
@@ -255,7 +246,8 @@ module _ {D : Type 0} (clock : D → ℕ) (left_since : D → ℕ → List ℕ �
     other_stays = λ none. inr (pass, refl, subst (λ (d : D). HasRisen (faults d) (faults other)) (untouched opening old running (g.other_stays none)) risen);
     ready = λ first none. none_some (Some pass) pass none refl;
     current = λ first none. none_some (Some pass) pass none refl;
-    halts = λ first stopper some. in_a_checkpoint (s.halts (g.ready first running) refl);
+    halts = λ first stopper some. s.halts (g.ready first running) refl;
+    follows = λ stopper event some same. let none : ◌≡◌ {A = Option Event} None (Some event) = same in absurd cc;
     failed = λ stopper some. ⊎_elim
         (λ (r : HasRisen (faults (first_disk old)) (faults (one_of old.active other old.second_active))). inl (risen_since (faults (first_disk opening)) (faults (first_disk old)) (faults (one_of old.active other old.second_active)) g.first_never_falls r))
         (λ (r : HasRisen (faults (second_disk old)) (faults (one_of other old.active old.second_active))). inr (risen_since (faults (second_disk opening)) (faults (second_disk old)) (faults (one_of other old.active old.second_active)) g.second_never_falls r))

@@ -19,7 +19,7 @@ pub steps_grow : {D : Type 0} (faults : D → ℕ) (old new : StoreView D) (pass
 steps_grow faults old _ pass clock request _ store (steps.answered reply running answers) = ([], nothing reply answers, sym (append-nil (entries_of old)))
 steps_grow faults old _ pass clock request _ store (steps.kept reply event active running answers room) = (happened event ∷ [], an_event reply event answers, entries-kept old running event active store)
 steps_grow faults old _ pass clock request _ store (steps.full reply event running answers is_full) = ([], no_room, sym (append-nil (entries_of old)))
-steps_grow faults old _ pass clock request _ store (steps.failed reply event active running answers room risen) = (stopped pass ∷ [], the_mark running, entries-stopped old running active old.other pass)
+steps_grow faults old _ pass clock request _ store (steps.failed reply event active running answers room risen) = (stopped pass (Some event) ∷ [], the_mark reply event running answers, entries-stopped old running active old.other pass (Some event))
 steps_grow faults old _ pass clock request _ store (steps.stopped earlier is) = ([], had_mark earlier is, sym (append-nil (entries_of old)))
 steps_grow faults old _ pass clock request _ store (steps.without_memory running) = ([], no_memory, sym (append-nil (entries_of old)))
 
@@ -34,6 +34,6 @@ checkpoints_grow faults old _ pass _ store (makes.made active running fits) =
     by_stop old pass checkpoint_replies.Checkpointed None (entries_of (makes.with_checkpoint old pass active)) running (entries-made old running pass active store)
 checkpoints_grow faults old _ pass _ store (makes.full running over) = by_stop old pass checkpoint_replies.Full None (entries_of old) running (sym (append-nil (entries_of old)))
 checkpoints_grow faults old _ pass _ store (makes.failed other running fits risen) =
-    by_stop old pass checkpoint_replies.Stopped None (entries_of (record old { other = other; stop = Some pass })) running (entries-stopped old running old.active other pass)
+    by_stop old pass checkpoint_replies.Stopped None (entries_of (record old { other = other; stop = Some pass; met = None })) running (entries-stopped old running old.active other pass None)
 checkpoints_grow faults old _ pass _ store (makes.stopped earlier is) = by_stop old pass checkpoint_replies.Stopped (Some earlier) (entries_of old) is (sym (append-nil (entries_of old)))
 checkpoints_grow faults old _ pass _ store (makes.without_memory running) = by_stop old pass checkpoint_replies.NoMemory None (entries_of old) running (sym (append-nil (entries_of old)))

@@ -48,7 +48,7 @@ module _ {D : Type 0} where
   taken lists k (Opened opening) l rest found merged = subst (λ (ls : List (List StoreEntry)). Merges ls rest) (set_same (map bare lists) k (bare l) found) merged
   taken lists k (Happened event) l rest found merged = takes k found merged
   taken lists k (Checkpointed pass) l rest found merged = takes k found merged
-  taken lists k (Stopped pass) l rest found merged = takes k found merged
+  taken lists k (Stopped pass met) l rest found merged = takes k found merged
 
   merges_bare : (lists : List (List (ℕ × LockEntry D))) (xs : List (ℕ × LockEntry D)) → Merges lists xs → Merges (map bare lists) (bare xs)
   merges_bare lists _ (ends none) = ends (all_bare lists none)
@@ -70,7 +70,7 @@ own_entries : (D : Type 0) (n : ℕ) (entries : List StoreEntry) → AllOfPass n
 own_entries D n [] = tt
 own_entries D n (happened event ∷ entries) = under n (event_pass event) (Happened event) (numbered {D = D} entries) (λ is. (is, own_entries D n entries)) (own_entries D n entries)
 own_entries D n (checkpointed pass ∷ entries) = under n pass (Checkpointed pass) (numbered {D = D} entries) (λ is. (is, own_entries D n entries)) (own_entries D n entries)
-own_entries D n (stopped pass ∷ entries) = under n pass (Stopped pass) (numbered {D = D} entries) (λ is. (is, own_entries D n entries)) (own_entries D n entries)
+own_entries D n (stopped pass met ∷ entries) = under n pass (Stopped pass met) (numbered {D = D} entries) (λ is. (is, own_entries D n entries)) (own_entries D n entries)
 
 module _ {D : Type 0} where
   own_history : (n : ℕ) (opening : StoreView D) (entries : List StoreEntry) → AllOfPass n (bare (of_number n (lock_history opening entries)))

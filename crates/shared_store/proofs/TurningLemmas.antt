@@ -60,12 +60,12 @@ stop_merged before events (checkpoint ∷ checkpoints) rest =
     ∙ stop_after some (checkpointed checkpoint.pass ∷ (others ++ rest))
     ∙ stop_merged checkpoint.after (drop (checkpoint.after - before) events) checkpoints rest
 
-stop_last : (stop : Option ℕ) → has_stop (stop_entries stop) ≡ is_some stop
-stop_last None = refl
-stop_last (Some pass) = refl
+stop_last : (stop : Option ℕ) (met : Option Event) → has_stop (stop_entries stop met) ≡ is_some stop
+stop_last None met = refl
+stop_last (Some pass) met = refl
 
 stop_among : {D : Type 0} (s : StoreView D) → has_stop (entries_of s) ≡ is_some s.stop
-stop_among s = stop_merged 0 s.events s.checkpoints (stop_entries s.stop) ∙ stop_last s.stop
+stop_among s = stop_merged 0 s.events s.checkpoints (stop_entries s.stop s.met) ∙ stop_last s.stop s.met
 
 pub runs : {D : Type 0} (s : StoreView D) → is_some s.stop ≡ false → has_stop (entries_of s) ≡ false
 runs s running = stop_among s ∙ running
@@ -95,7 +95,7 @@ one_pass pass stopper is = cc
 module _ {D : Type 0} (clock : D → ℕ) (left_since : D → ℕ → List ℕ → Type 0) (image : D → Option (List ℕ)) (faults : D → ℕ) (opening now : StoreView D) (g : HasGoneOn clock left_since image faults opening now) where
   -- the state to which the entries lead is the store's
   pub state_is : state_of_entries (root_of opening) (entries_of now) ≡ replay now.base now.events
-  state_is = ap (replay opening.base) (events-entries now.events now.checkpoints now.stop) ∙ ap (λ (b : BaseView). replay b now.events) (sym g.base_stays)
+  state_is = ap (replay opening.base) (events-entries now.events now.checkpoints now.stop now.met) ∙ ap (λ (b : BaseView). replay b now.events) (sym g.base_stays)
 
   there : (pass : ℕ) (moment : ℤ) (request : StepRequest) (reply : StepReply) (event : Option Event) → AnswersIn now pass moment request reply event →
       Answers (authority_of_root (root_of opening)) (state_of_entries (root_of opening) (entries_of now)) pass moment request reply event
@@ -141,9 +141,9 @@ module _ {D : Type 0} (clock : D → ℕ) (left_since : D → ℕ → List ℕ �
     stops = λ stopper was is. none_some now.stop stopper was is;
   }
   by_step _ pass moment request _ store (steps.failed reply event active running answers room risen) = record {
-    given = stopped pass ∷ [];
+    given = stopped pass (Some event) ∷ [];
     opening_stays = refl;
-    grows = entries-stopped now running active now.other pass;
+    grows = entries-stopped now running active now.other pass (Some event);
     turn = turns.failed moment (turn_replies.Step reply) (happened event) (runs now (ap is_some running)) refl (turns.steps request reply (Some event) (there pass moment request reply (Some event) answers)) (λ is_full. room (full_here event store is_full));
     stops = λ stopper was is. (one_pass pass stopper is, risen);
   }
@@ -195,9 +195,9 @@ module _ {D : Type 0} (clock : D → ℕ) (left_since : D → ℕ → List ℕ �
     stops = λ stopper was is. none_some now.stop stopper was is;
   }
   by_checkpoint pass _ moment _ store (makes.failed other running fits risen) = record {
-    given = stopped pass ∷ [];
+    given = stopped pass None ∷ [];
     opening_stays = refl;
-    grows = entries-stopped now running now.active other pass;
+    grows = entries-stopped now running now.active other pass None;
     turn = turns.failed moment turn_replies.Checkpointed (checkpointed pass) (runs now (ap is_some running)) refl turns.makes (λ is_full. fits (checkpoint_here pass store is_full));
     stops = λ stopper was is. (one_pass pass stopper is, risen);
   }
@@ -229,23 +229,23 @@ module _ {D : Type 0} (clock : D → ℕ) (left_since : D → ℕ → List ℕ �
       turns.answered moment (turn_replies.Step (Absent number)) (runs now running) refl (turns.cites_none numbers number (subst (λ (s : BaseView). IsAbsent (book_of s) numbers number) (sym state_is) absent))
 
   -- what the gate says of numbers
-  citation_here : (gate : GateView) (shown numbers : List ℕ) (citation given : Citation) → gate ≡ record { key = now.key; ring = now.ring; base = now.base; events = now.events; pending = None } → shown ≡ numbers → citation ≡ given →
+  citation_here : (gate : GateView) (shown numbers : List ℕ) (citation given : Citation) → gate ≡ record { key = now.key; ring = now.ring; base = now.base; events = now.events; pending = now.met } → shown ≡ numbers → citation ≡ given →
       GivesCitation (book_of (replay gate.base gate.events)) shown citation → GivesCitation (book_of (replay now.base now.events)) numbers given
   citation_here gate shown numbers citation given gate_is shown_is is gives =
       subst (λ (c : Citation). GivesCitation (book_of (replay now.base now.events)) numbers c) is
       (subst (λ (ns : List ℕ). GivesCitation (book_of (replay now.base now.events)) ns citation) shown_is
       (subst (λ (h : GateView). GivesCitation (book_of (replay h.base h.events)) shown citation) gate_is gives))
 
-  pub look_told_cited : (gate : GateView) (shown numbers : List ℕ) (citation : Citation) (cited : List Cite) → is_some now.stop ≡ false → gate ≡ record { key = now.key; ring = now.ring; base = now.base; events = now.events; pending = None } → shown ≡ numbers →
+  pub look_told_cited : (gate : GateView) (shown numbers : List ℕ) (citation : Citation) (cited : List Cite) → is_some now.stop ≡ false → gate ≡ record { key = now.key; ring = now.ring; base = now.base; events = now.events; pending = now.met } → shown ≡ numbers →
       citation ≡ citations.Cited cited → GivesCitation (book_of (replay gate.base gate.events)) shown citation → Looks (requests.Cite numbers) (turn_replies.Cited cited)
   look_told_cited gate shown numbers citation cited running gate_is shown_is is gives = look_cited numbers cited running (citation_here gate shown numbers citation (citations.Cited cited) gate_is shown_is is gives)
 
-  pub look_told_absent : (gate : GateView) (shown numbers : List ℕ) (citation : Citation) (number : ℕ) → is_some now.stop ≡ false → gate ≡ record { key = now.key; ring = now.ring; base = now.base; events = now.events; pending = None } → shown ≡ numbers →
+  pub look_told_absent : (gate : GateView) (shown numbers : List ℕ) (citation : Citation) (number : ℕ) → is_some now.stop ≡ false → gate ≡ record { key = now.key; ring = now.ring; base = now.base; events = now.events; pending = now.met } → shown ≡ numbers →
       citation ≡ citations.Absent number → GivesCitation (book_of (replay gate.base gate.events)) shown citation → Looks (requests.Cite numbers) (turn_replies.Step (Absent number))
   look_told_absent gate shown numbers citation number running gate_is shown_is is gives = look_absent numbers number running (citation_here gate shown numbers citation (citations.Absent number) gate_is shown_is is gives)
 
   -- what the ring says of a login
-  pub accepted_shown : (gate : GateView) (ring : List KeyView) (name who text nonce shown signature : List ℕ) (accepted : Bool) → gate ≡ record { key = now.key; ring = now.ring; base = now.base; events = now.events; pending = None } → ring ≡ gate.ring → name ≡ who →
+  pub accepted_shown : (gate : GateView) (ring : List KeyView) (name who text nonce shown signature : List ℕ) (accepted : Bool) → gate ≡ record { key = now.key; ring = now.ring; base = now.base; events = now.events; pending = now.met } → ring ≡ gate.ring → name ≡ who →
       text ≡ login_message who nonce → shown ≡ signature → accepted ≡ is_accepted ring name text shown → is_accepted now.ring who (login_message who nonce) signature ≡ accepted
   accepted_shown gate ring name who text nonce shown signature accepted gate_is ring_is name_is text_is shown_is told =
       subst (λ (r : List KeyView). is_accepted r who (login_message who nonce) signature ≡ accepted) (ring_is ∙ ap (λ (h : GateView). h.ring) gate_is)

@@ -1,26 +1,12 @@
 -- How a store goes on from its opening, while steps are made (this project's own).
-use Rattle.std.specs.Prelude.{◌≡◌, ◌⊎◌, ℕ, ℤ, ◌+◌, ◌≤◌, length, List, [], ◌∷◌, ◌++◌, Option, Some, None, is_some}
+use Rattle.std.specs.Prelude.{◌≡◌, ◌⊎◌, ℕ, ◌+◌, ◌≤◌, length, List, [], ◌∷◌, ◌++◌, Option, Some, None, is_some}
 use mathlib.Core.List.{IsPrefix}
-use Rattle.bl_syntax.specs.TimeOrder.{IsMoment}
 use Rattle.pcfs_ports.specs.Faults.{HasRisen}
 use Rattle.access_history.specs.declared.event.Event.{Event}
-use Rattle.access_history.specs.declared.reply.StepReply.{StepReply}
-use Rattle.access_history.specs.declared.request.StepRequest.{StepRequest}
 use Rattle.access_history.specs.Lawful.{IsLawful}
-use Rattle.access_history.specs.WellFormed.{IsWellFormed}
-use Rattle.pcfs_store.specs.StoreView.{StoreView, authority_of_store, AnswersIn, first_disk, second_disk}
+use Rattle.pcfs_store.specs.StoreView.{StoreView, authority_of_store, first_disk, second_disk}
 use Rattle.pcfs_store.specs.Checkpoints.{place_after}
-use Rattle.pcfs_store.specs.Newest.{SurvivesWholeClosed}
-use Rattle.pcfs_store.specs.Ready.{IsReady, IsCurrent, StopsNow, SurvivesWithOrWithout}
-
--- The event is the one that an answer keeps: to a request of this pass that is well formed, at some moment, over the history of the store.
-pub record IsAskedFor {D : Type 0} (s : StoreView D) (pass : ℕ) (event : Event) : Type 0 where
-  pub moment : ℤ
-  pub request : StepRequest
-  pub reply : StepReply
-  pub in_range : IsMoment moment
-  pub well_formed : IsWellFormed request
-  pub answers : AnswersIn s pass moment request reply (Some event)
+use Rattle.pcfs_store.specs.Ready.{IsReady, IsCurrent, StopsNow, SurvivesStop}
 
 -- of a disk of the store a count has risen since it was opened
 abbrev pub HasCountRisen : {D : Type 0} → (D → ℕ) → StoreView D → StoreView D → Type 0
@@ -29,21 +15,10 @@ HasCountRisen faults opening now = HasRisen (faults (first_disk opening)) (fault
 -- Below, of a disk d `clock d` is the present moment, `left_since d t bytes` says that a crash at some moment since t may have left these bytes, `image d` is what a read gives, if d tells it, and `faults d`
 -- counts its faults.
 
--- What a store has met that was stopped in this pass. In a step: the event was asked for, and may follow the history, and a crash leaves the history, or with it that event. In a checkpoint: a crash leaves the history.
-pub record HasMetEvent {D : Type 0} (clock : D → ℕ) (left_since : D → ℕ → List ℕ → Type 0) (image : D → Option (List ℕ)) (s : StoreView D) (pass : ℕ) : Type 0 where
-  pub met : Event
-  pub asked : IsAskedFor s pass met
-  pub follows : IsLawful (authority_of_store s) s.base s.events → IsLawful (authority_of_store s) s.base (s.events ++ met ∷ [])
-  pub survives : StopsNow clock left_since image s (SurvivesWithOrWithout s.base s.events met)
-
-pub data HasMet {D : Type 0} (clock : D → ℕ) (left_since : D → ℕ → List ℕ → Type 0) (image : D → Option (List ℕ)) (s : StoreView D) (pass : ℕ) : Type 0 where
-  in_a_step : HasMetEvent clock left_since image s pass → HasMet clock left_since image s pass
-  in_a_checkpoint : StopsNow clock left_since image s (SurvivesWholeClosed s.base s.events) → HasMet clock left_since image s pass
-
 module _ {D : Type 0} (clock : D → ℕ) (left_since : D → ℕ → List ℕ → Type 0) (image : D → Option (List ℕ)) (faults : D → ℕ) where
   -- The store was opened as `opening`, and is `now`. Key, ring, base and the image that was opened are the same, and the events are those of the opening with others after them; if the former are lawful, so are all. Checkpoints were added at the end: with each the
   -- generation grew by one, and the disks changed their places; as long as none was made, the other disk is not touched, or one was tried in which it failed. While no disk has failed, a store that was ready is ready, and what a read gives
-  -- stands for its history. If one has, a count rose above the one at the opening; and of a store that was ready a crash leaves the history, or, in a step, with it the event that met the fault, which a request of the pass that stopped it asked for.
+  -- stands for its history. If one has, a count rose above the one at the opening; and of a store that was ready a crash leaves the history, or, if it failed in a step, with it the event that the step was keeping, which may follow.
   pub record HasGoneOn (opening now : StoreView D) : Type 0 where
     pub began : opening.stop ≡ None
     pub key_stays : now.key ≡ opening.key
@@ -58,7 +33,10 @@ module _ {D : Type 0} (clock : D → ℕ) (left_since : D → ℕ → List ℕ �
     pub other_stays : checkpoints_go_on.0 ≡ [] → (now.other ≡ opening.other) ⊎ ((pass : ℕ) × (now.stop ≡ Some pass) × HasRisen (faults opening.other) (faults now.other))
     pub ready : IsReady clock left_since image opening → now.stop ≡ None → IsReady clock left_since image now
     pub current : IsCurrent clock left_since image opening → now.stop ≡ None → IsCurrent clock left_since image now
-    pub halts : IsReady clock left_since image opening → (pass : ℕ) → now.stop ≡ Some pass → HasMet clock left_since image now pass
+    pub halts : IsReady clock left_since image opening → (pass : ℕ) → now.stop ≡ Some pass →
+        StopsNow clock left_since image now (SurvivesStop now.base now.events now.met)
+    pub follows : (pass : ℕ) (event : Event) → now.stop ≡ Some pass → now.met ≡ Some event →
+        IsLawful (authority_of_store now) now.base now.events → IsLawful (authority_of_store now) now.base (now.events ++ event ∷ [])
     pub failed : (pass : ℕ) → now.stop ≡ Some pass → HasCountRisen faults opening now
     pub first_told : is_some (image (first_disk now)) ≡ is_some (image (first_disk opening))
     pub second_told : is_some (image (second_disk now)) ≡ is_some (image (second_disk opening))

@@ -12,12 +12,13 @@ use Rattle.pcfs_store.specs.StoreView.{StoreView, AnswersIn, IsStore}
 use Rattle.pcfs_store.specs.Steps.{Steps}
 use Rattle.pcfs_store.specs.Checkpoints.{MakesCheckpoint}
 
--- what a step of this reply adds: the event that its answer keeps, or the mark of a disk that failed now
+-- what a step of this reply adds: the event that its answer keeps, or the mark of a disk that failed under it
 pub data StepGives {D : Type 0} (old : StoreView D) (pass : ℕ) (clock : ℤ) (request : StepRequest) : StoreReply → List StoreEntry → Type 0 where
   nothing : (reply : StepReply) → AnswersIn old pass clock request reply None → StepGives old pass clock request (stores.Step reply) []
   an_event : (reply : StepReply) (event : Event) → AnswersIn old pass clock request reply (Some event) → StepGives old pass clock request (stores.Step reply) (happened event ∷ [])
   no_room : StepGives old pass clock request stores.Full []
-  the_mark : old.stop ≡ None → StepGives old pass clock request stores.Stopped (stopped pass ∷ [])
+  the_mark : (reply : StepReply) (event : Event) → old.stop ≡ None → AnswersIn old pass clock request reply (Some event) →
+      StepGives old pass clock request stores.Stopped (stopped pass (Some event) ∷ [])
   had_mark : (earlier : ℕ) → old.stop ≡ Some earlier → StepGives old pass clock request stores.Stopped []
   no_memory : StepGives old pass clock request stores.NoMemory []
 
@@ -26,7 +27,7 @@ abbrev pub checkpoint_gives : Option ℕ → ℕ → CheckpointReply → List St
 checkpoint_gives (Some earlier) pass reply = []
 checkpoint_gives None pass checkpoint_replies.Checkpointed = checkpointed pass ∷ []
 checkpoint_gives None pass checkpoint_replies.Full = []
-checkpoint_gives None pass checkpoint_replies.Stopped = stopped pass ∷ []
+checkpoint_gives None pass checkpoint_replies.Stopped = stopped pass None ∷ []
 checkpoint_gives None pass checkpoint_replies.NoMemory = []
 
 -- the entries grow at their end, by what a step adds

@@ -11,7 +11,7 @@ module _ {D : Type 0} where
   abbrev pub numbered_entry : StoreEntry → ℕ × LockEntry D
   numbered_entry (happened event) = (event_pass event, Happened event)
   numbered_entry (checkpointed pass) = (pass, Checkpointed pass)
-  numbered_entry (stopped pass) = (pass, Stopped pass)
+  numbered_entry (stopped pass met) = (pass, Stopped pass met)
 
   abbrev pub numbered : List StoreEntry → List (ℕ × LockEntry D)
   numbered entries = map numbered_entry entries
@@ -28,7 +28,7 @@ module _ {D : Type 0} where
   before_others (Opened opening) others = others
   before_others (Happened event) others = happened event ∷ others
   before_others (Checkpointed pass) others = checkpointed pass ∷ others
-  before_others (Stopped pass) others = stopped pass ∷ others
+  before_others (Stopped pass met) others = stopped pass met ∷ others
 
   -- the entries after the root, without their numbers
   abbrev pub bare : List (ℕ × LockEntry D) → List StoreEntry

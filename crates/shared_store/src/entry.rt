@@ -12,6 +12,6 @@ pub enum LockEntry<D: Disk> {
     Happened(Event),
     /// A checkpoint was made in a turn of this pass.
     Checkpointed(u64),
-    /// A disk failed in a turn of this pass.
-    Stopped(u64),
+    /// A disk failed in a turn of this pass, which was keeping this event if it was a step.
+    Stopped(u64, Option<Event>),
 }

@@ -1,8 +1,9 @@
-//! How a pass waits. It draws a ticket only if nobody has one, and else sleeps until it is called; after a few calls it
-//! draws one all the same, so that those who come again and again do not keep it out.
+//! How a pass waits. It draws a ticket only if nobody has one, and else sleeps until it is called; after a few calls, or
+//! some more times that it slept, it draws one all the same, so that those who come again and again do not keep it out.
 //!
-//! Who ends a turn calls one that sleeps, unless a call is under way. No clause says that a call comes: what is proved
-//! here is that the lock's rule does not hang on these words.
+//! Who ends a turn calls one that sleeps, unless a call is under way. The first that takes the call has it, whether it was
+//! woken or came just then. No clause says that a call comes: what is proved here is that the lock's rule does not hang on
+//! these words.
 ghost use Rattle.std.specs.Prelude.{◌≡◌};
 ghost use Rattle.tree_lock.specs.Seats.{IsLockTable, IsPassAt};
 
@@ -16,8 +17,10 @@ use std::time::Duration;
 // How often a pass looks for a free lock before it sleeps.
 const LOOKS: u32 = 200;
 
-// After so many calls in vain a pass draws a ticket.
-const CALLS: u32 = 3;
+// After so many calls that it took in vain, or so many times that it slept, a pass draws a ticket.
+const CALLS: u32 = 5;
+
+const SLEEPS: u32 = 20;
 
 // How often a pass with a ticket looks for its turn before it yields between looks, and before it dozes between them.
 const SPINS: u32 = 200;
@@ -40,20 +43,35 @@ pub fn approach<V: Recorded, R: Wait>(rt: &R, shared: &LockShared<V>, seat: &mut
     sleep(rt, shared, seat);
 }
 
-// Sleeps until nobody has a ticket, or a few calls were in vain.
+// Sleeps until nobody has a ticket, a few calls were in vain, or it slept some more times. A call is for the first that
+// takes it: another that wakes does not undo the next call, and sleeps on.
 fn sleep<V: Recorded, R: Wait>(rt: &R, shared: &LockShared<V>, seat: &mut LockSeat<V>)
     requires { IsPassAt shared.now.table_id seat.old }
     ensures { (seat.new.table_id ≡ seat.old.table_id) × (seat.new.me ≡ seat.old.me) }
 {
+    let mut calls: u32 = 0;
     shared.fetch_add::<SignalStep>(seat, SLEEPERS, 1);
-    for _ in 0..CALLS {
-        if !is_taken(shared) {
+    for _ in 0..SLEEPS {
+        if calls == CALLS || !is_taken(shared) {
             break;
         }
         shared.park(rt, CALL, 0);
-        shared.store::<SignalStep>(seat, CALL, 0);
+        if take_call(shared, seat) {
+            calls = calls.saturating_add(1);
+        }
     }
     shared.fetch_sub::<SignalStep>(seat, SLEEPERS, 1);
+}
+
+// Takes the call, and says whether there was one.
+fn take_call<V: Recorded>(shared: &LockShared<V>, seat: &mut LockSeat<V>) -> bool
+    requires { IsPassAt shared.now.table_id seat.old }
+    ensures { (seat.new.table_id ≡ seat.old.table_id) × (seat.new.me ≡ seat.old.me) }
+{
+    if shared.peek(CALL) == 0 {
+        return false;
+    }
+    shared.swap::<SignalStep>(seat, CALL, 0) != 0
 }
 
 // Whether somebody has a ticket.

@@ -8,13 +8,17 @@ use Rattle.proof_verifier.specs.Cited.{statements_of}
 use Rattle.proof_verifier.specs.CheckedView.{CheckedView}
 use Rattle.proof_verifier.specs.Run.{IsFault}
 use Rattle.proof_verifier.specs.Verdict.{verdict}
+use Rattle.access_history.specs.Citing.{numbers_of}
 use Rattle.op_gate.specs.declared.damage.AdmitFault.{AdmitFault}
 use Rattle.op_gate.specs.Admits.{GivesChecked}
 use Rattle.op_gate.proofs.AdmitLemmas.{not_granted}
 use Rattle.op_gate.proofs.admit.check_again.Goals as goal
 
-pub granting-requires : goal.granting-requires
-granting-requires c = ap (λ (k : CheckedView). k.goal) c.in-Ok.ensures.ok ∙ c.goal.ensures
+pub granting-requires-clause-goal : goal.granting-requires-clause-goal
+granting-requires-clause-goal c = ap (λ (k : CheckedView). k.goal) c.in-Ok.ensures.ok ∙ c.goal.ensures
+
+pub granting-requires-clause-cited : goal.granting-requires-clause-cited
+granting-requires-clause-cited c = ap (λ (k : CheckedView). numbers_of k.cited) c.in-Ok.ensures.ok ∙ c.requires.cited
 
 pub returns-in-Ok : goal.returns-in-Ok
 returns-in-Ok c =

@@ -12,8 +12,11 @@ use Rattle.op_gate.proofs.BaseDamageLemmas.{issue_good, issue_unchecked, issue_u
 use Rattle.op_gate.proofs.base.test_issue.Goals as goal
 use Rattle.op_gate.proofs.base.test_issue.Goals.{in-Ok-check_again, in-Err-check_again}
 
-pub check_again-requires : goal.check_again-requires
-check_again-requires c = AreCited-found (whole_book (sayings c.args.entries.now)) c.as_slice.result.now c.in-Ok.cites c.in-Ok.ensures.1 c.in-Ok.ensures.0
+pub check_again-requires-clause-cited : goal.check_again-requires-clause-cited
+check_again-requires-clause-cited c = c.in-Ok.ensures.1.numbers_are
+
+pub check_again-requires-clause-rising : goal.check_again-requires-clause-rising
+check_again-requires-clause-rising c = AreCited-found (whole_book (sayings c.args.entries.now)) c.as_slice-cited.result.now c.in-Ok.cites c.in-Ok.ensures.1 c.in-Ok.ensures.0
 
 pub returns-after-check_again : goal.returns-after-check_again
 returns-after-check_again c =
@@ -21,10 +24,10 @@ returns-after-check_again c =
     let issue = c.args.issue.now in
     elim c.match-check_again.branch [
       | in-Ok-check_again w ↦ subst (λ (r : Result (Unit {0}) AdmitFault). TellsTest (IsGoodIssue statements issue) Unproved r) (sym w.result-is)
-          (issue_good statements issue c.as_slice.result.now c.in-Ok-copy.proof c.in-Ok.cites w.in-Ok-check_again.field-0 c.as_slice.ensures c.in-Ok-copy.ensures c.in-Ok.ensures w.in-Ok-check_again.ensures)
+          (issue_good statements issue c.as_slice-cited.result.now c.in-Ok-copy.proof c.in-Ok.cites w.in-Ok-check_again.field-0 c.as_slice-cited.ensures c.in-Ok-copy.ensures c.in-Ok.ensures w.in-Ok-check_again.ensures)
       | in-Err-check_again w ↦ subst (λ (r : Result (Unit {0}) AdmitFault). TellsTest (IsGoodIssue statements issue) Unproved r) (sym w.result-is)
-          (issue_unchecked statements issue c.as_slice.result.now c.in-Ok-copy.proof c.in-Ok.cites w.in-Err-check_again.fault c.as_slice.ensures c.in-Ok-copy.ensures c.in-Ok.ensures w.in-Err-check_again.ensures)
+          (issue_unchecked statements issue c.as_slice-cited.result.now c.in-Ok-copy.proof c.in-Ok.cites w.in-Err-check_again.fault c.as_slice-cited.ensures c.in-Ok-copy.ensures c.in-Ok.ensures w.in-Err-check_again.ensures)
     ]
 
 pub returns-in-Err : goal.returns-in-Err
-returns-in-Err c = issue_uncited (sayings c.args.entries.now) c.args.issue.now c.as_slice.result.now c.in-Err.uncited c.as_slice.ensures c.in-Err.ensures
+returns-in-Err c = issue_uncited (sayings c.args.entries.now) c.args.issue.now c.as_slice-cited.result.now c.in-Err.uncited c.as_slice-cited.ensures c.in-Err.ensures

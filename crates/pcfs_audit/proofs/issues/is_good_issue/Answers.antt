@@ -4,8 +4,11 @@ use Rattle.pcfs_audit.specs.Papers.{shown}
 use Rattle.pcfs_audit.proofs.CitesLemmas.{good_by_cites, is_false}
 use Rattle.pcfs_audit.proofs.issues.is_good_issue.Goals as goal
 
-pub is_granted-requires : goal.is_granted-requires
-is_granted-requires c = let theirs = rw c.in-Ok-Some.field-0-is at c.in-Ok-Some.ensures in theirs.cited
+pub is_granted-requires-clause-rising : goal.is_granted-requires-clause-rising
+is_granted-requires-clause-rising c = let theirs = rw c.in-Ok-Some.field-0-is at c.in-Ok-Some.ensures in theirs.cited
+
+pub is_granted-requires-clause-cited : goal.is_granted-requires-clause-cited
+is_granted-requires-clause-cited c = let theirs = rw c.in-Ok-Some.field-0-is at c.in-Ok-Some.ensures in theirs.found.numbers_are
 
 pub returns-in-Ok-Some : goal.returns-in-Ok-Some
 returns-in-Ok-Some c =

@@ -8,4 +8,4 @@ pub returns-clause-generation : goal.returns-clause-generation
 returns-clause-generation g c = λ s store. generation-entries s store
 
 pub returns-clause-events : goal.returns-clause-events
-returns-clause-events g c = λ s. events-entries s.events s.checkpoints s.stop
+returns-clause-events g c = λ s. events-entries s.events s.checkpoints s.stop s.met

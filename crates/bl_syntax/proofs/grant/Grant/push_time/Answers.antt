@@ -7,6 +7,6 @@ pub invariant_of-self : goal.invariant_of-self
 invariant_of-self c =
     let g = c.self.inside in
     let required = rw (← c.self.view_is) at c.requires in
-    after_growth (λ times. IsGrant (granted g.goal times g.states)) _ _ _ c.extend.result c.extend.ensures.ok c.extend.ensures.err
-    (IsGrant-push_time (granted g.goal g.times g.states) c.args.c c.self.invariant required.condition required.new required.room)
+    after_growth (λ times. IsGrant (granted g.goal times g.states g.cited)) _ _ _ c.extend.result c.extend.ensures.ok c.extend.ensures.err
+    (IsGrant-push_time (granted g.goal g.times g.states g.cited) c.args.c c.self.invariant required.condition required.new required.room)
     c.self.invariant

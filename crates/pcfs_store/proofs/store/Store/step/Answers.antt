@@ -82,67 +82,67 @@ pub returns-in-Answer-clause-answer : goal.returns-in-Answer-clause-answer
 returns-in-Answer-clause-answer g c =
     (answered_end g.D.Disk.clock g.D.Disk.left_since g.D.Disk.image g.D.Disk.faults c.self.inside.active c.self.inside.other c.self.inside.second_active c.self.inside.generation c.self.inside.opened.value c.self.inside.gate c.self.inside.checkpoints.items c.self.inside.stop c.self.invariant
     c.args.self.now c.self.view_is c.args.pass (to_z w64 (of_z w64 c.args.clock)) c.args.clock (to_z-of_z w64 c.args.clock c.ranges.clock) c.args.request
-    (sym c.is_some.ensures ∙ c.if-is_some.false) c.decide.new.self c.decide.ensures.key c.decide.ensures.ring c.decide.ensures.base c.decide.ensures.events c.in-Answer.reply c.in-Answer.ensures.answer.0).answer
+    (sym c.is_some.ensures ∙ c.if-is_some.false) c.decide.new.self c.decide.ensures.key c.decide.ensures.ring c.decide.ensures.base c.decide.ensures.events c.in-Answer.reply c.in-Answer.ensures.answer.0 c.in-Answer.ensures.answer.1).answer
 
 pub returns-in-Answer-clause-ready : goal.returns-in-Answer-clause-ready
 returns-in-Answer-clause-ready g c =
     (answered_end g.D.Disk.clock g.D.Disk.left_since g.D.Disk.image g.D.Disk.faults c.self.inside.active c.self.inside.other c.self.inside.second_active c.self.inside.generation c.self.inside.opened.value c.self.inside.gate c.self.inside.checkpoints.items c.self.inside.stop c.self.invariant
     c.args.self.now c.self.view_is c.args.pass (to_z w64 (of_z w64 c.args.clock)) c.args.clock (to_z-of_z w64 c.args.clock c.ranges.clock) c.args.request
-    (sym c.is_some.ensures ∙ c.if-is_some.false) c.decide.new.self c.decide.ensures.key c.decide.ensures.ring c.decide.ensures.base c.decide.ensures.events c.in-Answer.reply c.in-Answer.ensures.answer.0).stays_ready
+    (sym c.is_some.ensures ∙ c.if-is_some.false) c.decide.new.self c.decide.ensures.key c.decide.ensures.ring c.decide.ensures.base c.decide.ensures.events c.in-Answer.reply c.in-Answer.ensures.answer.0 c.in-Answer.ensures.answer.1).stays_ready
 
 pub returns-in-Answer-clause-keeps : goal.returns-in-Answer-clause-keeps
 returns-in-Answer-clause-keeps g c =
     (answered_end g.D.Disk.clock g.D.Disk.left_since g.D.Disk.image g.D.Disk.faults c.self.inside.active c.self.inside.other c.self.inside.second_active c.self.inside.generation c.self.inside.opened.value c.self.inside.gate c.self.inside.checkpoints.items c.self.inside.stop c.self.invariant
     c.args.self.now c.self.view_is c.args.pass (to_z w64 (of_z w64 c.args.clock)) c.args.clock (to_z-of_z w64 c.args.clock c.ranges.clock) c.args.request
-    (sym c.is_some.ensures ∙ c.if-is_some.false) c.decide.new.self c.decide.ensures.key c.decide.ensures.ring c.decide.ensures.base c.decide.ensures.events c.in-Answer.reply c.in-Answer.ensures.answer.0).stays_kept
+    (sym c.is_some.ensures ∙ c.if-is_some.false) c.decide.new.self c.decide.ensures.key c.decide.ensures.ring c.decide.ensures.base c.decide.ensures.events c.in-Answer.reply c.in-Answer.ensures.answer.0 c.in-Answer.ensures.answer.1).stays_kept
 
 pub returns-in-Answer-clause-current : goal.returns-in-Answer-clause-current
 returns-in-Answer-clause-current g c =
     (answered_end g.D.Disk.clock g.D.Disk.left_since g.D.Disk.image g.D.Disk.faults c.self.inside.active c.self.inside.other c.self.inside.second_active c.self.inside.generation c.self.inside.opened.value c.self.inside.gate c.self.inside.checkpoints.items c.self.inside.stop c.self.invariant
     c.args.self.now c.self.view_is c.args.pass (to_z w64 (of_z w64 c.args.clock)) c.args.clock (to_z-of_z w64 c.args.clock c.ranges.clock) c.args.request
-    (sym c.is_some.ensures ∙ c.if-is_some.false) c.decide.new.self c.decide.ensures.key c.decide.ensures.ring c.decide.ensures.base c.decide.ensures.events c.in-Answer.reply c.in-Answer.ensures.answer.0).stays_current
+    (sym c.is_some.ensures ∙ c.if-is_some.false) c.decide.new.self c.decide.ensures.key c.decide.ensures.ring c.decide.ensures.base c.decide.ensures.events c.in-Answer.reply c.in-Answer.ensures.answer.0 c.in-Answer.ensures.answer.1).stays_current
 
 pub returns-in-Answer-clause-makes_ready : goal.returns-in-Answer-clause-makes_ready
 returns-in-Answer-clause-makes_ready g c =
     (answered_end g.D.Disk.clock g.D.Disk.left_since g.D.Disk.image g.D.Disk.faults c.self.inside.active c.self.inside.other c.self.inside.second_active c.self.inside.generation c.self.inside.opened.value c.self.inside.gate c.self.inside.checkpoints.items c.self.inside.stop c.self.invariant
     c.args.self.now c.self.view_is c.args.pass (to_z w64 (of_z w64 c.args.clock)) c.args.clock (to_z-of_z w64 c.args.clock c.ranges.clock) c.args.request
-    (sym c.is_some.ensures ∙ c.if-is_some.false) c.decide.new.self c.decide.ensures.key c.decide.ensures.ring c.decide.ensures.base c.decide.ensures.events c.in-Answer.reply c.in-Answer.ensures.answer.0).makes_ready
+    (sym c.is_some.ensures ∙ c.if-is_some.false) c.decide.new.self c.decide.ensures.key c.decide.ensures.ring c.decide.ensures.base c.decide.ensures.events c.in-Answer.reply c.in-Answer.ensures.answer.0 c.in-Answer.ensures.answer.1).makes_ready
 
 pub returns-in-Answer-clause-any_moment : goal.returns-in-Answer-clause-any_moment
 returns-in-Answer-clause-any_moment g c =
     (answered_end g.D.Disk.clock g.D.Disk.left_since g.D.Disk.image g.D.Disk.faults c.self.inside.active c.self.inside.other c.self.inside.second_active c.self.inside.generation c.self.inside.opened.value c.self.inside.gate c.self.inside.checkpoints.items c.self.inside.stop c.self.invariant
     c.args.self.now c.self.view_is c.args.pass (to_z w64 (of_z w64 c.args.clock)) c.args.clock (to_z-of_z w64 c.args.clock c.ranges.clock) c.args.request
-    (sym c.is_some.ensures ∙ c.if-is_some.false) c.decide.new.self c.decide.ensures.key c.decide.ensures.ring c.decide.ensures.base c.decide.ensures.events c.in-Answer.reply c.in-Answer.ensures.answer.0).any_moment
+    (sym c.is_some.ensures ∙ c.if-is_some.false) c.decide.new.self c.decide.ensures.key c.decide.ensures.ring c.decide.ensures.base c.decide.ensures.events c.in-Answer.reply c.in-Answer.ensures.answer.0 c.in-Answer.ensures.answer.1).any_moment
 
 pub returns-in-Answer-clause-met : goal.returns-in-Answer-clause-met
 returns-in-Answer-clause-met g c =
     (answered_end g.D.Disk.clock g.D.Disk.left_since g.D.Disk.image g.D.Disk.faults c.self.inside.active c.self.inside.other c.self.inside.second_active c.self.inside.generation c.self.inside.opened.value c.self.inside.gate c.self.inside.checkpoints.items c.self.inside.stop c.self.invariant
     c.args.self.now c.self.view_is c.args.pass (to_z w64 (of_z w64 c.args.clock)) c.args.clock (to_z-of_z w64 c.args.clock c.ranges.clock) c.args.request
-    (sym c.is_some.ensures ∙ c.if-is_some.false) c.decide.new.self c.decide.ensures.key c.decide.ensures.ring c.decide.ensures.base c.decide.ensures.events c.in-Answer.reply c.in-Answer.ensures.answer.0).met
+    (sym c.is_some.ensures ∙ c.if-is_some.false) c.decide.new.self c.decide.ensures.key c.decide.ensures.ring c.decide.ensures.base c.decide.ensures.events c.in-Answer.reply c.in-Answer.ensures.answer.0 c.in-Answer.ensures.answer.1).met
 
 pub returns-in-Answer-clause-first_told : goal.returns-in-Answer-clause-first_told
 returns-in-Answer-clause-first_told g c =
     (answered_end g.D.Disk.clock g.D.Disk.left_since g.D.Disk.image g.D.Disk.faults c.self.inside.active c.self.inside.other c.self.inside.second_active c.self.inside.generation c.self.inside.opened.value c.self.inside.gate c.self.inside.checkpoints.items c.self.inside.stop c.self.invariant
     c.args.self.now c.self.view_is c.args.pass (to_z w64 (of_z w64 c.args.clock)) c.args.clock (to_z-of_z w64 c.args.clock c.ranges.clock) c.args.request
-    (sym c.is_some.ensures ∙ c.if-is_some.false) c.decide.new.self c.decide.ensures.key c.decide.ensures.ring c.decide.ensures.base c.decide.ensures.events c.in-Answer.reply c.in-Answer.ensures.answer.0).first_told
+    (sym c.is_some.ensures ∙ c.if-is_some.false) c.decide.new.self c.decide.ensures.key c.decide.ensures.ring c.decide.ensures.base c.decide.ensures.events c.in-Answer.reply c.in-Answer.ensures.answer.0 c.in-Answer.ensures.answer.1).first_told
 
 pub returns-in-Answer-clause-second_told : goal.returns-in-Answer-clause-second_told
 returns-in-Answer-clause-second_told g c =
     (answered_end g.D.Disk.clock g.D.Disk.left_since g.D.Disk.image g.D.Disk.faults c.self.inside.active c.self.inside.other c.self.inside.second_active c.self.inside.generation c.self.inside.opened.value c.self.inside.gate c.self.inside.checkpoints.items c.self.inside.stop c.self.invariant
     c.args.self.now c.self.view_is c.args.pass (to_z w64 (of_z w64 c.args.clock)) c.args.clock (to_z-of_z w64 c.args.clock c.ranges.clock) c.args.request
-    (sym c.is_some.ensures ∙ c.if-is_some.false) c.decide.new.self c.decide.ensures.key c.decide.ensures.ring c.decide.ensures.base c.decide.ensures.events c.in-Answer.reply c.in-Answer.ensures.answer.0).second_told
+    (sym c.is_some.ensures ∙ c.if-is_some.false) c.decide.new.self c.decide.ensures.key c.decide.ensures.ring c.decide.ensures.base c.decide.ensures.events c.in-Answer.reply c.in-Answer.ensures.answer.0 c.in-Answer.ensures.answer.1).second_told
 
 pub returns-in-Answer-clause-first_never_falls : goal.returns-in-Answer-clause-first_never_falls
 returns-in-Answer-clause-first_never_falls g c =
     (answered_end g.D.Disk.clock g.D.Disk.left_since g.D.Disk.image g.D.Disk.faults c.self.inside.active c.self.inside.other c.self.inside.second_active c.self.inside.generation c.self.inside.opened.value c.self.inside.gate c.self.inside.checkpoints.items c.self.inside.stop c.self.invariant
     c.args.self.now c.self.view_is c.args.pass (to_z w64 (of_z w64 c.args.clock)) c.args.clock (to_z-of_z w64 c.args.clock c.ranges.clock) c.args.request
-    (sym c.is_some.ensures ∙ c.if-is_some.false) c.decide.new.self c.decide.ensures.key c.decide.ensures.ring c.decide.ensures.base c.decide.ensures.events c.in-Answer.reply c.in-Answer.ensures.answer.0).first_never_falls
+    (sym c.is_some.ensures ∙ c.if-is_some.false) c.decide.new.self c.decide.ensures.key c.decide.ensures.ring c.decide.ensures.base c.decide.ensures.events c.in-Answer.reply c.in-Answer.ensures.answer.0 c.in-Answer.ensures.answer.1).first_never_falls
 
 pub returns-in-Answer-clause-second_never_falls : goal.returns-in-Answer-clause-second_never_falls
 returns-in-Answer-clause-second_never_falls g c =
     (answered_end g.D.Disk.clock g.D.Disk.left_since g.D.Disk.image g.D.Disk.faults c.self.inside.active c.self.inside.other c.self.inside.second_active c.self.inside.generation c.self.inside.opened.value c.self.inside.gate c.self.inside.checkpoints.items c.self.inside.stop c.self.invariant
     c.args.self.now c.self.view_is c.args.pass (to_z w64 (of_z w64 c.args.clock)) c.args.clock (to_z-of_z w64 c.args.clock c.ranges.clock) c.args.request
-    (sym c.is_some.ensures ∙ c.if-is_some.false) c.decide.new.self c.decide.ensures.key c.decide.ensures.ring c.decide.ensures.base c.decide.ensures.events c.in-Answer.reply c.in-Answer.ensures.answer.0).second_never_falls
+    (sym c.is_some.ensures ∙ c.if-is_some.false) c.decide.new.self c.decide.ensures.key c.decide.ensures.ring c.decide.ensures.base c.decide.ensures.events c.in-Answer.reply c.in-Answer.ensures.answer.0 c.in-Answer.ensures.answer.1).second_never_falls
 
 pub returns-in-Ok-clause-answer : goal.returns-in-Ok-clause-answer
 returns-in-Ok-clause-answer g c =
@@ -456,64 +456,64 @@ pub returns-clause-answer : goal.returns-clause-answer
 returns-clause-answer g c =
     (undecided_end g.D.Disk.clock g.D.Disk.left_since g.D.Disk.image g.D.Disk.faults c.self.inside.active c.self.inside.other c.self.inside.second_active c.self.inside.generation c.self.inside.opened.value c.self.inside.gate c.self.inside.checkpoints.items c.self.inside.stop c.self.invariant
     c.args.self.now c.self.view_is c.args.pass (to_z w64 (of_z w64 c.args.clock)) c.args.clock (to_z-of_z w64 c.args.clock c.ranges.clock) c.args.request
-    (sym c.is_some.ensures ∙ c.if-is_some.false) c.decide.new.self c.decide.ensures.key c.decide.ensures.ring c.decide.ensures.base c.decide.ensures.events).answer
+    (sym c.is_some.ensures ∙ c.if-is_some.false) c.decide.new.self c.decide.ensures.key c.decide.ensures.ring c.decide.ensures.base c.decide.ensures.events c.in-NoMemory.ensures.answer).answer
 
 pub returns-clause-ready : goal.returns-clause-ready
 returns-clause-ready g c =
     (undecided_end g.D.Disk.clock g.D.Disk.left_since g.D.Disk.image g.D.Disk.faults c.self.inside.active c.self.inside.other c.self.inside.second_active c.self.inside.generation c.self.inside.opened.value c.self.inside.gate c.self.inside.checkpoints.items c.self.inside.stop c.self.invariant
     c.args.self.now c.self.view_is c.args.pass (to_z w64 (of_z w64 c.args.clock)) c.args.clock (to_z-of_z w64 c.args.clock c.ranges.clock) c.args.request
-    (sym c.is_some.ensures ∙ c.if-is_some.false) c.decide.new.self c.decide.ensures.key c.decide.ensures.ring c.decide.ensures.base c.decide.ensures.events).stays_ready
+    (sym c.is_some.ensures ∙ c.if-is_some.false) c.decide.new.self c.decide.ensures.key c.decide.ensures.ring c.decide.ensures.base c.decide.ensures.events c.in-NoMemory.ensures.answer).stays_ready
 
 pub returns-clause-keeps : goal.returns-clause-keeps
 returns-clause-keeps g c =
     (undecided_end g.D.Disk.clock g.D.Disk.left_since g.D.Disk.image g.D.Disk.faults c.self.inside.active c.self.inside.other c.self.inside.second_active c.self.inside.generation c.self.inside.opened.value c.self.inside.gate c.self.inside.checkpoints.items c.self.inside.stop c.self.invariant
     c.args.self.now c.self.view_is c.args.pass (to_z w64 (of_z w64 c.args.clock)) c.args.clock (to_z-of_z w64 c.args.clock c.ranges.clock) c.args.request
-    (sym c.is_some.ensures ∙ c.if-is_some.false) c.decide.new.self c.decide.ensures.key c.decide.ensures.ring c.decide.ensures.base c.decide.ensures.events).stays_kept
+    (sym c.is_some.ensures ∙ c.if-is_some.false) c.decide.new.self c.decide.ensures.key c.decide.ensures.ring c.decide.ensures.base c.decide.ensures.events c.in-NoMemory.ensures.answer).stays_kept
 
 pub returns-clause-current : goal.returns-clause-current
 returns-clause-current g c =
     (undecided_end g.D.Disk.clock g.D.Disk.left_since g.D.Disk.image g.D.Disk.faults c.self.inside.active c.self.inside.other c.self.inside.second_active c.self.inside.generation c.self.inside.opened.value c.self.inside.gate c.self.inside.checkpoints.items c.self.inside.stop c.self.invariant
     c.args.self.now c.self.view_is c.args.pass (to_z w64 (of_z w64 c.args.clock)) c.args.clock (to_z-of_z w64 c.args.clock c.ranges.clock) c.args.request
-    (sym c.is_some.ensures ∙ c.if-is_some.false) c.decide.new.self c.decide.ensures.key c.decide.ensures.ring c.decide.ensures.base c.decide.ensures.events).stays_current
+    (sym c.is_some.ensures ∙ c.if-is_some.false) c.decide.new.self c.decide.ensures.key c.decide.ensures.ring c.decide.ensures.base c.decide.ensures.events c.in-NoMemory.ensures.answer).stays_current
 
 pub returns-clause-makes_ready : goal.returns-clause-makes_ready
 returns-clause-makes_ready g c =
     (undecided_end g.D.Disk.clock g.D.Disk.left_since g.D.Disk.image g.D.Disk.faults c.self.inside.active c.self.inside.other c.self.inside.second_active c.self.inside.generation c.self.inside.opened.value c.self.inside.gate c.self.inside.checkpoints.items c.self.inside.stop c.self.invariant
     c.args.self.now c.self.view_is c.args.pass (to_z w64 (of_z w64 c.args.clock)) c.args.clock (to_z-of_z w64 c.args.clock c.ranges.clock) c.args.request
-    (sym c.is_some.ensures ∙ c.if-is_some.false) c.decide.new.self c.decide.ensures.key c.decide.ensures.ring c.decide.ensures.base c.decide.ensures.events).makes_ready
+    (sym c.is_some.ensures ∙ c.if-is_some.false) c.decide.new.self c.decide.ensures.key c.decide.ensures.ring c.decide.ensures.base c.decide.ensures.events c.in-NoMemory.ensures.answer).makes_ready
 
 pub returns-clause-any_moment : goal.returns-clause-any_moment
 returns-clause-any_moment g c =
     (undecided_end g.D.Disk.clock g.D.Disk.left_since g.D.Disk.image g.D.Disk.faults c.self.inside.active c.self.inside.other c.self.inside.second_active c.self.inside.generation c.self.inside.opened.value c.self.inside.gate c.self.inside.checkpoints.items c.self.inside.stop c.self.invariant
     c.args.self.now c.self.view_is c.args.pass (to_z w64 (of_z w64 c.args.clock)) c.args.clock (to_z-of_z w64 c.args.clock c.ranges.clock) c.args.request
-    (sym c.is_some.ensures ∙ c.if-is_some.false) c.decide.new.self c.decide.ensures.key c.decide.ensures.ring c.decide.ensures.base c.decide.ensures.events).any_moment
+    (sym c.is_some.ensures ∙ c.if-is_some.false) c.decide.new.self c.decide.ensures.key c.decide.ensures.ring c.decide.ensures.base c.decide.ensures.events c.in-NoMemory.ensures.answer).any_moment
 
 pub returns-clause-met : goal.returns-clause-met
 returns-clause-met g c =
     (undecided_end g.D.Disk.clock g.D.Disk.left_since g.D.Disk.image g.D.Disk.faults c.self.inside.active c.self.inside.other c.self.inside.second_active c.self.inside.generation c.self.inside.opened.value c.self.inside.gate c.self.inside.checkpoints.items c.self.inside.stop c.self.invariant
     c.args.self.now c.self.view_is c.args.pass (to_z w64 (of_z w64 c.args.clock)) c.args.clock (to_z-of_z w64 c.args.clock c.ranges.clock) c.args.request
-    (sym c.is_some.ensures ∙ c.if-is_some.false) c.decide.new.self c.decide.ensures.key c.decide.ensures.ring c.decide.ensures.base c.decide.ensures.events).met
+    (sym c.is_some.ensures ∙ c.if-is_some.false) c.decide.new.self c.decide.ensures.key c.decide.ensures.ring c.decide.ensures.base c.decide.ensures.events c.in-NoMemory.ensures.answer).met
 
 pub returns-clause-first_told : goal.returns-clause-first_told
 returns-clause-first_told g c =
     (undecided_end g.D.Disk.clock g.D.Disk.left_since g.D.Disk.image g.D.Disk.faults c.self.inside.active c.self.inside.other c.self.inside.second_active c.self.inside.generation c.self.inside.opened.value c.self.inside.gate c.self.inside.checkpoints.items c.self.inside.stop c.self.invariant
     c.args.self.now c.self.view_is c.args.pass (to_z w64 (of_z w64 c.args.clock)) c.args.clock (to_z-of_z w64 c.args.clock c.ranges.clock) c.args.request
-    (sym c.is_some.ensures ∙ c.if-is_some.false) c.decide.new.self c.decide.ensures.key c.decide.ensures.ring c.decide.ensures.base c.decide.ensures.events).first_told
+    (sym c.is_some.ensures ∙ c.if-is_some.false) c.decide.new.self c.decide.ensures.key c.decide.ensures.ring c.decide.ensures.base c.decide.ensures.events c.in-NoMemory.ensures.answer).first_told
 
 pub returns-clause-second_told : goal.returns-clause-second_told
 returns-clause-second_told g c =
     (undecided_end g.D.Disk.clock g.D.Disk.left_since g.D.Disk.image g.D.Disk.faults c.self.inside.active c.self.inside.other c.self.inside.second_active c.self.inside.generation c.self.inside.opened.value c.self.inside.gate c.self.inside.checkpoints.items c.self.inside.stop c.self.invariant
     c.args.self.now c.self.view_is c.args.pass (to_z w64 (of_z w64 c.args.clock)) c.args.clock (to_z-of_z w64 c.args.clock c.ranges.clock) c.args.request
-    (sym c.is_some.ensures ∙ c.if-is_some.false) c.decide.new.self c.decide.ensures.key c.decide.ensures.ring c.decide.ensures.base c.decide.ensures.events).second_told
+    (sym c.is_some.ensures ∙ c.if-is_some.false) c.decide.new.self c.decide.ensures.key c.decide.ensures.ring c.decide.ensures.base c.decide.ensures.events c.in-NoMemory.ensures.answer).second_told
 
 pub returns-clause-first_never_falls : goal.returns-clause-first_never_falls
 returns-clause-first_never_falls g c =
     (undecided_end g.D.Disk.clock g.D.Disk.left_since g.D.Disk.image g.D.Disk.faults c.self.inside.active c.self.inside.other c.self.inside.second_active c.self.inside.generation c.self.inside.opened.value c.self.inside.gate c.self.inside.checkpoints.items c.self.inside.stop c.self.invariant
     c.args.self.now c.self.view_is c.args.pass (to_z w64 (of_z w64 c.args.clock)) c.args.clock (to_z-of_z w64 c.args.clock c.ranges.clock) c.args.request
-    (sym c.is_some.ensures ∙ c.if-is_some.false) c.decide.new.self c.decide.ensures.key c.decide.ensures.ring c.decide.ensures.base c.decide.ensures.events).first_never_falls
+    (sym c.is_some.ensures ∙ c.if-is_some.false) c.decide.new.self c.decide.ensures.key c.decide.ensures.ring c.decide.ensures.base c.decide.ensures.events c.in-NoMemory.ensures.answer).first_never_falls
 
 pub returns-clause-second_never_falls : goal.returns-clause-second_never_falls
 returns-clause-second_never_falls g c =
     (undecided_end g.D.Disk.clock g.D.Disk.left_since g.D.Disk.image g.D.Disk.faults c.self.inside.active c.self.inside.other c.self.inside.second_active c.self.inside.generation c.self.inside.opened.value c.self.inside.gate c.self.inside.checkpoints.items c.self.inside.stop c.self.invariant
     c.args.self.now c.self.view_is c.args.pass (to_z w64 (of_z w64 c.args.clock)) c.args.clock (to_z-of_z w64 c.args.clock c.ranges.clock) c.args.request
-    (sym c.is_some.ensures ∙ c.if-is_some.false) c.decide.new.self c.decide.ensures.key c.decide.ensures.ring c.decide.ensures.base c.decide.ensures.events).second_never_falls
+    (sym c.is_some.ensures ∙ c.if-is_some.false) c.decide.new.self c.decide.ensures.key c.decide.ensures.ring c.decide.ensures.base c.decide.ensures.events c.in-NoMemory.ensures.answer).second_never_falls
