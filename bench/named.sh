@@ -4,8 +4,8 @@
 # refused by the tree, so that nothing is written: under an issue that names nothing, and under one that names 64 statements, of which
 # each is looked up, since another is withdrawn. Aim: 0.3 us more at most. Then openings of that store with an image that has no
 # version, and with the same state in today's image, with grants that name nothing and with grants that name a statement each; and, if
-# another program is named, its openings of the second. Aim: none slower than the others. Each time is the least of five. It makes its own
-# input, ends by itself and decides no test.
+# another program is named, its openings of the second. Aim: none slower than the others. Each time is one of a processor, so other
+# work beside it tells little, and the least of three. It makes its own input, ends by itself and decides no test.
 # usage: bench/named.sh [PROGRAM [ANOTHER]], by default crates/pcfs/out/pcfs alone
 set -euo pipefail
 top=$(cd "$(dirname "$0")/.." && pwd)
