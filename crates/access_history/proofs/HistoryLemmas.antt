@@ -24,7 +24,7 @@ use Rattle.access_history.specs.declared.event.Issue.{Issue}
 use Rattle.access_history.specs.declared.event.Event.{Event}
 use Rattle.access_history.specs.declared.event.Event.TheVariants.{Registered, Withdrawn, Issued, Acted}
 use Rattle.issue_standings.specs.Index.{IsIndexOf, Knows}
-use Rattle.issue_standings.specs.Standing.{gone_by, standing_of}
+use Rattle.issue_standings.specs.GrantStanding.{gone_by, standing_of}
 use Rattle.access_history.specs.declared.history.History.TheInside.{Inside}
 use Rattle.access_history.specs.Base.{BaseView}
 use Rattle.access_history.specs.Books.{live_book}
@@ -152,12 +152,13 @@ pub live_told : (entries shown : List RegisteredView) (number : ℕ) (result : O
     MatchOption result (IsHeld (live_book entries) number → ⊥) (λ (s : Bor StatementView). IsNumbered (live_book entries) number (Some s.now))
 live_told entries shown number result shown_is is = told_live entries number result (is ∙ ap (λ (es : List RegisteredView). live_of_number es number) shown_is)
 
--- the index knows the procap, which is sealed under the key of the history
-pub knows_shown : (h : Inside) (k : HistoryView) (p : Procap) → IsKeeping h → kept_by h ≡ k → (shown : List Issue) → shown ≡ h.issues.items → IsGenuine k.key p → Knows h.statements.entries (bearings shown) h.standings p
-knows_shown h k p keeping is shown shown_is genuine = record {
+-- the index knows the procap, which is sealed under the key of the history, and whose grant names no statements
+pub knows_shown : (h : Inside) (k : HistoryView) (p : Procap) → IsKeeping h → kept_by h ≡ k → (shown : List Issue) → shown ≡ h.issues.items → IsGenuine k.key p → p.grant.cited ≡ [] → Knows h.statements.entries (bearings shown) h.standings p
+knows_shown h k p keeping is shown shown_is genuine unnamed = record {
   key = h.key;
   indexed = subst (λ (is : List Issue). IsIndexOf h.key h.statements.entries (bearings is) h.standings) (sym shown_is) keeping.standings;
   genuine = subst (λ (v : HistoryView). IsGenuine v.key p) (sym is) genuine;
+  unnamed = unnamed;
 }
 
 -- what the index tells of a grant holds of the state

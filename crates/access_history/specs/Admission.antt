@@ -1,4 +1,5 @@
--- Which procap gives what is needed, and what denies it first (after procaps: Garg and Pfenning, A proof-carrying file system, 2010; the causes and their order are this project's own).
+-- Which procap gives what is needed, and what denies it first (after procaps: Garg and Pfenning, A
+-- proof-carrying file system, 2010; the causes and their order are this project's own).
 use Rattle.std.specs.Prelude.{◌≡◌, ◌+◌, ℕ, ℤ, List, [], ◌∷◌, ◌++◌, Option, Some, None, Contains}
 use Rattle.std.specs.List.{AllByRecursion}
 use Rattle.bl_syntax.specs.declared.grant.Goal.{Goal}
@@ -37,7 +38,8 @@ withdrawal_causes (Some number) = causes.Withdrawn number ∷ []
 abbrev pub denial_causes : BaseView → GrantView → List DenialCause
 denial_causes state g = causes.Seal ∷ causes.Principal ∷ causes.File ∷ causes.Permission ∷ (condition_causes g ++ withdrawal_causes (gone state g))
 
--- the procap passes the test of that name: it is sealed under the key, names what the goal names, its conditions hold at the moment in the state, and its grant is not gone
+-- the procap passes the test of that name: it is sealed under the key, names what the goal names,
+-- its conditions hold at the moment in the state, and its grant is not gone
 abbrev pub Passes : List ℕ → BaseView → ℤ → Goal → Procap → DenialCause → Type 0
 Passes key state moment goal p causes.Seal = IsGenuine key p
 Passes key state moment goal p causes.Principal = p.grant.goal.who ≡ goal.who
@@ -66,8 +68,10 @@ pub record IsNeedMet (key : List ℕ) (state : BaseView) (caller : List ℕ) (pr
 abbrev pub IsAdmitted : List ℕ → BaseView → List ℕ → Op → List Procap → ℤ → Type 0
 IsAdmitted key state caller op procaps moment = AllByRecursion (IsNeedMet key state caller procaps moment) (needs state.world op)
 
--- the first of these needs that is not met, by its place, and the cause for which the procap there denies it
-pub record IsDenied (key : List ℕ) (state : BaseView) (caller : List ℕ) (procaps : List Procap) (moment : ℤ) (wants : List Need) (place : ℕ) (cause : DenialCause) : Type 0 where
+-- the first of these needs that is not met, by its place, and the cause for which the procap there
+-- denies it
+pub record IsDenied (key : List ℕ) (state : BaseView) (caller : List ℕ) (procaps : List Procap)
+    (moment : ℤ) (wants : List Need) (place : ℕ) (cause : DenialCause) : Type 0 where
   pub index : ℕ
   pub need : Need
   pub first : IsFirstFailing (IsNeedMet key state caller procaps moment) wants index need

@@ -1,4 +1,5 @@
--- Whose signatures are accepted, and under which key procaps are sealed; statements with their signatures, and withdrawals (this project's own).
+-- Whose signatures are accepted, and under which key procaps are sealed; statements with their
+-- signatures, and withdrawals (this project's own).
 use Rattle.std.specs.Prelude.{◌<◌, ℕ, List, length, Bool, IsTrue, map, Contains}
 use Rattle.bl_syntax.specs.Statement.{StatementView, IsStatement}
 use Rattle.bl_syntax.specs.Grant.{GrantView}
@@ -33,7 +34,8 @@ pub record CanRegister (statements : List StatementView) (said : StatementView) 
   pub new : Contains statements said → ⊥
   pub room : length statements < 4096
 
--- the statement may be registered beside these: it may be said, its signature is accepted, and it can be added
+-- the statement may be registered beside these: it may be said, its signature is accepted, and it
+-- can be added
 pub record MayBeRegistered (authority : Authority) (entries : List RegisteredView) (said : StatementView) (signature : List ℕ) : Type 0 where
   pub statement : IsStatement said
   pub signed : IsSignedStatement authority said signature

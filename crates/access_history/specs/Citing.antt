@@ -1,4 +1,5 @@
--- Statements cited by their numbers; issues and withdrawals: what makes an issue good, and which may come next (this project's own).
+-- Statements cited by their numbers; issues and withdrawals: what makes an issue good, and which
+-- may come next (this project's own).
 use Rattle.std.specs.Prelude.{◌≡◌, ℕ, List, Some, map}
 use Rattle.std.specs.List.{AllByRecursion}
 use Rattle.bl_syntax.specs.FirstFailing.{IsFirstFailing}
@@ -49,7 +50,8 @@ pub record IsMoved (book : Book) (cites : List Cite) (number : ℕ) : Type 0 whe
 
 -- ---- issues
 
--- what a proof from the statements of these numbers grants: as it was proved, or naming them. The first form was issued once, and is read; it is issued no more
+-- what a proof from the statements of these numbers grants: as it was proved, or naming them. The
+-- first form was issued once, and is read; it is issued no more
 pub data IsGrantOf (proved : GrantView) (numbers : List ℕ) : GrantView → Type 0 where
   as_proved : IsGrantOf proved numbers proved
   naming : IsGrantOf proved numbers (record proved { cited = numbers })
@@ -58,13 +60,15 @@ pub data IsGrantOf (proved : GrantView) (numbers : List ℕ) : GrantView → Typ
 abbrev pub issued_grant : GrantView → List ℕ → GrantView
 issued_grant proved numbers = record proved { cited = numbers }
 
--- the grant is the verdict on the proof from what is cited, in one of the two forms. The verdict is sound: wherever its conditions hold, the logic derives from the cited statements what it grants
+-- the grant is the verdict on the proof from what is cited, in one of the two forms. The verdict is
+-- sound: wherever its conditions hold, the logic derives from the cited statements what it grants
 pub record IsGrantedFrom (cites : List Cite) (proof : ProofView) (g : GrantView) : Type 0 where
   pub proved : GrantView
   pub granted : IsGranted (statements_of cites) g.goal proof proved
   pub form : IsGrantOf proved (numbers_of cites) g
 
--- the issue cites 1 to 64 of the statements by strictly rising numbers, and its grant is granted by its proof from them
+-- the issue cites 1 to 64 of the statements by strictly rising numbers, and its grant is granted by
+-- its proof from them
 pub record IsGoodIssue (statements : List StatementView) (issue : Issue) : Type 0 where
   pub cites : List Cite
   pub cited : issue.cited ≡ numbers_of cites
@@ -79,7 +83,8 @@ pub record MayBeIssued (state : BaseView) (issue : Issue) : Type 0 where
 
 -- ---- withdrawals
 
--- the statement of the number may be withdrawn under the signature: it stands, and who said it signed its withdrawal
+-- the statement of the number may be withdrawn under the signature: it stands, and who said it
+-- signed its withdrawal
 pub record MayBeWithdrawn (authority : Authority) (book : Book) (number : ℕ) (signature : List ℕ) : Type 0 where
   pub statement : StatementView
   pub live : IsNumbered book number (Some statement)

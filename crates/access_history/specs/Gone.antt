@@ -4,7 +4,7 @@ use Rattle.std.specs.List.{AllByRecursion}
 use Rattle.bl_syntax.specs.Grant.{GrantView}
 use Rattle.policy_statement.specs.Withdrawal.{is_withdrawn}
 use Rattle.issue_standings.specs.Bearing.{BearingView}
-use Rattle.issue_standings.specs.Standing.{gone_by, standing_of}
+use Rattle.issue_standings.specs.GrantStanding.{gone_by, standing_of}
 use Rattle.access_history.specs.declared.event.Issue.{Issue}
 use Rattle.access_history.specs.Base.{BaseView}
 
@@ -15,7 +15,8 @@ bearing issue = record { grant = issue.grant; cited = issue.cited }
 abbrev pub bearings : List Issue → List BearingView
 bearings issues = map bearing issues
 
--- if there are issues with the grant and each of them cites a withdrawn number, the first withdrawn number that the last of them cites
+-- if there are issues with the grant and each of them cites a withdrawn number, the first withdrawn
+-- number that the last of them cites
 abbrev pub gone_by_issues : BaseView → GrantView → Option ℕ
 gone_by_issues state g = gone_by (standing_of (is_withdrawn state.statements) g (bearings state.issues))
 
@@ -23,7 +24,8 @@ gone_by_issues state g = gone_by (standing_of (is_withdrawn state.statements) g 
 abbrev pub gone_by_names : BaseView → List ℕ → Option ℕ
 gone_by_names state numbers = find (is_withdrawn state.statements) numbers
 
--- the number by which the grant is gone that names these statements; one that names none is gone by its issues
+-- the number by which the grant is gone that names these statements; one that names none is gone by
+-- its issues
 abbrev pub gone_naming : BaseView → GrantView → List ℕ → Option ℕ
 gone_naming state g [] = gone_by_issues state g
 gone_naming state g (number ∷ numbers) = gone_by_names state (number ∷ numbers)

@@ -1,4 +1,5 @@
--- What this server promises of the history that it keeps, and of each operation in it (after Garg and Pfenning, A proof-carrying file system, 2010; the form is this
+-- What this server promises of the history that it keeps, and of each operation in it (after Garg
+-- and Pfenning, A proof-carrying file system, 2010; the form is this
 -- project's own).
 use Rattle.std.specs.Prelude.{◌≡◌, ℕ, ℤ, List, ◌∷◌, ◌++◌, Contains}
 use Rattle.std.specs.List.{AllByRecursion}
@@ -19,8 +20,11 @@ use Rattle.access_history.specs.Books.{book_of, statements_in}
 use Rattle.access_history.specs.Replay.{replay}
 use Rattle.access_history.specs.Lawful.{IsLawful, WasIssued}
 
--- for a permission that the caller needs on a file, a procap was brought that is sealed under the key, names caller, file and permission, and whose conditions on time and on the state held in that state at
--- that moment; and if that procap was issued, the logic derives the permission from the statements that stood then, over the facts of that state, at that moment
+-- for a permission that the caller needs on a file, a procap was brought that is sealed under the
+-- key, names caller, file and permission, and whose conditions on time and on the state held in
+-- that state at
+-- that moment; and if that procap was issued, the logic derives the permission from the statements
+-- that stood then, over the facts of that state, at that moment
 pub record WasRightful (key : List ℕ) (state : BaseView) (caller : List ℕ) (procaps : List Procap) (moment : ℤ) (need : Need) : Type 0 where
   pub procap : Procap
   pub brought : IsNumbered procaps need.place procap
@@ -32,11 +36,14 @@ pub record WasRightful (key : List ℕ) (state : BaseView) (caller : List ℕ) (
   pub states_held : AllByRecursion (Contains (facts state.world)) procap.grant.states
   pub derivable : WasIssued state.issues procap.grant → Allows (statements_in (book_of state)) (facts state.world) moment caller need.file need.permission
 
--- The history of these events replays from its base to that world, which keeps its limits. And whichever operation in it is taken: over the state to which the events before it lead, and at its one
+-- The history of these events replays from its base to that world, which keeps its limits. And
+-- whichever operation in it is taken: over the state to which the events before it lead, and at its
+-- one
 -- moment, each permission that it needs was rightful.
 pub record Headline (authority : Authority) (base : BaseView) (events : List Event) (world : World) : Type 0 where
   pub lawful : IsLawful authority base events
   pub replays : (replay base events).world ≡ world
   pub tree : IsWorld world
-  pub rightful : (earlier later : List Event) (pass : ℕ) (caller : List ℕ) (op : Op) (procaps : List Procap) (moment : ℤ) → events ≡ earlier ++ Acted pass caller op procaps moment ∷ later →
+  pub rightful : (earlier later : List Event) (pass : ℕ) (caller : List ℕ) (op : Op) (procaps : List Procap) (moment : ℤ) →
+      events ≡ earlier ++ Acted pass caller op procaps moment ∷ later →
       let state = replay base earlier in AllByRecursion (WasRightful authority.key state caller procaps moment) (needs state.world op)

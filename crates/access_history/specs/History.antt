@@ -10,7 +10,8 @@ use Rattle.access_history.specs.Authority.{Authority}
 use Rattle.access_history.specs.Replay.{replay}
 pub use Rattle.access_history.specs.Replay.{addition_of}
 
--- the key of the seal, the ring of those whose signatures are accepted, the base, the events since, for how many events there is room, and what the world is ready to change
+-- the key of the seal, the ring of those whose signatures are accepted, the base, the events since,
+-- for how many events there is room, and what the world is ready to change
 pub record HistoryView : Type 0 where
   pub key : List ℕ
   pub ring : List KeyView

@@ -1,4 +1,5 @@
--- What has to hold of an event, and of what the state keeps of it, when it is kept (this project's own).
+-- What has to hold of an event, and of what the state keeps of it, when it is kept (this project's
+-- own).
 use Rattle.std.specs.Prelude.{◌<◌, List, length, IsSome}
 use Rattle.bl_syntax.specs.TimeOrder.{IsMoment}
 use Rattle.policy_statement.specs.Registered.{RegisteredView}

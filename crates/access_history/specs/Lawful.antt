@@ -1,4 +1,5 @@
--- Which histories are lawful: each event is one that the state before it allows (this project's own).
+-- Which histories are lawful: each event is one that the state before it allows (this project's
+-- own).
 use Rattle.std.specs.Prelude.{◌≡◌, ◌≤◌, ◌+◌, ◌-◌, ◌^◌, ◌≤ℤ◌, ℕ, ℤ, List, [], ◌∷◌, ◌++◌, length, Contains, None}
 use Rattle.std.specs.List.{AllByRecursion}
 use Rattle.bl_rules.specs.Allowed.{Allows}
@@ -29,10 +30,12 @@ pub record WasIssued (issues : List Issue) (g : GrantView) : Type 0 where
   pub among : Contains issues issue
   pub grant_is : issue.grant ≡ g
 
--- if the grant of the procap in the need's place was issued, the logic derives what the caller needs from the statements that stand, over the facts of the state, at that moment
+-- if the grant of the procap in the need's place was issued, the logic derives what the caller
+-- needs from the statements that stand, over the facts of the state, at that moment
 abbrev pub IsDerived : BaseView → List ℕ → List Procap → ℤ → Need → Type 0
 IsDerived state caller procaps moment need =
-    (p : Procap) → IsNumbered procaps need.place p → WasIssued state.issues p.grant → Allows (statements_in (book_of state)) (facts state.world) moment caller need.file need.permission
+    (p : Procap) → IsNumbered procaps need.place p → WasIssued state.issues p.grant →
+    Allows (statements_in (book_of state)) (facts state.world) moment caller need.file need.permission
 
 -- each need is derived
 abbrev pub AreDerived : BaseView → List ℕ → Op → List Procap → ℤ → Type 0
@@ -57,7 +60,9 @@ MayFollow authority state (Acted pass caller op procaps moment) = MayAct authori
 -- each event could come where it came
 pub data AreLawful (authority : Authority) (base : BaseView) : List Event → Type 0 where
   no_event : AreLawful authority base []
-  one_more : (events : List Event) (event : Event) → AreLawful authority base events → MayFollow authority (replay base events) event → AreLawful authority base (events ++ event ∷ [])
+  one_more : (events : List Event) (event : Event) → AreLawful authority base events →
+      MayFollow authority (replay base events) event →
+      AreLawful authority base (events ++ event ∷ [])
 
 -- a state that a history may begin with
 pub record IsLawfulBase (authority : Authority) (base : BaseView) : Type 0 where

@@ -3,7 +3,8 @@ use Rattle.std.specs.Prelude.{ℕ}
 use Rattle.access_history.specs.declared.event.Event.{Event}
 use Rattle.access_history.specs.declared.event.Event.TheVariants.{Registered, Withdrawn, Issued, Acted}
 
--- the number of the pass in whose turn the event was kept; it is 0 if the event was read from an area
+-- the number of the pass in whose turn the event was kept; it is 0 if the event was read from an
+-- area
 abbrev pub event_pass : Event → ℕ
 event_pass (Registered pass statement signature) = pass
 event_pass (Withdrawn pass number signature) = pass

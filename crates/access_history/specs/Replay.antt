@@ -38,7 +38,8 @@ addition_of (Acted pass caller op procaps moment) = additions.Operation
 
 -- the statements with what an event adds to them: one more, or one that is withdrawn now
 abbrev pub statements_with : List RegisteredView → Addition → List RegisteredView
-statements_with statements (additions.Statement statement signature) = statements ++ record { statement = statement; signature = signature; withdrawn = false } ∷ []
+statements_with statements (additions.Statement statement signature) = statements
+    ++ record { statement = statement; signature = signature; withdrawn = false } ∷ []
 statements_with statements (additions.Withdrawal number) = marked statements number
 statements_with statements _ = statements
 

@@ -11,7 +11,8 @@ use Rattle.file_world.specs.Needs.{slots, bytes_to_write}
 use Rattle.access_history.specs.declared.request.StepRequest.{StepRequest}
 use Rattle.access_history.specs.declared.request.StepRequest.TheVariants.{Register, Withdraw, Issue, Act, ShowProcap}
 
--- an operation comes with one procap for each of its slots, and brings at most 65,536 bytes to write
+-- an operation comes with one procap for each of its slots, and brings at most 65,536 bytes to
+-- write
 pub record BringsEnough (op : Op) (procaps : List Procap) : Type 0 where
   pub slots : length procaps ≡ slots op
   pub few_bytes : bytes_to_write op ≤ 65536
@@ -22,7 +23,8 @@ pub record IsWellFormedAct (caller : List ℕ) (op : Op) (procaps : List Procap)
   pub operation : IsOperation op
   pub brought : BringsEnough op procaps
 
--- a statement may be said; a proof was checked, and cites 1 to 64 statements by rising numbers; an operation is a principal's, with its procaps
+-- a statement may be said; a proof was checked, and cites 1 to 64 statements by rising numbers; an
+-- operation is a principal's, with its procaps
 abbrev pub IsWellFormed : StepRequest → Type 0
 IsWellFormed (Register statement signature) = IsStatement statement
 IsWellFormed (Withdraw number signature) = Unit {0}

@@ -180,7 +180,9 @@ impl History {
 
     /// The statement of that number, also if it was withdrawn; none exactly if no statement has it.
     pub fn statement(&self, number: u32) -> Option<&Statement>
-        ensures { let statements = sayings (state_of self.now).statements in MatchOption result (HasNone statements number) (λ statement. IsNumbered statements number statement.now) }
+        ensures { let statements = sayings (state_of self.now).statements
+            in MatchOption result (HasNone statements number) (λ statement.
+            IsNumbered statements number statement.now) }
     {
         let entries = self.statements.entries();
         if number == 0 || entries.len() < number as usize {
@@ -209,9 +211,11 @@ impl History {
         first_withdrawn(&self.statements, named)
     }
 
-    // The number of the withdrawn statement by which the grant of a sealed procap is gone, as its issues tell.
+    // The number of the withdrawn statement by which the grant of a sealed procap, which names no statements, is gone, as its
+    // issues tell.
     fn gone_by_issues(&self, procap: &Procap) -> Option<u32>
-        requires { IsGenuine self.now.key procap.now }
+        requires genuine { IsGenuine self.now.key procap.now }
+        requires unnamed { procap.now.grant.cited ≡ [] }
         ensures { result ≡ gone_by_issues (state_of self.now) procap.now.grant }
     {
         self.standings
@@ -251,7 +255,7 @@ impl History {
     }
 
     /// Each event is lawful where it came.
-    pub fn lawful(&self)
+    pub fn lemma_is_lawful(&self)
         ensures { IsLawful (authority_of self.now) self.now.base self.now.events }
     {
         let _ = &self.events;

@@ -68,7 +68,7 @@ pub fn add_to_state(
         }
         Addition::Withdrawal(number) => {
             statements.end(number);
-            standings.recount(statements, issues.as_slice());
+            standings.recount(statements, issues.as_slice(), number);
         }
         Addition::Issue(issue) => {
             standings.add(key, statements, issues.as_slice(), &issue);

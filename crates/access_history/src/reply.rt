@@ -30,8 +30,8 @@ pub enum DenialCause {
     Time(u32, Constraint),
     /// A condition on the server's state does not hold.
     State(u32, StatePred),
-    /// It was issued, and each issue of its grant cites a withdrawn statement: the first that the last of them cites has
-    /// this number.
+    /// It was issued, and rests on a withdrawn statement: this is the first number that its grant names whose statement was
+    /// withdrawn; or, if it names none, the first such number that the last of its issues cites, each of which cites one.
     Withdrawn(u32),
 }
 

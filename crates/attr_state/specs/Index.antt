@@ -40,18 +40,22 @@ AreSorted attributes = IsStrictlySortedBy (slice_cmp nat_cmp) (keys_of attribute
 abbrev pub IsMarkAt : Attributes → List ℕ → ℕ → Type 0
 IsMarkAt [] name place = ⊥
 IsMarkAt (attribute ∷ attributes) name zero = attribute.0 ≡ name
-IsMarkAt (attribute ∷ attributes) name (suc place) = (slice_cmp nat_cmp attribute.0 name ≡ Less) × IsMarkAt attributes name place
+IsMarkAt (attribute ∷ attributes) name (suc place) = (slice_cmp nat_cmp attribute.0 name ≡ Less) ×
+    IsMarkAt attributes name place
 
--- an attribute of that name would go to that place: those before it have lesser names, those from it on greater ones
+-- an attribute of that name would go to that place: those before it have lesser names, those from
+-- it on greater ones
 abbrev pub IsGap : Attributes → List ℕ → ℕ → Type 0
 IsGap attributes name zero = AllByRecursion (λ other. slice_cmp nat_cmp name other ≡ Less) (keys_of attributes)
 IsGap [] name (suc place) = ⊥
-IsGap (attribute ∷ attributes) name (suc place) = (slice_cmp nat_cmp attribute.0 name ≡ Less) × IsGap attributes name place
+IsGap (attribute ∷ attributes) name (suc place) = (slice_cmp nat_cmp attribute.0 name ≡ Less) ×
+    IsGap attributes name place
 
 -- the numbers rise, and so do the names of each node's attributes
 pub record AreOrdered (entries : MarkEntries) : Type 0 where
   pub rising : IsStrictlySortedBy nat_cmp (keys_of entries)
-  pub sorted : (number : ℕ) (kept : Kept) → kept_at entries number ≡ Some kept → AreSorted kept.attributes.items
+  pub sorted : (number : ℕ) (kept : Kept) → kept_at entries number ≡ Some kept →
+      AreSorted kept.attributes.items
 
 -- the marks without one that is only ready to be made
 abbrev pub current : Option MetaReady → MarkEntries → MarkEntries

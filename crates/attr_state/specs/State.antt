@@ -1,4 +1,5 @@
--- What contracts see of owners and attributes: the marks of the nodes, and for which change they are ready.
+-- What contracts see of owners and attributes: the marks of the nodes, and for which change they
+-- are ready.
 use Rattle.std.specs.Prelude.{◌≡◌, ℕ, List, length, map, Option, Some, None, Result, Ok, Err}
 use Rattle.file_world.specs.declared.operation.MetaOp.{MetaOp}
 use Rattle.file_world.specs.declared.operation.MetaOp.TheVariants.{Get, Set, Remove, Chown, Add, Drop, Move}
@@ -32,10 +33,13 @@ pub record IsMetaReady (state : MetaView) (op : MetaOp) : Type 0 where
   pub free : meta_refusal state.marks op ≡ None
   pub ready : state.ready ≡ Some (ready_for state.marks op)
 
--- the operation got its reply and is ready; or it is refused, and its first refusal is reported; or out of memory
+-- the operation got its reply and is ready; or it is refused, and its first refusal is reported; or
+-- out of memory
 abbrev pub ReservesMeta : Marks → MetaOp → Result MetaReply OpFault → Option MetaReady → Type 0
-ReservesMeta marks op (Ok reply) ready = (meta_refusal marks op ≡ None) × (reply ≡ meta_reply marks op) × (ready ≡ Some (ready_for marks op))
-ReservesMeta marks op (Err (Refused refusal)) ready = (meta_refusal marks op ≡ Some refusal) × (ready ≡ None)
+ReservesMeta marks op (Ok reply) ready = (meta_refusal marks op ≡ None) ×
+    (reply ≡ meta_reply marks op) × (ready ≡ Some (ready_for marks op))
+ReservesMeta marks op (Err (Refused refusal)) ready = (meta_refusal marks op ≡ Some refusal) ×
+    (ready ≡ None)
 ReservesMeta marks op (Err NoMemory) ready = (meta_refusal marks op ≡ None) × (ready ≡ None)
 
 -- the number of each node, and that of its directory

@@ -1,4 +1,5 @@
--- The fields of formulas by their tags: those without formulas in them, and how the others are put together.
+-- The fields of formulas by their tags: those without formulas in them, and how the others are put
+-- together.
 use Rattle.std.specs.Prelude.{ℕ, List, Bool, nat_le, ◌==◌, ◌&&◌, ◌||◌, if◌then◌else◌, Ok}
 use Rattle.bl_syntax.specs.declared.terms.Sort.{Sort}
 use Rattle.bl_syntax.specs.declared.terms.StatePred.TheVariants.{Owner, HasXattr, InDir}

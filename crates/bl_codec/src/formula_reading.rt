@@ -243,7 +243,10 @@ fn pair_at(
     left: u16,
     bytes: &[u8],
 ) -> Result<(Box<Formula>, Box<Formula>, u16, &[u8]), CodecFault>
-    ensures { GivesReadingOrReports (λ x. ((formula_view x.0.value, formula_view x.1.value), (x.2, x.3.now))) result (pair_at (λ n rest. formula_at input depth n rest) left bytes.now) }
+    ensures { GivesReadingOrReports (λ x. (
+      (formula_view x.0.value, formula_view x.1.value),
+      (x.2, x.3.now),
+    )) result (pair_at (λ n rest. formula_at input depth n rest) left bytes.now) }
 {
     match formula_at(alloc, input, depth, left, bytes) {
         Err(fault) => Err(fault),
@@ -264,7 +267,8 @@ fn binder_at(
     left: u16,
     bytes: &[u8],
 ) -> Result<(Sort, Box<Formula>, u16, &[u8]), CodecFault>
-    ensures { GivesReadingOrReports (λ x. ((x.0, formula_view x.1.value), (x.2, x.3.now))) result (binder_at (λ n rest. formula_at input depth n rest) input left bytes.now) }
+    ensures { GivesReadingOrReports (λ x. ((x.0, formula_view x.1.value), (x.2, x.3.now))) result
+        (binder_at (λ n rest. formula_at input depth n rest) input left bytes.now) }
 {
     let (sort, rest) = sort_at(input, bytes)?;
     match formula_at(alloc, input, depth, left, rest) {
@@ -283,7 +287,8 @@ fn says_at(
     left: u16,
     bytes: &[u8],
 ) -> Result<(Box<Formula>, u16, &[u8]), CodecFault>
-    ensures { GivesReadingOrReports (λ x. (formula_view x.0.value, (x.1, x.2.now))) result (says_at (λ n rest. formula_at input depth n rest) input left bytes.now) }
+    ensures { GivesReadingOrReports (λ x. (formula_view x.0.value, (x.1, x.2.now))) result
+        (says_at (λ n rest. formula_at input depth n rest) input left bytes.now) }
 {
     match node_term_at(input, left, bytes) {
         Err(fault) => Err(fault),
@@ -304,7 +309,8 @@ fn on_at(
     left: u16,
     bytes: &[u8],
 ) -> Result<(Box<Formula>, u16, &[u8]), CodecFault>
-    ensures { GivesReadingOrReports (λ x. (formula_view x.0.value, (x.1, x.2.now))) result (on_at (λ n rest. formula_at input depth n rest) input left bytes.now) }
+    ensures { GivesReadingOrReports (λ x. (formula_view x.0.value, (x.1, x.2.now))) result
+        (on_at (λ n rest. formula_at input depth n rest) input left bytes.now) }
 {
     match formula_at(alloc, input, depth, left, bytes) {
         Err(fault) => Err(fault),
@@ -326,7 +332,8 @@ fn fields_at(
     tag: u8,
     rest: &[u8],
 ) -> Result<(Box<Formula>, u16, &[u8]), CodecFault>
-    ensures { GivesReadingOrReports (λ x. (formula_view x.0.value, (x.1, x.2.now))) result (fields_at (λ n rest. formula_at input depth n rest) input left tag rest.now) }
+    ensures { GivesReadingOrReports (λ x. (formula_view x.0.value, (x.1, x.2.now))) result
+        (fields_at (λ n rest. formula_at input depth n rest) input left tag rest.now) }
 {
     if is_leaf_tag(tag) {
         return leaf_at(alloc, input, left, tag, rest);
@@ -355,7 +362,8 @@ fn node_at(
     left: u16,
     bytes: &[u8],
 ) -> Result<(Box<Formula>, u16, &[u8]), CodecFault>
-    ensures { GivesReadingOrReports (λ x. (formula_view x.0.value, (x.1, x.2.now))) result (node_at (λ n rest. formula_at input depth n rest) input left bytes.now) }
+    ensures { GivesReadingOrReports (λ x. (formula_view x.0.value, (x.1, x.2.now))) result
+        (node_at (λ n rest. formula_at input depth n rest) input left bytes.now) }
 {
     match bytes {
         [] => Err(CodecFault::Short),

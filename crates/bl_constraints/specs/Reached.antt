@@ -1,4 +1,5 @@
--- Where chains lead by constraints, as a stack of them keeps it: of each, where they led by those before it. It is this project's own.
+-- Where chains lead by constraints, as a stack of them keeps it: of each, where they led by those
+-- before it. It is this project's own.
 use Rattle.std.specs.Prelude.{◌≡◌, ◌≤◌, ◌↔◌, ℕ, List, [], ◌∷◌, ◌++◌, map, take, length, Some, IsTrue}
 use Rattle.std.specs.List.{slice_get}
 use Rattle.bl_syntax.specs.declared.terms.TimePoint.{TimePoint}
@@ -53,7 +54,8 @@ constraints_of items = map (λ (item : Tracked). item.constraint) items
 -- so it is of each
 pub record AreTracked (items : List Tracked) : Type 0 where
   pub few : length items ≤ 512
-  pub each : (place : ℕ) (item : Tracked) → slice_get items place ≡ Some item → IsTracked (take place (constraints_of items)) item
+  pub each : (place : ℕ) (item : Tracked) → slice_get items place ≡ Some item →
+      IsTracked (take place (constraints_of items)) item
 
 -- the latest constant from which a chain leads to the term
 pub record IsLatestStart (psi : List Constraint) (t : Term) (latest : TimePoint) : Type 0 where

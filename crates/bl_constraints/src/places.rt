@@ -35,7 +35,8 @@ impl Places {
 
     /// Adds all places of the other.
     pub fn add_all(&mut self, other: &Places)
-        ensures { (k : ℕ) → HasPlace self.new.words k ↔ (HasPlace self.old.words k ⊎ HasPlace other.now.words k) }
+        ensures { (k : ℕ) →
+            HasPlace self.new.words k ↔ (HasPlace self.old.words k ⊎ HasPlace other.now.words k) }
     {
         for word in 0..8 {
             self.words[word] |= other.words[word];

@@ -87,19 +87,19 @@ IsSimple-guard (exists_ s a) guard = absurd guard
 IsSimple-guard (says k a) guard = absurd guard
 IsSimple-guard (on a u v) guard = absurd guard
 
-IsMet-follows : (known : Known) (g : FormulaView) (u v : Term) → IsGuard g → FollowsFromClauses known g u v → IsGuardMet known.constraints known.facts g
-IsMet-follows known (atom name terms) u v guard h = absurd guard
-IsMet-follows known (compare c) u v guard h = h
-IsMet-follows known (state s) u v guard h = h
-IsMet-follows known (both a b) u v guard h = (IsMet-follows known a u v guard.0 h.0, IsMet-follows known b u v guard.1 h.1)
-IsMet-follows known (either a b) u v guard h = ⊎_elim (λ left. inl (IsMet-follows known a u v guard.0 left)) (λ right. inr (IsMet-follows known b u v guard.1 right)) h
-IsMet-follows known (implies a b) u v guard h = absurd guard
-IsMet-follows known truth u v guard h = tt
-IsMet-follows known falsity u v guard h = h
-IsMet-follows known (forall_ s a) u v guard h = absurd guard
-IsMet-follows known (exists_ s a) u v guard h = absurd guard
-IsMet-follows known (says k a) u v guard h = absurd guard
-IsMet-follows known (on a u v) x y guard h = absurd guard
+IsGuardMet-follows : (known : Known) (g : FormulaView) (u v : Term) → IsGuard g → FollowsFromClauses known g u v → IsGuardMet known.constraints known.facts g
+IsGuardMet-follows known (atom name terms) u v guard h = absurd guard
+IsGuardMet-follows known (compare c) u v guard h = h
+IsGuardMet-follows known (state s) u v guard h = h
+IsGuardMet-follows known (both a b) u v guard h = (IsGuardMet-follows known a u v guard.0 h.0, IsGuardMet-follows known b u v guard.1 h.1)
+IsGuardMet-follows known (either a b) u v guard h = ⊎_elim (λ left. inl (IsGuardMet-follows known a u v guard.0 left)) (λ right. inr (IsGuardMet-follows known b u v guard.1 right)) h
+IsGuardMet-follows known (implies a b) u v guard h = absurd guard
+IsGuardMet-follows known truth u v guard h = tt
+IsGuardMet-follows known falsity u v guard h = h
+IsGuardMet-follows known (forall_ s a) u v guard h = absurd guard
+IsGuardMet-follows known (exists_ s a) u v guard h = absurd guard
+IsGuardMet-follows known (says k a) u v guard h = absurd guard
+IsGuardMet-follows known (on a u v) x y guard h = absurd guard
 
 Follows-from_clauses : {known : Known} {goal : FormulaView} {u v : Term} → Derivable known goal u v
     → (source : Known) → IsFrom source known → AssumesClauses source → IsSimple goal → FollowsFromClauses source goal u v
@@ -130,7 +130,7 @@ Follows-from_clauses (false_l first last among) source from clauses simple = abs
 Follows-from_clauses {known = known} (imp_l a b first last x y among x_time y_time begins ends left right) source from clauses simple =
     let is_true : IsTrueOn source (implies a b) first last = from.hypotheses (holds (implies a b) first last) among in
     let guard = (clause_true source (implies a b) first last clauses is_true).0 in
-    let met = IsMet-follows source a x y guard (Follows-from_clauses left source from clauses (IsSimple-guard a guard)) in
+    let met = IsGuardMet-follows source a x y guard (Follows-from_clauses left source from clauses (IsSimple-guard a guard)) in
     Follows-from_clauses right source
     (IsFrom-learn source known b x y from (conditional b x y a first last is_true met
     (subst (λ (sorts : List Sort). HasSort sorts [] sort.Time x) from.sorts x_time) (subst (λ (sorts : List Sort). HasSort sorts [] sort.Time y) from.sorts y_time)

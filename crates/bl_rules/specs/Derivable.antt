@@ -1,7 +1,9 @@
--- What is derivable: the sequent calculus of this project's profile of BL (after Garg, Proof theory for authorization logic and its application to a practical file system; Garg
+-- What is derivable: the sequent calculus of this project's profile of BL (after Garg, Proof theory
+-- for authorization logic and its application to a practical file system; Garg
 -- and Pfenning, A proof-carrying file system, 2010).
 --
--- Right rules and the initial rule go by the goal, left rules by a hypothesis, which stays. Each rule is named as in the table of proof rules; what it adds goes to the ends of
+-- Right rules and the initial rule go by the goal, left rules by a hypothesis, which stays. Each
+-- rule is named as in the table of proof rules; what it adds goes to the ends of
 -- lists, as a proof numbers it.
 use Rattle.std.specs.Prelude.{ℕ, List, [], Contains}
 use Rattle.bl_syntax.specs.declared.terms.Sort.{Sort}
@@ -24,7 +26,8 @@ Assumes known hypothesis = Contains known.hypotheses hypothesis
 abbrev pub IsNotAfter : Known → Term → Term → Type 0
 IsNotAfter known u v = Entails known.constraints u v
 
--- the term is in scope and has this sort: it holds no bound variable, and a parameter in it is declared
+-- the term is in scope and has this sort: it holds no bound variable, and a parameter in it is
+-- declared
 abbrev pub IsOfSort : Known → Sort → Term → Type 0
 IsOfSort known s t = HasSort known.sorts [] s t
 
@@ -32,7 +35,8 @@ IsOfSort known s t = HasSort known.sorts [] s t
 pub data Derivable : Known → FormulaView → Term → Term → Type 0 where
   -- an atom is derivable if a truth of it is known on an interval that holds the goal's
   init : {known : Known} {name : List ℕ} {terms : List Term} {u v : Term} (from to : Term)
-      → Assumes known (holds (atom name terms) from to) → IsNotAfter known from u → IsNotAfter known v to
+      → Assumes known (holds (atom name terms) from to) → IsNotAfter known from u
+      → IsNotAfter known v to
       → Derivable known (atom name terms) u v
   -- a constraint is derivable if the constraints entail it
   cons_r : {known : Known} {c : Constraint} {u v : Term}
@@ -55,7 +59,8 @@ pub data Derivable : Known → FormulaView → Term → Term → Type 0 where
       → Derivable known (either a b) u v
   true_r : {known : Known} {u v : Term}
       → Derivable known truth u v
-  -- A => B: on an interval of which nothing more is known than that it lies within the goal's, from A there B there
+  -- A => B: on an interval of which nothing more is known than that it lies within the goal's, from
+  -- A there B there
   imp_r : {known : Known} {a b : FormulaView} {u v : Term}
       → Derivable (suppose a u v known) b (new_start known) (new_end known)
       → Derivable known (implies a b) u v
@@ -93,16 +98,19 @@ pub data Derivable : Known → FormulaView → Term → Term → Type 0 where
   -- from A | B: the goal from either
   or_l : {known : Known} {goal : FormulaView} {u v : Term} (a b : FormulaView) (from to : Term)
       → Assumes known (holds (either a b) from to)
-      → Derivable (learn (holds a from to) known) goal u v → Derivable (learn (holds b from to) known) goal u v
+      → Derivable (learn (holds a from to) known) goal u v
+      → Derivable (learn (holds b from to) known) goal u v
       → Derivable known goal u v
   -- from false: any goal
   false_l : {known : Known} {goal : FormulaView} {u v : Term} (from to : Term)
       → Assumes known (holds falsity from to)
       → Derivable known goal u v
-  -- from A => B: on an interval [x,y] within that of the truth, if A is derivable there, the goal from B there
+  -- from A => B: on an interval [x,y] within that of the truth, if A is derivable there, the goal
+  -- from B there
   imp_l : {known : Known} {goal : FormulaView} {u v : Term} (a b : FormulaView) (from to x y : Term)
       → Assumes known (holds (implies a b) from to)
-      → IsOfSort known Time x → IsOfSort known Time y → IsNotAfter known from x → IsNotAfter known y to
+      → IsOfSort known Time x → IsOfSort known Time y → IsNotAfter known from x
+      → IsNotAfter known y to
       → Derivable known a x y → Derivable (learn (holds b x y) known) goal u v
       → Derivable known goal u v
   -- from forall: the instance at some term of the sort
@@ -121,10 +129,12 @@ pub data Derivable : Known → FormulaView → Term → Term → Type 0 where
       → Assumes known (holds (says k a) from to)
       → Derivable (learn (claims k a from to) known) goal u v
       → Derivable known goal u v
-  -- from a claim: its formula is a truth on the same interval, where who claims it is at least as strong as the view's principal and that interval holds the view's
+  -- from a claim: its formula is a truth on the same interval, where who claims it is at least as
+  -- strong as the view's principal and that interval holds the view's
   claim : {known : Known} {goal : FormulaView} {u v : Term} (k : Term) (a : FormulaView) (from to : Term)
       → Assumes known (claims k a from to)
-      → IsAtLeastAsStrong k known.view.who → IsNotAfter known from known.view.from → IsNotAfter known known.view.to to
+      → IsAtLeastAsStrong k known.view.who → IsNotAfter known from known.view.from
+      → IsNotAfter known known.view.to to
       → Derivable (learn (holds a from to) known) goal u v
       → Derivable known goal u v
   -- from A @ [x,y]: A on that interval, whatever the truth's is

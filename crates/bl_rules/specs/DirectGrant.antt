@@ -1,4 +1,5 @@
--- What one statement grants outright: its body is the goal, and who says it speaks for `admin`. This project's own.
+-- What one statement grants outright: its body is the goal, and who says it speaks for `admin`.
+-- This project's own.
 use Rattle.std.specs.Prelude.{ℕ, List, [], ◌∷◌, ◌++◌}
 use Rattle.bl_syntax.specs.declared.terms.TimePoint.{TimePoint}
 use Rattle.bl_syntax.specs.declared.terms.TimePoint.TheVariants.{NegInf, At, PosInf}

@@ -37,7 +37,8 @@ policy_for_employees file permission =
     forall_ sorts.Principal (implies (says (Prin hr) (employee (Bound 0))) (atom may (Bound 0 ∷ File file ∷ Perm permission ∷ [])))
 
 -- `admin` states this without limit, and `hr`, for a time, that somebody is an employee
-abbrev pub statements_on_employees : NodeId → Permission → List ℕ → TimePoint → TimePoint → List StatementView
+abbrev pub statements_on_employees : NodeId → Permission → List ℕ → TimePoint → TimePoint →
+    List StatementView
 statements_on_employees file permission person from to =
     statement_view admin_name (policy_for_employees file permission) NegInf PosInf ∷ statement_view hr (employee (Prin person)) from to ∷ []
 

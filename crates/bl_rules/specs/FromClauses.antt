@@ -1,5 +1,7 @@
--- What is derivable where all that is assumed are clauses, atoms that may stand after conditions on the state and on times: no left rules apply then but those for claims and for
--- implications, and what is derivable can be read off the goal. It is this project's own, a second account of a part of the logic to hold the rules against.
+-- What is derivable where all that is assumed are clauses, atoms that may stand after conditions on
+-- the state and on times: no left rules apply then but those for claims and for
+-- implications, and what is derivable can be read off the goal. It is this project's own, a second
+-- account of a part of the logic to hold the rules against.
 use Rattle.std.specs.Prelude.{◌≡◌, ◌⊎◌, ℤ, List, [], Contains}
 use Rattle.bl_syntax.specs.declared.terms.TimePoint.TheVariants.{At}
 use Rattle.bl_syntax.specs.declared.terms.Sort.TheVariants.{Time}
@@ -35,8 +37,10 @@ abbrev pub IsGuardMet : List Constraint → List StatePred → FormulaView → T
 IsGuardMet constraints facts (atom name terms) = ⊥
 IsGuardMet constraints facts (compare c) = Entails constraints c.low c.high
 IsGuardMet constraints facts (state s) = Contains facts s
-IsGuardMet constraints facts (both a b) = IsGuardMet constraints facts a × IsGuardMet constraints facts b
-IsGuardMet constraints facts (either a b) = IsGuardMet constraints facts a ⊎ IsGuardMet constraints facts b
+IsGuardMet constraints facts (both a b) = IsGuardMet constraints facts a
+    × IsGuardMet constraints facts b
+IsGuardMet constraints facts (either a b) = IsGuardMet constraints facts a
+    ⊎ IsGuardMet constraints facts b
 IsGuardMet constraints facts (implies a b) = ⊥
 IsGuardMet constraints facts truth = Unit {0}
 IsGuardMet constraints facts falsity = ⊥
@@ -84,14 +88,20 @@ IsSimple (exists_ s a) = ⊥
 IsSimple (says k a) = IsSimple a
 IsSimple (on a u v) = IsSimple a
 
--- the formula is true from one time to another: it is assumed; or claimed by a principal at least as strong as the view's, on an interval that holds the view's; or it stands after
+-- the formula is true from one time to another: it is assumed; or claimed by a principal at least
+-- as strong as the view's, on an interval that holds the view's; or it stands after
 -- a condition that is met, in a formula that is true on an interval that holds this one
 pub data IsTrueOn (known : Known) : FormulaView → Term → Term → Type 0 where
-  assumed : (a : FormulaView) (from to : Term) → Assumes known (holds a from to) → IsTrueOn known a from to
-  claimed : (a : FormulaView) (from to k : Term) → Assumes known (claims k a from to) → IsAtLeastAsStrong k known.view.who
-      → IsNotAfter known from known.view.from → IsNotAfter known known.view.to to → IsTrueOn known a from to
-  conditional : (a : FormulaView) (from to : Term) (guard : FormulaView) (first last : Term) → IsTrueOn known (implies guard a) first last → IsGuardMet known.constraints known.facts guard
-      → IsOfSort known Time from → IsOfSort known Time to → IsNotAfter known first from → IsNotAfter known to last → IsTrueOn known a from to
+  assumed : (a : FormulaView) (from to : Term) → Assumes known (holds a from to)
+      → IsTrueOn known a from to
+  claimed : (a : FormulaView) (from to k : Term) → Assumes known (claims k a from to)
+      → IsAtLeastAsStrong k known.view.who
+      → IsNotAfter known from known.view.from → IsNotAfter known known.view.to to
+      → IsTrueOn known a from to
+  conditional : (a : FormulaView) (from to : Term) (guard : FormulaView) (first last : Term)
+      → IsTrueOn known (implies guard a) first last → IsGuardMet known.constraints known.facts guard
+      → IsOfSort known Time from → IsOfSort known Time to → IsNotAfter known first from
+      → IsNotAfter known to last → IsTrueOn known a from to
 
 -- it is so on an interval that holds this one
 pub record IsTrueWithin (known : Known) (a : FormulaView) (u v : Term) : Type 0 where
@@ -106,8 +116,10 @@ abbrev pub FollowsFromClauses : Known → FormulaView → Term → Term → Type
 FollowsFromClauses known (atom name terms) u v = IsTrueWithin known (atom name terms) u v
 FollowsFromClauses known (compare c) u v = IsNotAfter known c.low c.high
 FollowsFromClauses known (state s) u v = Contains known.facts s
-FollowsFromClauses known (both a b) u v = FollowsFromClauses known a u v × FollowsFromClauses known b u v
-FollowsFromClauses known (either a b) u v = FollowsFromClauses known a u v ⊎ FollowsFromClauses known b u v
+FollowsFromClauses known (both a b) u v = FollowsFromClauses known a u v
+    × FollowsFromClauses known b u v
+FollowsFromClauses known (either a b) u v = FollowsFromClauses known a u v
+    ⊎ FollowsFromClauses known b u v
 FollowsFromClauses known (implies a b) u v = ⊥
 FollowsFromClauses known truth u v = Unit {0}
 FollowsFromClauses known falsity u v = ⊥
@@ -116,7 +128,8 @@ FollowsFromClauses known (exists_ s a) u v = ⊥
 FollowsFromClauses known (says k a) u v = FollowsFromClauses (speak k u v known) a u v
 FollowsFromClauses known (on a from to) u v = FollowsFromClauses known a from to
 
--- the clause yields the formula, over these facts: it is that formula, after conditions that are met
+-- the clause yields the formula, over these facts: it is that formula, after conditions that are
+-- met
 abbrev pub Yields : List StatePred → FormulaView → FormulaView → Type 0
 Yields facts (atom name terms) goal = atom name terms ≡ goal
 Yields facts (compare c) goal = ⊥
@@ -131,7 +144,8 @@ Yields facts (exists_ s a) goal = ⊥
 Yields facts (says k a) goal = ⊥
 Yields facts (on a u v) goal = ⊥
 
--- a principal that speaks for `admin` states a clause that yields the formula, on an interval that holds the moment
+-- a principal that speaks for `admin` states a clause that yields the formula, on an interval that
+-- holds the moment
 pub record IsYielded (statements : List StatementView) (facts : List StatePred) (moment : ℤ) (goal : FormulaView) : Type 0 where
   pub statement : StatementView
   pub among : Contains statements statement

@@ -1,5 +1,7 @@
--- A plain meaning of formulas, to hold the rules against: intervals are pairs of times, implications and quantifiers are what they are in mathematics, and `K says A` is that A is
--- true in each world that is as K would have it over the interval. It is this project's own, after the usual models of modal logics.
+-- A plain meaning of formulas, to hold the rules against: intervals are pairs of times,
+-- implications and quantifiers are what they are in mathematics, and `K says A` is that A is
+-- true in each world that is as K would have it over the interval. It is this project's own, after
+-- the usual models of modal logics.
 use Rattle.std.specs.Prelude.{◌≡◌, ◌⊎◌, ◌<◌, ℕ, zero, suc, ℤ, List, [], ◌∷◌, map, length, Contains, Bool, IsTrue, Some}
 use Rattle.std.specs.List.{AllByRecursion, slice_get}
 use Rattle.bl_syntax.specs.declared.terms.Sort.{Sort}
@@ -17,17 +19,21 @@ use Rattle.bl_syntax.specs.WellSorted.{terms_of_state}
 use Rattle.bl_syntax.specs.Statement.{AllTerms}
 use Rattle.bl_rules.specs.Sequent.{Hypothesis, holds, claims, Known}
 
--- a model: when it is; which atoms are true in which world on which intervals, and on each within; which predicates on the state are facts; and which worlds are as a principal
--- would have them over an interval, where all that heeds the one heeds those who are at least as strong, over each longer interval
+-- a model: when it is; which atoms are true in which world on which intervals, and on each within;
+-- which predicates on the state are facts; and which worlds are as a principal
+-- would have them over an interval, where all that heeds the one heeds those who are at least as
+-- strong, over each longer interval
 pub record Model : Type 0 where
   pub moment : ℤ
   pub is_true : ℕ → List ℕ → List Term → TimePoint → TimePoint → Bool
   pub is_fact : StatePred → Bool
   pub heeds : ℕ → Term → TimePoint → TimePoint → Bool
   pub true_within : (world : ℕ) (name : List ℕ) (terms : List Term) (u v x y : TimePoint)
-      → IsTrue (is_true world name terms u v) → IsUpTo u x → IsUpTo y v → IsTrue (is_true world name terms x y)
+      → IsTrue (is_true world name terms u v) → IsUpTo u x → IsUpTo y v
+      → IsTrue (is_true world name terms x y)
   pub heeds_stronger : (world : ℕ) (k other : Term) (u v b e : TimePoint)
-      → IsAtLeastAsStrong k other → IsUpTo u b → IsUpTo e v → IsTrue (heeds world other b e) → IsTrue (heeds world k u v)
+      → IsAtLeastAsStrong k other → IsUpTo u b → IsUpTo e v → IsTrue (heeds world other b e)
+      → IsTrue (heeds world k u v)
 
 -- what the parameters stand for
 abbrev pub Values : Type 0
@@ -79,16 +85,22 @@ abbrev pub IsTrueIn : Model → Values → List Term → ℕ → FormulaView →
 IsTrueIn m params bounds world (atom name terms) u v = IsTrue (m.is_true world name (map (value m params bounds) terms) u v)
 IsTrueIn m params bounds world (compare c) u v = IsUpTo (time_value m params bounds c.low) (time_value m params bounds c.high)
 IsTrueIn m params bounds world (state s) u v = IsTrue (m.is_fact (state_value m params bounds s))
-IsTrueIn m params bounds world (both a b) u v = IsTrueIn m params bounds world a u v × IsTrueIn m params bounds world b u v
-IsTrueIn m params bounds world (either a b) u v = IsTrueIn m params bounds world a u v ⊎ IsTrueIn m params bounds world b u v
+IsTrueIn m params bounds world (both a b) u v = IsTrueIn m params bounds world a u v
+    × IsTrueIn m params bounds world b u v
+IsTrueIn m params bounds world (either a b) u v = IsTrueIn m params bounds world a u v
+    ⊎ IsTrueIn m params bounds world b u v
 IsTrueIn m params bounds world (implies a b) u v =
-    (x y : TimePoint) → IsUpTo u x → IsUpTo y v → IsTrueIn m params bounds world a x y → IsTrueIn m params bounds world b x y
+    (x y : TimePoint) → IsUpTo u x → IsUpTo y v → IsTrueIn m params bounds world a x y
+    → IsTrueIn m params bounds world b x y
 IsTrueIn m params bounds world truth u v = Unit {0}
 IsTrueIn m params bounds world falsity u v = ⊥
-IsTrueIn m params bounds world (forall_ s a) u v = (t : Term) → IsConstantOf s t → IsTrueIn m params (t ∷ bounds) world a u v
-IsTrueIn m params bounds world (exists_ s a) u v = (t : Term) × IsConstantOf s t × IsTrueIn m params (t ∷ bounds) world a u v
+IsTrueIn m params bounds world (forall_ s a) u v = (t : Term) → IsConstantOf s t
+    → IsTrueIn m params (t ∷ bounds) world a u v
+IsTrueIn m params bounds world (exists_ s a) u v = (t : Term) × IsConstantOf s t
+    × IsTrueIn m params (t ∷ bounds) world a u v
 IsTrueIn m params bounds world (says k a) u v =
-    (other : ℕ) → IsTrue (m.heeds other (value m params bounds k) u v) → IsTrueIn m params bounds other a u v
+    (other : ℕ) → IsTrue (m.heeds other (value m params bounds k) u v)
+    → IsTrueIn m params bounds other a u v
 IsTrueIn m params bounds world (on a from to) u v = IsTrueIn m params bounds world a (time_value m params bounds from) (time_value m params bounds to)
 
 -- the hypothesis is true in the world; a claim is what its principal says, in whatever world
@@ -96,12 +108,16 @@ abbrev pub IsTrueHypothesis : Model → Values → ℕ → Hypothesis → Type 0
 IsTrueHypothesis m params world (holds a u v) = IsTrueIn m params [] world a (time_value m params [] u) (time_value m params [] v)
 IsTrueHypothesis m params world (claims k a u v) = IsTrueIn m params [] world (says k a) (time_value m params [] u) (time_value m params [] v)
 
--- all that is known is true in the world, and the world heeds the view's principal over the view's interval
+-- all that is known is true in the world, and the world heeds the view's principal over the view's
+-- interval
 pub record IsTrueKnown (m : Model) (params : Values) (world : ℕ) (known : Known) : Type 0 where
   pub sorts : (n : ℕ) (s : Sort) → slice_get known.sorts n ≡ Some s → IsConstantOf s (params n)
-  pub constraints : (c : Constraint) → Contains known.constraints c → IsUpTo (time_value m params [] c.low) (time_value m params [] c.high)
-  pub facts : (s : StatePred) → Contains known.facts s → IsTrue (m.is_fact (state_value m params [] s))
-  pub hypotheses : (h : Hypothesis) → Contains known.hypotheses h → IsTrueHypothesis m params world h
+  pub constraints : (c : Constraint) → Contains known.constraints c
+      → IsUpTo (time_value m params [] c.low) (time_value m params [] c.high)
+  pub facts : (s : StatePred) → Contains known.facts s
+      → IsTrue (m.is_fact (state_value m params [] s))
+  pub hypotheses : (h : Hypothesis) → Contains known.hypotheses h
+      → IsTrueHypothesis m params world h
   pub view : IsTrue (m.heeds world (value m params [] known.view.who) (time_value m params [] known.view.from) (time_value m params [] known.view.to))
 
 -- its parameter, if it is one, has a lesser number
@@ -116,14 +132,19 @@ IsParameterBelow count (Param n) = n < count
 IsParameterBelow count (Bound n) = Unit {0}
 
 abbrev pub IsHypothesisBelow : ℕ → Hypothesis → Type 0
-IsHypothesisBelow count (holds a u v) = AllTerms (IsParameterBelow count) a × IsParameterBelow count u × IsParameterBelow count v
-IsHypothesisBelow count (claims k a u v) = IsParameterBelow count k × AllTerms (IsParameterBelow count) a × IsParameterBelow count u × IsParameterBelow count v
+IsHypothesisBelow count (holds a u v) = AllTerms (IsParameterBelow count) a
+    × IsParameterBelow count u × IsParameterBelow count v
+IsHypothesisBelow count (claims k a u v) = IsParameterBelow count k
+    × AllTerms (IsParameterBelow count) a × IsParameterBelow count u × IsParameterBelow count v
 
 -- all parameters in it are declared
 pub record AreParametersDeclared (known : Known) : Type 0 where
-  pub constraints : (c : Constraint) → Contains known.constraints c → IsParameterBelow (length known.sorts) c.low × IsParameterBelow (length known.sorts) c.high
-  pub facts : (s : StatePred) → Contains known.facts s → AllByRecursion (IsParameterBelow (length known.sorts)) (terms_of_state s)
-  pub hypotheses : (h : Hypothesis) → Contains known.hypotheses h → IsHypothesisBelow (length known.sorts) h
+  pub constraints : (c : Constraint) → Contains known.constraints c
+      → IsParameterBelow (length known.sorts) c.low × IsParameterBelow (length known.sorts) c.high
+  pub facts : (s : StatePred) → Contains known.facts s
+      → AllByRecursion (IsParameterBelow (length known.sorts)) (terms_of_state s)
+  pub hypotheses : (h : Hypothesis) → Contains known.hypotheses h
+      → IsHypothesisBelow (length known.sorts) h
   pub who : IsParameterBelow (length known.sorts) known.view.who
   pub from : IsParameterBelow (length known.sorts) known.view.from
   pub to : IsParameterBelow (length known.sorts) known.view.to

@@ -33,7 +33,8 @@ ghost use Rattle.bl_rules.specs.AtMoment.{known_at};
 /// More constraints, facts and hypotheses keep what is derivable.
 pub fn more_keeps_what_is_derivable()
     ensures { (known : Known) (constraints : List Constraint) (facts : List Fact) (hypotheses : List Hypothesis) (goal : FormulaView) (u v : Term)
-        → Includes constraints known.constraints → Includes facts known.facts → Includes hypotheses known.hypotheses
+        → Includes constraints known.constraints → Includes facts known.facts
+        → Includes hypotheses known.hypotheses
         → Derivable known goal u v → Derivable (given constraints facts hypotheses known) goal u v }
 {}
 
@@ -41,7 +42,8 @@ pub fn more_keeps_what_is_derivable()
 pub fn entailed_constraints_can_be_left_out()
     ensures { (known : Known) (constraints : List Constraint) (goal : FormulaView) (u v : Term)
         → EntailsAll constraints known.constraints
-        → Derivable known goal u v → Derivable (given constraints known.facts known.hypotheses known) goal u v }
+        → Derivable known goal u v
+        → Derivable (given constraints known.facts known.hypotheses known) goal u v }
 {}
 
 /// A true constraint between constants can be left out.
@@ -68,7 +70,8 @@ pub fn a_shorter_interval_keeps_what_is_derivable()
 /// What is derivable in a view is derivable in the view of each principal that is no stronger, over each interval within.
 pub fn a_weaker_view_keeps_what_is_derivable()
     ensures { (known : Known) (view : View) (goal : FormulaView) (u v : Term)
-        → IsAtLeastAsStrong known.view.who view.who → IsNotAfter known known.view.from view.from → IsNotAfter known view.to known.view.to
+        → IsAtLeastAsStrong known.view.who view.who → IsNotAfter known known.view.from view.from
+        → IsNotAfter known view.to known.view.to
         → Derivable known goal u v → Derivable (record known { view = view }) goal u v }
 {}
 
@@ -94,7 +97,8 @@ pub fn what_does_not_follow()
     ensures either { GivesAlways (either rain snow) rain → ⊥ }
     ensures implication { GivesAlways (implies rain rain) rain → ⊥ }
     ensures some { GivesAlways (exists_ sorts.Principal (employee (Bound 0))) (employee (Prin admin_name)) → ⊥ }
-    ensures all { GivesAlways (employee (Prin hr)) (forall_ sorts.Principal (employee (Bound 0))) → ⊥ }
+    ensures all { GivesAlways (employee (Prin hr)) (forall_ sorts.Principal (employee (Bound 0)))
+        → ⊥ }
     ensures word { GivesAlways (says (Prin hr) rain) rain → ⊥ }
 {}
 
@@ -108,7 +112,8 @@ pub fn no_statements_allow_nothing()
 pub fn more_statements_allow_no_less()
     ensures { (statements more : List StatementView) (facts more_facts : List Fact) (moment : ℤ) (who : List ℕ) (file : Node) (permission : Permission)
         → Includes more statements → Includes more_facts facts
-        → Allows statements facts moment who file permission → Allows more more_facts moment who file permission }
+        → Allows statements facts moment who file permission
+        → Allows more more_facts moment who file permission }
 {}
 
 /// A sound grant stays sound among more statements.
@@ -127,21 +132,24 @@ pub fn a_derivation_under_its_conditions_makes_a_grant_sound()
 /// A statement that says the goal itself, of a principal that speaks for `admin`, grants it on its interval, among whatever other statements it stands.
 pub fn a_statement_grants_on_its_interval()
     ensures { (statements : List StatementView) (statement : StatementView) (goal : Goal)
-        → Contains statements statement → SpeaksForAdmin statement.who → statement.body ≡ goal_formula goal
+        → Contains statements statement → SpeaksForAdmin statement.who
+        → statement.body ≡ goal_formula goal
         → SoundGrant statements (granted_by statement goal) }
 {}
 
 /// Where all hypotheses are clauses, a formula without implications and quantifiers is derivable exactly if it follows in the plain sense.
 pub fn what_follows_from_clauses_is_derivable()
     ensures { (known : Known) (goal : FormulaView) (u v : Term)
-        → AssumesClauses known → IsSimple goal → Derivable known goal u v ↔ FollowsFromClauses known goal u v }
+        → AssumesClauses known → IsSimple goal → Derivable known goal u v
+        ↔ FollowsFromClauses known goal u v }
 {}
 
 /// Statements of clauses allow exactly what one of them yields, of a principal that speaks for `admin`, at moments of its interval.
 pub fn clauses_allow_what_they_yield()
     ensures { (statements : List StatementView) (facts : List Fact) (moment : ℤ) (goal : Goal)
         → ((s : StatementView) → Contains statements s → IsClause s.body)
-        → Allows statements facts moment goal.who goal.file goal.perm ↔ IsYielded statements facts moment (goal_formula goal) }
+        → Allows statements facts moment goal.who goal.file goal.perm
+        ↔ IsYielded statements facts moment (goal_formula goal) }
 {}
 
 /// The simplest statement, by which `admin` says the permission itself, allows it exactly on its interval.
@@ -204,20 +212,24 @@ pub fn claims_are_said()
 pub fn a_weak_claim_does_not_count()
     ensures { (name : List ℕ) (terms : List Term) (k u v : Term) (view : View) (x y : Term)
         → (IsAtLeastAsStrong k view.who → ⊥)
-        → Derivable (one_hypothesis (claims k (atom name terms) u v) view) (atom name terms) x y → ⊥ }
+        → Derivable (one_hypothesis (claims k (atom name terms) u v) view) (atom name terms) x y
+        → ⊥ }
 {}
 
 /// Nor does a claim that begins after the view's interval or ends before it does, not even for who claims it.
 pub fn a_short_claim_does_not_count()
     ensures late { (name : List ℕ) (terms : List Term) (k : Term) (from to first last : Point) (x y : Term)
         → (IsUpTo from first → ⊥)
-        → Derivable (one_hypothesis (claims k (atom name terms) (Time from) (Time to)) (record { who = k; from = Time first; to = Time last })) (atom name terms) x y → ⊥ }
+        → Derivable (one_hypothesis (claims k (atom name terms) (Time from) (Time to))
+        (record { who = k; from = Time first; to = Time last })) (atom name terms) x y → ⊥ }
     ensures early { (name : List ℕ) (terms : List Term) (k : Term) (from to first last : Point) (x y : Term)
         → (IsUpTo last to → ⊥)
-        → Derivable (one_hypothesis (claims k (atom name terms) (Time from) (Time to)) (record { who = k; from = Time first; to = Time last })) (atom name terms) x y → ⊥ }
+        → Derivable (one_hypothesis (claims k (atom name terms) (Time from) (Time to))
+        (record { who = k; from = Time first; to = Time last })) (atom name terms) x y → ⊥ }
 {}
 
 /// The calculus read from the goal, by height, derives the same: what is derivable is so by some height.
 pub fn what_is_derivable_has_a_height()
-    ensures { (known : Known) (goal : FormulaView) (u v : Term) → Derivable known goal u v ↔ ((n : ℕ) × Derives n known goal u v) }
+    ensures { (known : Known) (goal : FormulaView) (u v : Term)
+        → Derivable known goal u v ↔ ((n : ℕ) × Derives n known goal u v) }
 {}

@@ -1,4 +1,5 @@
--- What constraints between times say: an assignment gives each term a time, and meets a constraint or not.
+-- What constraints between times say: an assignment gives each term a time, and meets a constraint
+-- or not.
 use Rattle.std.specs.Prelude.{◌≡◌, List, Contains}
 use Rattle.bl_syntax.specs.declared.terms.TimePoint.{TimePoint}
 use Rattle.bl_syntax.specs.declared.terms.Term.{Term}

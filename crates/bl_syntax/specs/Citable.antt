@@ -1,4 +1,5 @@
--- The numbers of statements that may be cited together, and those that a grant names. The limits are this project's own.
+-- The numbers of statements that may be cited together, and those that a grant names. The limits
+-- are this project's own.
 use Rattle.std.specs.Prelude.{◌<◌, ◌≤◌, ℕ, List, [], ◌∷◌, length}
 use Rattle.bl_syntax.specs.declared.limits.TheConstants.{MOST_CITED}
 

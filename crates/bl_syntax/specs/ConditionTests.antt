@@ -1,4 +1,5 @@
--- The tests of a grant's conditions. Each decides what the definition of its name says (this project's own).
+-- The tests of a grant's conditions. Each decides what the definition of its name says (this
+-- project's own).
 use Rattle.std.specs.Prelude.{ℤ, Bool, true, false, not, ◌&&◌, ◌||◌, int_lt}
 use Rattle.std.specs.List.{list_all}
 use Rattle.bl_syntax.specs.declared.limits.TheConstants.{FIRST_MOMENT, LAST_MOMENT}
@@ -46,9 +47,12 @@ abbrev pub is_ctime : Term → Bool
 is_ctime Ctime = true
 is_ctime _ = false
 
--- whether a grant can keep the condition on time: it names the current time on at least one side, and otherwise constants
+-- whether a grant can keep the condition on time: it names the current time on at least one side,
+-- and otherwise constants
 abbrev pub is_time_condition : Constraint → Bool
-is_time_condition c = (is_ctime c.low || is_ctime c.high) && ((is_ctime c.low || is_constant_in_range c.low) && (is_ctime c.high || is_constant_in_range c.high))
+is_time_condition c = (is_ctime c.low || is_ctime c.high)
+    && ((is_ctime c.low || is_constant_in_range c.low)
+    && (is_ctime c.high || is_constant_in_range c.high))
 
 -- whether a grant can keep the condition on the state: it holds constants alone
 abbrev pub is_state_condition : StatePred → Bool

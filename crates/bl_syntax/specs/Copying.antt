@@ -1,4 +1,5 @@
--- What a formula is made of at its root, put together again round other formulas: what copying computes node by node.
+-- What a formula is made of at its root, put together again round other formulas: what copying
+-- computes node by node.
 use Rattle.bl_syntax.specs.Formula.{FormulaView, atom, compare, state, both, either, implies, truth, falsity, forall_, exists_, says, on}
 
 -- two formulas under the connective of the first

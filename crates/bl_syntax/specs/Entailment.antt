@@ -1,4 +1,5 @@
--- What constraints between times entail (after the constraints of BL; the order of constants and the profile are this project's own).
+-- What constraints between times entail (after the constraints of BL; the order of constants and
+-- the profile are this project's own).
 use Rattle.std.specs.Prelude.{List, Contains}
 use Rattle.bl_syntax.specs.declared.terms.TimePoint.{TimePoint}
 use Rattle.bl_syntax.specs.declared.terms.TimePoint.TheVariants.{NegInf, PosInf}
@@ -8,7 +9,8 @@ use Rattle.bl_syntax.specs.declared.terms.Constraint.{Constraint}
 use Rattle.bl_syntax.specs.TimeOrder.{IsUpTo}
 use Rattle.bl_syntax.specs.Terms.{AreInOrder}
 
--- the first term is seen not to be after the second: they are the same, two constants in order, `-inf` is first or `+inf` last, or a constraint says so
+-- the first term is seen not to be after the second: they are the same, two constants in order,
+-- `-inf` is first or `+inf` last, or a constraint says so
 pub data IsLink (constraints : List Constraint) : Term → Term → Type 0 where
   same : (t : Term) → IsLink constraints t t
   constants : (u v : Term) → AreInOrder u v → IsLink constraints u v
@@ -19,7 +21,8 @@ pub data IsLink (constraints : List Constraint) : Term → Term → Type 0 where
 -- links lead from the first term to the second
 pub data IsChain (constraints : List Constraint) : Term → Term → Type 0 where
   link : (u v : Term) → IsLink constraints u v → IsChain constraints u v
-  longer : (u v w : Term) → IsLink constraints u v → IsChain constraints v w → IsChain constraints u w
+  longer : (u v w : Term) → IsLink constraints u v → IsChain constraints v w →
+      IsChain constraints u w
 
 -- no assignment of times meets the constraints, since they lead from a constant to a lesser one
 pub record IsContradictory (constraints : List Constraint) : Type 0 where

@@ -1,4 +1,5 @@
--- Equality of names, terms, constraints, predicates on the server's state, goals and grants, as `==` computes it (this project's own).
+-- Equality of names, terms, constraints, predicates on the server's state, goals and grants, as
+-- `==` computes it (this project's own).
 use Rattle.std.specs.Prelude.{ℕ, List, Bool, ◌&&◌, ◌==◌}
 use Rattle.std.specs.Cmp.Lexicographic.{pointwise}
 use Rattle.bl_syntax.specs.declared.terms.NodeId.{NodeId}

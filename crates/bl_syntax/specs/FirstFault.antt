@@ -1,4 +1,5 @@
--- The first fault of a formula: of the limits, and then in preorder, each node before its parts, the parts from left to right. The order is this project's own.
+-- The first fault of a formula: of the limits, and then in preorder, each node before its parts,
+-- the parts from left to right. The order is this project's own.
 use Rattle.std.specs.Prelude.{◌≡◌, Result, MatchResult, List, [], ◌∷◌, Option, Some, None, nat_le, ◌&&◌, if◌then◌else◌}
 use Rattle.std.specs.Str.{bytes_eq}
 use Rattle.bl_syntax.specs.declared.limits.TheConstants.{MOST_FORMULA_NODES, MOST_ARGUMENTS}
@@ -48,14 +49,22 @@ scopes_fault parameters binders (t ∷ terms) = first_of (scope_fault (sort_of p
 -- the arguments of `may`: their number, then each in order
 abbrev pub may_fault : List Sort → List Sort → List Term → Option SyntaxFault
 may_fault parameters binders (who ∷ file ∷ permission ∷ []) =
-    first_of (term_fault parameters binders sorts.Principal who) (first_of (term_fault parameters binders sorts.File file) (term_fault parameters binders sorts.Perm permission))
+    first_of (term_fault parameters binders sorts.Principal who)
+    (first_of (term_fault parameters binders sorts.File file)
+    (term_fault parameters binders sorts.Perm permission))
 may_fault parameters binders _ = Some WrongArity
 
 abbrev pub state_fault : List Sort → List Sort → StatePred → Option SyntaxFault
-state_fault parameters binders (Owner file owner) = first_of (term_fault parameters binders sorts.File file) (term_fault parameters binders sorts.Principal owner)
+state_fault parameters binders (Owner file owner) =
+    first_of (term_fault parameters binders sorts.File file)
+    (term_fault parameters binders sorts.Principal owner)
 state_fault parameters binders (HasXattr file name value) =
-    first_of (term_fault parameters binders sorts.File file) (first_of (term_fault parameters binders sorts.Text name) (term_fault parameters binders sorts.Text value))
-state_fault parameters binders (InDir file directory) = first_of (term_fault parameters binders sorts.File file) (term_fault parameters binders sorts.File directory)
+    first_of (term_fault parameters binders sorts.File file)
+    (first_of (term_fault parameters binders sorts.Text name)
+    (term_fault parameters binders sorts.Text value))
+state_fault parameters binders (InDir file directory) =
+    first_of (term_fault parameters binders sorts.File file)
+    (term_fault parameters binders sorts.File directory)
 
 abbrev pub times_fault : List Sort → List Sort → Term → Term → Option SyntaxFault
 times_fault parameters binders u v = first_of (term_fault parameters binders sorts.Time u) (term_fault parameters binders sorts.Time v)

@@ -1,4 +1,5 @@
--- Formulas as plain data, without where their parts lie in memory (after the syntax of BL: Garg, Proof theory for authorization logic and its application to a
+-- Formulas as plain data, without where their parts lie in memory (after the syntax of BL: Garg,
+-- Proof theory for authorization logic and its application to a
 -- practical file system; the choice of connectives is this project's own).
 use Rattle.std.specs.Prelude.{ℕ, List}
 use Rattle.bl_syntax.specs.declared.terms.Term.{Term}

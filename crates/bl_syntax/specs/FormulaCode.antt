@@ -13,12 +13,15 @@ use Rattle.bl_syntax.specs.contracts.terms.StatePred as state_predicate
 use Rattle.bl_syntax.specs.contracts.terms.Constraint as constraint
 use Rattle.bl_syntax.specs.Formula.{FormulaView, atom, compare, state, both, either, implies, truth, falsity, forall_, exists_, says, on}
 
--- a node without its children: its kind, and its name, terms, constraints, state predicates and sorts
+-- a node without its children: its kind, and its name, terms, constraints, state predicates and
+-- sorts
 abbrev FormulaNode : Type 0
 FormulaNode = ℕ × (List ℕ × (List Term × (List Constraint × (List StatePred × List Sort))))
 
 abbrev node_code : Coded FormulaNode
-node_code = coded× coded_ℕ (coded× (coded_list coded_ℕ) (coded× (coded_list term.the_row.coded) (coded× (coded_list constraint.the_row.coded) (coded× (coded_list state_predicate.the_row.coded) (coded_list sort.the_row.coded)))))
+node_code = coded× coded_ℕ (coded× (coded_list coded_ℕ) (coded× (coded_list term.the_row.coded)
+    (coded× (coded_list constraint.the_row.coded) (coded× (coded_list state_predicate.the_row.coded)
+    (coded_list sort.the_row.coded)))))
 
 abbrev plain_node : ℕ → FormulaNode
 plain_node kind = (kind, ([], ([], ([], ([], [])))))
@@ -96,14 +99,20 @@ build (n ∷ ns) forms = build ns (after_node n forms)
 
 -- the nodes of a formula make it
 abbrev MakesFormula : FormulaView → Type 0
-MakesFormula f = (rest : List FormulaNode) (forms : List FormulaView) → build (nodes f ++ rest) forms ≡ build rest (f ∷ forms)
+MakesFormula f = (rest : List FormulaNode) (forms : List FormulaView) →
+    build (nodes f ++ rest) forms ≡ build rest (f ∷ forms)
 
-after_two : (a b : FormulaView) (n : FormulaNode) → MakesFormula a → MakesFormula b → (rest : List FormulaNode) (forms : List FormulaView) → build ((nodes a ++ (nodes b ++ n ∷ [])) ++ rest) forms ≡ build rest (after_node n (b ∷ a ∷ forms))
+after_two : (a b : FormulaView) (n : FormulaNode) → MakesFormula a → MakesFormula b →
+    (rest : List FormulaNode) (forms : List FormulaView) →
+    build ((nodes a ++ (nodes b ++ n ∷ [])) ++ rest) forms ≡ build rest (after_node n (b ∷ a ∷ forms))
 after_two a b n makes_a makes_b rest forms =
-    ap (λ (ns : List FormulaNode). build ns forms) (append_assoc (nodes a) (nodes b ++ n ∷ []) rest ∙ ap (λ (ns : List FormulaNode). nodes a ++ ns) (append_assoc (nodes b) (n ∷ []) rest))
+    ap (λ (ns : List FormulaNode). build ns forms) (append_assoc (nodes a) (nodes b ++ n ∷ []) rest
+    ∙ ap (λ (ns : List FormulaNode). nodes a ++ ns) (append_assoc (nodes b) (n ∷ []) rest))
     ∙ makes_a (nodes b ++ (n ∷ rest)) forms ∙ makes_b (n ∷ rest) (a ∷ forms)
 
-after_one : (a : FormulaView) (n : FormulaNode) → MakesFormula a → (rest : List FormulaNode) (forms : List FormulaView) → build ((nodes a ++ n ∷ []) ++ rest) forms ≡ build rest (after_node n (a ∷ forms))
+after_one : (a : FormulaView) (n : FormulaNode) → MakesFormula a →
+    (rest : List FormulaNode) (forms : List FormulaView) →
+    build ((nodes a ++ n ∷ []) ++ rest) forms ≡ build rest (after_node n (a ∷ forms))
 after_one a n makes_a rest forms =
     ap (λ (ns : List FormulaNode). build ns forms) (append_assoc (nodes a) (n ∷ []) rest) ∙ makes_a (n ∷ rest) forms
 

@@ -1,5 +1,7 @@
--- Reading formulas and statements from their canonical bytes, from the left. At a node, which is a formula or a term, the tag is tested first; then
--- the node must be among those that may still come; then its fields are read in order. The order of the faults and the limits are this project's own.
+-- Reading formulas and statements from their canonical bytes, from the left. At a node, which is a
+-- formula or a term, the tag is tested first; then
+-- the node must be among those that may still come; then its fields are read in order. The order of
+-- the faults and the limits are this project's own.
 use Rattle.std.specs.Prelude.{◌-◌, ℕ, zero, suc, List, [], ◌∷◌, Bool, true, false, ◌&&◌, nat_lt, nat_le, ◌==◌, if◌then◌else◌, is_none, Result, Ok, Err}
 use Rattle.std.specs.List.{list_all}
 use Rattle.bl_syntax.specs.declared.limits.TheConstants.{MOST_FORMULA_NODES, MOST_ARGUMENTS}
@@ -74,14 +76,16 @@ atom_at input left bytes = do
   Ok (atom name.0 terms.0, terms.1)
 
 -- two formulas that are read alike
-unfoldable pub pair_at : (ℕ → List ℕ → Counted FormulaView) → ℕ → List ℕ → Counted (FormulaView × FormulaView)
+unfoldable pub pair_at : (ℕ → List ℕ → Counted FormulaView) → ℕ → List ℕ →
+    Counted (FormulaView × FormulaView)
 pair_at inner left bytes = do
   first ← inner left bytes
   second ← inner first.1.0 first.1.1
   Ok ((first.0, second.0), second.1)
 
 -- a binder's sort, and the formula inside it
-unfoldable pub binder_at : (ℕ → List ℕ → Counted FormulaView) → ℕ → ℕ → List ℕ → Counted (Sort × FormulaView)
+unfoldable pub binder_at : (ℕ → List ℕ → Counted FormulaView) → ℕ → ℕ → List ℕ →
+    Counted (Sort × FormulaView)
 binder_at inner input left bytes = do
   sort ← sort_at input bytes
   body ← inner left sort.1
@@ -102,7 +106,8 @@ on_at inner input left bytes = do
   Ok (on body.0 times.0.0 times.0.1, times.1)
 
 -- the fields of a formula with this tag, whose formulas are read by inner. The last tag is 29
-unfoldable pub fields_at : (ℕ → List ℕ → Counted FormulaView) → ℕ → ℕ → ℕ → List ℕ → Counted FormulaView
+unfoldable pub fields_at : (ℕ → List ℕ → Counted FormulaView) → ℕ → ℕ → ℕ → List ℕ →
+    Counted FormulaView
 fields_at inner input left tag rest =
     if tag == 16 then atom_at input left rest else
     if tag == 17 then map_reading (λ t. compare (record { low = t.0; high = t.1 })) (two_terms_at input left rest) else

@@ -1,4 +1,5 @@
--- Canonical bytes of formulas and statements: the one spelling of each. The format is this project's own.
+-- Canonical bytes of formulas and statements: the one spelling of each. The format is this
+-- project's own.
 use Rattle.std.specs.Prelude.{ℕ, List, [], ◌∷◌, ◌++◌, length, IsTrue}
 use Rattle.std.specs.List.{flat_map}
 use Rattle.bl_syntax.specs.declared.terms.StatePred.{StatePred}
@@ -15,7 +16,8 @@ state_spelling (Owner file owner) = 18 ∷ (term_spelling file ++ term_spelling 
 state_spelling (HasXattr file name value) = 19 ∷ (term_spelling file ++ (term_spelling name ++ term_spelling value))
 state_spelling (InDir file directory) = 20 ∷ (term_spelling file ++ term_spelling directory)
 
--- the tag of the formula's kind, and its parts in order. An atom has its name, the number of its terms in one byte, and its terms
+-- the tag of the formula's kind, and its parts in order. An atom has its name, the number of its
+-- terms in one byte, and its terms
 unfoldable pub formula_spelling : FormulaView → List ℕ
 formula_spelling (atom name terms) = 16 ∷ (with_length name ++ length terms ∷ flat_map term_spelling terms)
 formula_spelling (compare c) = 17 ∷ (term_spelling c.low ++ term_spelling c.high)

@@ -1,4 +1,5 @@
--- What a verified proof grants: a goal, and the conditions on time and on the server's state that the proof left open (after procaps: Garg and Pfenning, A proof-carrying
+-- What a verified proof grants: a goal, and the conditions on time and on the server's state that
+-- the proof left open (after procaps: Garg and Pfenning, A proof-carrying
 -- file system, 2010). The grammar and the limit of conditions are this project's own.
 use Rattle.std.specs.Prelude.{◌≡◌, ◌≤◌, ◌+◌, ◌⊎◌, ℕ, ℤ, List, [], ◌∷◌, length, Contains}
 use Rattle.std.specs.List.{AllByRecursion}
@@ -12,7 +13,8 @@ use Rattle.bl_syntax.specs.Citable.{AreNamed}
 use Rattle.bl_syntax.specs.Terms.{IsConstant, HasTimeInRange, AreInOrder, constraint_at}
 use Rattle.bl_syntax.specs.WellSorted.{terms_of_state}
 
--- the goal, the conditions in the order in which they came up, and the numbers of the statements that it names
+-- the goal, the conditions in the order in which they came up, and the numbers of the statements
+-- that it names
 pub record GrantView : Type 0 where
   pub goal : Goal
   pub times : List Constraint
@@ -45,7 +47,8 @@ AreDistinct (x ∷ xs) = (Contains xs x → ⊥) × AreDistinct xs
 abbrev pub MayName : List ℕ → Type 0
 MayName numbers = (numbers ≡ []) ⊎ AreNamed numbers
 
--- what a grant keeps: conditions of these forms, each once, at most 64 together, and numbers that it may name
+-- what a grant keeps: conditions of these forms, each once, at most 64 together, and numbers that
+-- it may name
 pub record IsGrant (g : GrantView) : Type 0 where
   pub time_conditions : AllByRecursion IsTimeCondition g.times
   pub state_conditions : AllByRecursion IsStateCondition g.states

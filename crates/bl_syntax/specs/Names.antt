@@ -28,7 +28,8 @@ is_identifier (first ∷ others) = is_lower_case first && list_all is_name_byte 
 -- the words that are no names
 abbrev pub reserved_words : List (List ℕ)
 reserved_words = codes "forall" ∷ codes "exists" ∷ codes "says" ∷ codes "from" ∷ codes "to" ∷ codes "true" ∷ codes "false" ∷ codes "ctime" ∷ codes "inf"
-    ∷ codes "read" ∷ codes "write" ∷ codes "execute" ∷ codes "identity" ∷ codes "govern" ∷ codes "principal" ∷ codes "file" ∷ codes "perm" ∷ codes "time" ∷ codes "text" ∷ []
+    ∷ codes "read" ∷ codes "write" ∷ codes "execute" ∷ codes "identity" ∷ codes "govern"
+    ∷ codes "principal" ∷ codes "file" ∷ codes "perm" ∷ codes "time" ∷ codes "text" ∷ []
 
 -- the predicates on the server's state, which are no names of other predicates
 abbrev pub state_predicates : List (List ℕ)

@@ -16,6 +16,7 @@ abbrev make : (size : ℕ) → List ℕ → ℕ → Inside size
 make size bytes len = record { bytes = bytes; len = len }
 
 -- the bytes give the place back
-pub padded_again : (size : ℕ) (a : Inside size) → IsPadded size a.bytes a.len → make size (pad size (take a.len a.bytes)) (length (take a.len a.bytes)) ≡ a
+pub padded_again : (size : ℕ) (a : Inside size) → IsPadded size a.bytes a.len →
+    make size (pad size (take a.len a.bytes)) (length (take a.len a.bytes)) ≡ a
 padded_again size a h =
     ap (λ (bytes : List ℕ). make size bytes (length (take a.len a.bytes))) (sym h.padding) ∙ ap (λ (n : ℕ). make size a.bytes n) h.long_enough

@@ -1,6 +1,9 @@
--- Reading canonical bytes from the left: the value and the bytes after it, or the first fault. The order of the faults is this project's own.
--- A field is a single byte with a table, a number, a point in time, or a name or text with its length byte. A field that is not there whole is Short;
--- a whole field outside its table, grammar or range has its fault at its first byte. The length byte of a name or text, and the first byte of a point
+-- Reading canonical bytes from the left: the value and the bytes after it, or the first fault. The
+-- order of the faults is this project's own.
+-- A field is a single byte with a table, a number, a point in time, or a name or text with its
+-- length byte. A field that is not there whole is Short;
+-- a whole field outside its table, grammar or range has its fault at its first byte. The length
+-- byte of a name or text, and the first byte of a point
 -- in time, are tested as soon as they are there.
 use Rattle.std.specs.Prelude.{◌≡◌, ◌-◌, ℕ, ℤ, int_le, List, [], ◌∷◌, length, take, drop, Bool, ◌&&◌, nat_lt, ◌==◌, if◌then◌else◌, Option, Some, None, Result, Ok, Err}
 use Rattle.std.specs.Int.{Width, w32, w64, byte_len, from_be_bytes, cast_signed}
@@ -19,7 +22,8 @@ use Rattle.bl_syntax.specs.Names.{is_principal_name, is_predicate_name, is_text}
 
 -- one reading, and then another of the bytes after it, unless the first has a fault
 infixl 10 ◌>>=◌
-abbrev pub ◌>>=◌ : {A B : Type 0} → Result A CodecFault → (A → Result B CodecFault) → Result B CodecFault
+abbrev pub ◌>>=◌ : {A B : Type 0} → Result A CodecFault → (A → Result B CodecFault) →
+    Result B CodecFault
 (Ok x) >>= f = f x
 (Err e) >>= f = Err e
 
@@ -32,12 +36,14 @@ abbrev pub place : ℕ → List ℕ → ℕ
 place input rest = input - length rest
 
 -- the value that f makes of what is read, and what is after it
-abbrev pub map_reading : {A B R : Type 0} → (A → B) → Result (A × R) CodecFault → Result (B × R) CodecFault
+abbrev pub map_reading : {A B R : Type 0} → (A → B) → Result (A × R) CodecFault →
+    Result (B × R) CodecFault
 map_reading f read = read >>= λ x. Ok (f x.0, x.1)
 
 -- a big-endian number
 abbrev pub number_at : Width → List ℕ → Reading ℕ
-number_at width bytes = if nat_lt (length bytes) (byte_len width) then Err Short else Ok (from_be_bytes width (take (byte_len width) bytes), drop (byte_len width) bytes)
+number_at width bytes = if nat_lt (length bytes) (byte_len width) then Err Short
+    else Ok (from_be_bytes width (take (byte_len width) bytes), drop (byte_len width) bytes)
 
 -- a length byte that lies between two numbers, and that many bytes
 unfoldable pub with_length_at : ℕ → ℕ → ℕ → List ℕ → Reading (List ℕ)
@@ -142,7 +148,8 @@ term_at input [] = Err Short
 term_at input (tag ∷ rest) = field_at input (place input (tag ∷ rest)) tag rest
 
 -- what a function returned, seen by view, is what is read
-abbrev pub GivesReading : {X Y : Type 0} → (X → Y) → Result X CodecFault → Result Y CodecFault → Type 0
+abbrev pub GivesReading : {X Y : Type 0} → (X → Y) → Result X CodecFault → Result Y CodecFault →
+    Type 0
 GivesReading view (Ok x) read = read ≡ Ok (view x)
 GivesReading view (Err e) read = read ≡ Err e
 

@@ -1,4 +1,5 @@
--- Canonical bytes: the one spelling of each name, text, point in time and term. The format is this project's own. Its numbers are big-endian.
+-- Canonical bytes: the one spelling of each name, text, point in time and term. The format is this
+-- project's own. Its numbers are big-endian.
 use Rattle.std.specs.Prelude.{◌<◌, ◌^◌, ℕ, List, [], ◌∷◌, length, IsTrue}
 use Rattle.std.specs.Int.{w32, w64, to_be_bytes, cast_unsigned}
 use Rattle.bl_syntax.specs.declared.terms.Sort.{Sort}
@@ -49,7 +50,8 @@ term_spelling Ctime = 6 ∷ []
 term_spelling (Param n) = 7 ∷ to_be_bytes w32 n
 term_spelling (Bound n) = 8 ∷ to_be_bytes w32 n
 
--- the term has a spelling: its name or text is in the grammar, its number fits its bytes, and its time lies in the range of moments
+-- the term has a spelling: its name or text is in the grammar, its number fits its bytes, and its
+-- time lies in the range of moments
 abbrev pub IsSpellable : Term → Type 0
 IsSpellable (Prin name) = IsTrue (is_principal_name name)
 IsSpellable (File node) = node.0 < 2 ^ 64

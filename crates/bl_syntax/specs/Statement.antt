@@ -53,7 +53,8 @@ IsSayable t = IsNotCtime t × HasTimeInRange t
 abbrev pub IsSayableFormula : FormulaView → Type 0
 IsSayableFormula f = IsFormula [] f × AllTerms IsSayable f
 
--- what may be said: a closed and well sorted formula within the limits, without parameters and the current time, with all times in the range of moments
+-- what may be said: a closed and well sorted formula within the limits, without parameters and the
+-- current time, with all times in the range of moments
 pub record IsStatement (s : StatementView) : Type 0 where
   pub body_is_formula : IsFormula [] s.body
   pub no_ctime : AllTerms IsNotCtime s.body

@@ -1,4 +1,5 @@
--- A term instead of a bound variable, and a moment instead of the current time (after the substitutions of BL's quantifier rules).
+-- A term instead of a bound variable, and a moment instead of the current time (after the
+-- substitutions of BL's quantifier rules).
 use Rattle.std.specs.Prelude.{ℕ, ℤ, suc, map, ◌==◌, if◌then◌else◌}
 use Rattle.bl_syntax.specs.declared.terms.Term.{Term}
 use Rattle.bl_syntax.specs.declared.terms.Term.TheVariants.{Prin, File, Perm, Time, Text, Ctime, Param, Bound}
@@ -27,7 +28,9 @@ put_in_state depth t (Owner file owner) = Owner (put_in_term depth t file) (put_
 put_in_state depth t (HasXattr file name value) = HasXattr (put_in_term depth t file) (put_in_term depth t name) (put_in_term depth t value)
 put_in_state depth t (InDir file directory) = InDir (put_in_term depth t file) (put_in_term depth t directory)
 
--- the formula, with t for the variable of the binder that stands so many binders further out. It is put in as it stands, and the other variables keep their numbers; a t without bound variables cannot be captured
+-- the formula, with t for the variable of the binder that stands so many binders further out. It is
+-- put in as it stands, and the other variables keep their numbers; a t without bound variables
+-- cannot be captured
 abbrev pub put_in : ℕ → Term → FormulaView → FormulaView
 put_in depth t (atom name terms) = atom name (map (put_in_term depth t) terms)
 put_in depth t (compare c) = compare (put_in_constraint depth t c)

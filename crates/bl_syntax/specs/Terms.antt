@@ -1,4 +1,5 @@
--- Terms: their sorts, the current time in them, and their order (after the terms of BL; the sorts are this project's own).
+-- Terms: their sorts, the current time in them, and their order (after the terms of BL; the sorts
+-- are this project's own).
 use Rattle.std.specs.Prelude.{◌≡◌, ◌⊎◌, ℤ, List, Option, Some, codes}
 use Rattle.std.specs.List.{slice_get}
 use Rattle.bl_syntax.specs.declared.terms.Sort.{Sort}
@@ -12,7 +13,8 @@ use Rattle.bl_syntax.specs.declared.terms.StatePred.{StatePred}
 use Rattle.bl_syntax.specs.declared.terms.StatePred.TheVariants.{Owner, HasXattr, InDir}
 use Rattle.bl_syntax.specs.TimeOrder.{IsUpTo, IsInRange}
 
--- the sort of a term, where parameters and binders (the innermost first) have these; none if it has a variable out of scope
+-- the sort of a term, where parameters and binders (the innermost first) have these; none if it has
+-- a variable out of scope
 abbrev pub sort_of : List Sort → List Sort → Term → Option Sort
 sort_of parameters binders (Prin name) = Some sorts.Principal
 sort_of parameters binders (File number) = Some sorts.File

@@ -1,4 +1,5 @@
--- Points in time and their order: `-inf` first, `+inf` last, whole seconds between them. The range of moments is this project's own.
+-- Points in time and their order: `-inf` first, `+inf` last, whole seconds between them. The range
+-- of moments is this project's own.
 use Rattle.std.specs.Prelude.{ℤ, ◌≤ℤ◌}
 use Rattle.bl_syntax.specs.declared.limits.TheConstants.{FIRST_MOMENT, LAST_MOMENT}
 use Rattle.bl_syntax.specs.declared.terms.TimePoint.{TimePoint}
@@ -14,7 +15,8 @@ IsUpTo PosInf NegInf = ⊥
 IsUpTo PosInf (At u) = ⊥
 IsUpTo PosInf PosInf = Unit {0}
 
--- a whole second from 0001-01-01T00:00:00Z to 9999-12-31T23:59:59Z, counted from 1970-01-01T00:00:00Z
+-- a whole second from 0001-01-01T00:00:00Z to 9999-12-31T23:59:59Z, counted from
+-- 1970-01-01T00:00:00Z
 pub record IsMoment (second : ℤ) : Type 0 where
   pub not_before : FIRST_MOMENT ≤ℤ second
   pub not_after : second ≤ℤ LAST_MOMENT

@@ -1,4 +1,5 @@
--- Which formulas are closed and well sorted, and within the limits. The sorts of predicates and the limits are this project's own.
+-- Which formulas are closed and well sorted, and within the limits. The sorts of predicates and the
+-- limits are this project's own.
 use Rattle.std.specs.Prelude.{◌≡◌, ◌≤◌, ℕ, ◌+◌, max, List, [], ◌∷◌, length, codes, Some, IsSome}
 use Rattle.std.specs.List.{AllByRecursion}
 use Rattle.bl_syntax.specs.declared.limits.TheConstants.{MOST_FORMULA_NODES, MOST_ARGUMENTS}
@@ -32,35 +33,45 @@ abbrev pub HaveSorts : List Sort → List Sort → List Sort → List Term → T
 HaveSorts parameters binders [] [] = Unit {0}
 HaveSorts parameters binders [] (t ∷ terms) = ⊥
 HaveSorts parameters binders (s ∷ wanted) [] = ⊥
-HaveSorts parameters binders (s ∷ wanted) (t ∷ terms) = HasSort parameters binders s t × HaveSorts parameters binders wanted terms
+HaveSorts parameters binders (s ∷ wanted) (t ∷ terms) = HasSort parameters binders s t ×
+    HaveSorts parameters binders wanted terms
 
--- the arguments fit the predicate: `may` takes a principal, a file and a permission, any other predicate any terms
+-- the arguments fit the predicate: `may` takes a principal, a file and a permission, any other
+-- predicate any terms
 pub record FitsPredicate (parameters binders : List Sort) (name : List ℕ) (terms : List Term) : Type 0 where
   pub in_scope : AllByRecursion (IsInScope parameters binders) terms
   pub of_may : name ≡ may → HaveSorts parameters binders sorts_of_may terms
 
 abbrev pub IsSortedState : List Sort → List Sort → StatePred → Type 0
-IsSortedState parameters binders (Owner file owner) = HasSort parameters binders sorts.File file × HasSort parameters binders sorts.Principal owner
-IsSortedState parameters binders (HasXattr file name value) = HasSort parameters binders sorts.File file × (HasSort parameters binders sorts.Text name × HasSort parameters binders sorts.Text value)
+IsSortedState parameters binders (Owner file owner) = HasSort parameters binders sorts.File file ×
+    HasSort parameters binders sorts.Principal owner
+IsSortedState parameters binders (HasXattr file name value) = HasSort parameters binders sorts.File file ×
+    (HasSort parameters binders sorts.Text name × HasSort parameters binders sorts.Text value)
 IsSortedState parameters binders (InDir file directory) = HasSort parameters binders sorts.File file × HasSort parameters binders sorts.File directory
 
 abbrev pub IsSortedConstraint : List Sort → List Sort → Constraint → Type 0
-IsSortedConstraint parameters binders c = HasSort parameters binders sorts.Time c.low × HasSort parameters binders sorts.Time c.high
+IsSortedConstraint parameters binders c = HasSort parameters binders sorts.Time c.low ×
+    HasSort parameters binders sorts.Time c.high
 
 -- closed and well sorted, where parameters and binders (the innermost first) have these sorts
 abbrev pub IsWellSorted : List Sort → List Sort → FormulaView → Type 0
 IsWellSorted parameters binders (atom name terms) = FitsPredicate parameters binders name terms
 IsWellSorted parameters binders (compare c) = IsSortedConstraint parameters binders c
 IsWellSorted parameters binders (state s) = IsSortedState parameters binders s
-IsWellSorted parameters binders (both a b) = IsWellSorted parameters binders a × IsWellSorted parameters binders b
-IsWellSorted parameters binders (either a b) = IsWellSorted parameters binders a × IsWellSorted parameters binders b
-IsWellSorted parameters binders (implies a b) = IsWellSorted parameters binders a × IsWellSorted parameters binders b
+IsWellSorted parameters binders (both a b) = IsWellSorted parameters binders a ×
+    IsWellSorted parameters binders b
+IsWellSorted parameters binders (either a b) = IsWellSorted parameters binders a ×
+    IsWellSorted parameters binders b
+IsWellSorted parameters binders (implies a b) = IsWellSorted parameters binders a ×
+    IsWellSorted parameters binders b
 IsWellSorted parameters binders truth = Unit {0}
 IsWellSorted parameters binders falsity = Unit {0}
 IsWellSorted parameters binders (forall_ s a) = IsWellSorted parameters (s ∷ binders) a
 IsWellSorted parameters binders (exists_ s a) = IsWellSorted parameters (s ∷ binders) a
-IsWellSorted parameters binders (says k a) = HasSort parameters binders sorts.Principal k × IsWellSorted parameters binders a
-IsWellSorted parameters binders (on a u v) = IsWellSorted parameters binders a × (HasSort parameters binders sorts.Time u × HasSort parameters binders sorts.Time v)
+IsWellSorted parameters binders (says k a) = HasSort parameters binders sorts.Principal k ×
+    IsWellSorted parameters binders a
+IsWellSorted parameters binders (on a u v) = IsWellSorted parameters binders a ×
+    (HasSort parameters binders sorts.Time u × HasSort parameters binders sorts.Time v)
 
 abbrev pub terms_of_state : StatePred → List Term
 terms_of_state (Owner file owner) = file ∷ owner ∷ []

@@ -49,11 +49,14 @@ pub fn no_fault_of_a_formula()
 /// atoms as the body, and all its times are moments if those of the body and the term are.
 pub fn an_instance_is_well_sorted()
     ensures sorted { (parameters : List Sort) (sort : Sort) (t : Term) (body : FormulaView)
-        → HasSort parameters [] sort t → IsWellSorted parameters (sort ∷ []) body → IsWellSorted parameters [] (instance_at t body) }
+        → HasSort parameters [] sort t → IsWellSorted parameters (sort ∷ []) body
+        → IsWellSorted parameters [] (instance_at t body) }
     ensures nodes { (t : Term) (body : FormulaView) → size (instance_at t body) ≡ size body }
-    ensures arguments { (t : Term) (body : FormulaView) → widest_atom (instance_at t body) ≡ widest_atom body }
+    ensures arguments { (t : Term) (body : FormulaView)
+        → widest_atom (instance_at t body) ≡ widest_atom body }
     ensures times { (t : Term) (body : FormulaView)
-        → HasTimeInRange t → AllTerms HasTimeInRange body → AllTerms HasTimeInRange (instance_at t body) }
+        → HasTimeInRange t → AllTerms HasTimeInRange body
+        → AllTerms HasTimeInRange (instance_at t body) }
 {}
 
 /// The spelling of names, texts and points in time, and the reading of them, belong together.

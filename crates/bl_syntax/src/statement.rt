@@ -116,7 +116,8 @@ impl Statement {
 
 /// Whether a principal may say the formula on the interval. Who it is plays no part.
 fn may_be_said(body: &Formula, from: TimePoint, to: TimePoint) -> bool
-    ensures { (who : List ℕ) → IsTrue result ↔ IsStatement (statement_view who (formula_view body.now) from to) }
+    ensures { (who : List ℕ) →
+        IsTrue result ↔ IsStatement (statement_view who (formula_view body.now) from to) }
 {
     is_sayable_formula(body) && from.is_in_range() && to.is_in_range()
 }

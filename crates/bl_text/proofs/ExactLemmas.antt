@@ -292,40 +292,40 @@ later_interval text st scope here ts e a at h =
 -- ---- parts of a formula
 
 -- the fault is one of the term that should stand first, whatever stands after it, or it is decided by a later token
-pub data Told (text : List ℕ) (st : Bool) (level : Level) (scope : List Variable) (depth : ℕ) (here : Cursor) (e : TextFault) : Type 0 where
-  first : term_of scope here ≡ Err e → ((o : List ℕ) → HasFirstFault o st level scope depth here e) → Told text st level scope depth here e
-  later : Later text (FormulaSentence level scope) here e (λ o. HasFirstFault o st level scope depth here e) → Told text st level scope depth here e
+pub data FaultReported (text : List ℕ) (st : Bool) (level : Level) (scope : List Variable) (depth : ℕ) (here : Cursor) (e : TextFault) : Type 0 where
+  first : term_of scope here ≡ Err e → ((o : List ℕ) → HasFirstFault o st level scope depth here e) → FaultReported text st level scope depth here e
+  later : Later text (FormulaSentence level scope) here e (λ o. HasFirstFault o st level scope depth here e) → FaultReported text st level scope depth here e
 
-pub told_exact : {text : List ℕ} {st : Bool} {level : Level} {scope : List Variable} {depth : ℕ} {here : Cursor} {e : TextFault} → Told text st level scope depth here e → Exact text (FormulaSentence level scope) here e (λ o. HasFirstFault o st level scope depth here e)
+pub told_exact : {text : List ℕ} {st : Bool} {level : Level} {scope : List Variable} {depth : ℕ} {here : Cursor} {e : TextFault} → FaultReported text st level scope depth here e → Exact text (FormulaSentence level scope) here e (λ o. HasFirstFault o st level scope depth here e)
 told_exact {level = level} {scope} {here = here} (first bad all) = here_misread (Keyword keywords.True ∷ []) (misread_is (term_misreads scope here) bad) (default level scope) all
 told_exact (later x) = x.exact
 
 pass : {text : List ℕ} {st : Bool} {level level' : Level} {scope : List Variable} {depth : ℕ} {here : Cursor} {e : TextFault} → ((ts : List Token) → FormulaSentence level scope ts → FormulaSentence level' scope ts)
-    → ((o : List ℕ) → HasFirstFault o st level scope depth here e → HasFirstFault o st level' scope depth here e) → Told text st level scope depth here e → Told text st level' scope depth here e
+    → ((o : List ℕ) → HasFirstFault o st level scope depth here e → HasFirstFault o st level' scope depth here e) → FaultReported text st level scope depth here e → FaultReported text st level' scope depth here e
 pass f g (first bad all) = first bad (λ o. g o (all o))
 pass f g (later x) = later (later_with f g x)
 
 told_after : {text : List ℕ} {st : Bool} {level level' : Level} {scope scope' : List Variable} {depth depth' : ℕ} {here mid : Cursor} {e : TextFault} {front : List Token} {P : List ℕ → Type 0} (back : List Token) → Part text here mid front P
     → ((ts : List Token) → FormulaSentence level scope ts → FormulaSentence level' scope' (front ++ (ts ++ back))) → ((o : List ℕ) → P o → HasFirstFault o st level scope depth mid e → HasFirstFault o st level' scope' depth' here e)
-    → Told text st level scope depth mid e → Told text st level' scope' depth' here e
+    → FaultReported text st level scope depth mid e → FaultReported text st level' scope' depth' here e
 told_after back p f g t = later (later_after back p f g (told_exact t))
 
 told_next : {text : List ℕ} {st : Bool} {level level' : Level} {scope scope' : List Variable} {depth depth' : ℕ} {here mid : Cursor} {e : TextFault} {front : List Token} {P : List ℕ → Type 0} → Part text here mid front P
     → ((ts : List Token) → FormulaSentence level scope ts → FormulaSentence level' scope' (front ++ ts)) → ((o : List ℕ) → P o → HasFirstFault o st level scope depth mid e → HasFirstFault o st level' scope' depth' here e)
-    → Told text st level scope depth mid e → Told text st level' scope' depth' here e
+    → FaultReported text st level scope depth mid e → FaultReported text st level' scope' depth' here e
 told_next p f g t = later (later_next p f g (told_exact t))
 
 -- what is read after the sign that follows what was read
 told_operand : {text : List ℕ} {st : Bool} {level level' : Level} {scope : List Variable} {depth : ℕ} {here mid : Cursor} {e : TextFault} {ts : List Token} {P : List ℕ → Type 0} → Part text here mid ts P
     → ((us : List Token) → FormulaSentence level scope us → FormulaSentence level' scope (ts ++ mid.token ∷ us))
     → ((o : List ℕ) → P o → HasFirstFault o st level scope depth (cursor_after_node o mid) e → HasFirstFault o st level' scope depth here e)
-    → Told text st level scope depth (cursor_after_node text mid) e → Told text st level' scope depth here e
+    → FaultReported text st level scope depth (cursor_after_node text mid) e → FaultReported text st level' scope depth here e
 told_operand {text} {level' = level'} {scope} {mid = mid} {ts = ts} p f g t =
     told_next (part_then p (part_node text mid)) (λ us c. subst (FormulaSentence level' scope) (sym (append_assoc ts (mid.token ∷ []) us)) (f us c)) (λ o q k. g o q.0 (stops_at (sym q.1) k)) t
 
 -- at the sign after what was read no node is left
 told_full : {text : List ℕ} {st : Bool} {level : Level} {scope : List Variable} {depth : ℕ} {here mid : Cursor} {e : TextFault} {ts : List Token} {P : List ℕ → Type 0} → Part text here mid ts P
-    → FormulaSentence level scope (ts ++ mid.token ∷ Keyword keywords.True ∷ []) → ((o : List ℕ) → P o → HasFirstFault o st level scope depth here e) → count mid ≡ Err e → Told text st level scope depth here e
+    → FormulaSentence level scope (ts ++ mid.token ∷ Keyword keywords.True ∷ []) → ((o : List ℕ) → P o → HasFirstFault o st level scope depth here e) → count mid ≡ Err e → FaultReported text st level scope depth here e
 told_full {level = level} {scope} {mid = mid} {ts = ts} p sentence g full =
     later (later_at {B = FormulaSentence level scope} p g (here_limit {IsOne = λ us. FormulaSentence level scope (ts ++ us)} (Keyword keywords.True ∷ []) (only_is (count_only mid) full) sentence (λ o. tt)).exact)
 
@@ -338,7 +338,7 @@ says_ends : (token : Token) → is_word keywords.Says token ≡ true → ends_te
 says_ends token h = or_right (is_sign signs.UpTo token) (is_word keywords.Says token) h
 
 told_comparison : (text : List ℕ) (st : Bool) (scope : List Variable) (depth : ℕ) (here : Cursor) (e : TextFault) → is_sign signs.Open here.token ≡ false → ((o : List ℕ) → is_call o here ≡ false)
-    → ((o : List ℕ) → simple_formula o st scope here ≡ comparison o st scope here) → comparison text st scope here ≡ Err e → Told text st primary scope depth here e
+    → ((o : List ℕ) → simple_formula o st scope here ≡ comparison o st scope here) → comparison text st scope here ≡ Err e → FaultReported text st primary scope depth here e
 unfolding comparison
 told_comparison text st scope depth here e closed none simple_is h =
     let second = cursor_after_node text here in
@@ -452,7 +452,7 @@ unfolding simple_formula
 simple_from text st scope here t is = ap (simple_by text st scope here) is
 
 told_simple : (text : List ℕ) (st : Bool) (scope : List Variable) (depth : ℕ) (here : Cursor) (e : TextFault) (t : Token) → here.token ≡ t → is_sign signs.Open here.token ≡ false → is_call text here ≡ false → simple_formula text st scope here ≡ Err e
-    → Told text st primary scope depth here e
+    → FaultReported text st primary scope depth here e
 told_simple text st scope depth here e (tokens.Keyword keywords.True) is closed no_call h =
     later (later_with (λ ts s. s) (λ o p. in_simple scope depth here e closed (unnamed_calls_not o here (tokens.Keyword keywords.True) is tt) (simple_from o st scope here (tokens.Keyword keywords.True) is ∙ p))
     (later_constant text scope forms.truth (tokens.Keyword keywords.True) here e is (truth scope) (sym (simple_from text st scope here (tokens.Keyword keywords.True) is) ∙ h)))
@@ -489,14 +489,14 @@ no_speaker text here (tokens.Name name) is n v = absurd n
 no_speaker text here (tokens.Variable name) is n v = absurd (v name refl)
 no_speaker text here t is n v = rw is refl
 
-told_term : (text : List ℕ) (st : Bool) (scope : List Variable) (depth : ℕ) (here : Cursor) (e : TextFault) (t : Token) → here.token ≡ t → is_saying text here ≡ true → term_of scope here ≡ Err e → Told text st unary scope depth here e
+told_term : (text : List ℕ) (st : Bool) (scope : List Variable) (depth : ℕ) (here : Cursor) (e : TextFault) (t : Token) → here.token ≡ t → is_saying text here ≡ true → term_of scope here ≡ Err e → FaultReported text st unary scope depth here e
 told_term text st scope depth here e (tokens.Name name) is said bad = never_err (sym (name_term scope here name is) ∙ bad)
 told_term text st scope depth here e (tokens.Variable name) is said bad =
     first bad (unsaid st scope depth here e bad (λ o. in_primary scope depth here e (in_simple scope depth here e (variable_closed here name is) (unnamed_calls_not o here (tokens.Variable name) is tt)
     (simple_from o st scope here (tokens.Variable name) is ∙ comparison_err o st scope here bad))))
 told_term text st scope depth here e t is said bad = absurd (false≢true (sym (no_speaker text here t is tt (λ name same. (let never : ⊥ = cc in never))) ∙ said))
 
-told_speaker : (text : List ℕ) (st : Bool) (scope : List Variable) (depth : ℕ) (here : Cursor) (e : TextFault) → is_saying text here ≡ true → speaker text scope here ≡ Err e → Told text st unary scope depth here e
+told_speaker : (text : List ℕ) (st : Bool) (scope : List Variable) (depth : ℕ) (here : Cursor) (e : TextFault) → is_saying text here ≡ true → speaker text scope here ≡ Err e → FaultReported text st unary scope depth here e
 unfolding speaker
 told_speaker text st scope depth here e said h =
     let second = cursor_after_node text here in
@@ -518,7 +518,7 @@ told_speaker text st scope depth here e said h =
     (here_limit (Keyword keywords.True ∷ []) (only_is (count_only second) full) (saying scope here.token second.token (Keyword keywords.True ∷ []) who_speaks word (default unary scope)) (λ o. tt)).exact))
     (λ w next h4. never_err h4))))
 
-told_postfix : {text : List ℕ} {st : Bool} {scope : List Variable} {depth : ℕ} {here : Cursor} {e : TextFault} → is_saying text here ≡ false → Told text st postfix scope depth here e → Told text st unary scope depth here e
+told_postfix : {text : List ℕ} {st : Bool} {scope : List Variable} {depth : ℕ} {here : Cursor} {e : TextFault} → is_saying text here ≡ false → FaultReported text st postfix scope depth here e → FaultReported text st unary scope depth here e
 told_postfix {st = st} {scope} {depth} {here} {e} none (first bad all) = first bad (unsaid st scope depth here e bad all)
 told_postfix {text} {scope = scope} {depth} {here} {e} none (later x) =
     later (later_with (one_postfix scope) (λ o p. in_postfix scope depth here e p.0 p.1) (later_peeks (here.left - 1) (λ o same. saying_same text o here same none) x))
@@ -576,7 +576,7 @@ later_by_sorts {text} {st} {scope} {here} {mid} {place} {terms} name is room cal
       some = omega arith;
     }
 
-told_call : {text : List ℕ} {st : Bool} {scope : List Variable} {depth : ℕ} {here : Cursor} {e : TextFault} → is_sign signs.Open here.token ≡ false → is_call text here ≡ true → CallHasFirstFault text st scope here e → OrMemory e (Told text st primary scope depth here e)
+told_call : {text : List ℕ} {st : Bool} {scope : List Variable} {depth : ℕ} {here : Cursor} {e : TextFault} → is_sign signs.Open here.token ≡ false → is_call text here ≡ true → CallHasFirstFault text st scope here e → OrMemory e (FaultReported text st primary scope depth here e)
 told_call {text} {st} {scope} {depth} {here} {e} closed calls (at_name _ full) =
     let name = is_call-name text here calls in
     inr (later (later_with (λ ts s. s) (λ o p. in_call scope depth here e closed p.0 p.1) (later_peeks (here.left - 1) (λ o same. call_same text o here same calls)
@@ -595,12 +595,12 @@ told_call {text} {st} {scope} {depth} {here} {e} closed calls (before_close name
     (called scope name (cursor_after_node text here).token (tokens.Sign signs.Close) inside.ts (call_opened text here calls) inside.are_terms close_sign) (λ o. tt))))
 told_call {text} {st} {scope} {depth} {here} {e} closed calls (by_sorts name mid place terms _ is room args close wrong) =
     let sort = only_is (applied_only scope here.at name terms) wrong in
-    inr (subst (λ f. Told text st primary scope depth here f) (sym sort) (later (later_with (λ ts s. s) (λ o p. in_call scope depth here (Sort here.at) closed p.0 p.1)
+    inr (subst (λ f. FaultReported text st primary scope depth here f) (sym sort) (later (later_with (λ ts s. s) (λ o p. in_call scope depth here (Sort here.at) closed p.0 p.1)
     (later_by_sorts name is room calls args close (wrong ∙ ap Err sort)))))
 
 -- ---- formulas
 
-pub told_stops : {text : List ℕ} {st : Bool} {level : Level} {scope : List Variable} {depth : ℕ} {here : Cursor} {e : TextFault} → HasFirstFault text st level scope depth here e → OrMemory e (Told text st level scope depth here e)
+pub told_stops : {text : List ℕ} {st : Bool} {level : Level} {scope : List Variable} {depth : ℕ} {here : Cursor} {e : TextFault} → HasFirstFault text st level scope depth here e → OrMemory e (FaultReported text st level scope depth here e)
 told_stops (no_memory level scope depth here) = inl refl
 told_stops {text} {st} (in_binder scope depth here e q b) = inr (later (later_with (λ ts s. s) (λ o p. in_binder scope depth here e q p) (later_binder text scope here e q b)))
 told_stops {text} {st} (in_body scope depth here mid name s e q b h) =

@@ -1,5 +1,9 @@
--- The token at which a fault is met, by its number, and how many tokens after it are needed to tell it (this project's own). A fault of the grammar is met at its own token, and so is one of size, for which
--- the next token is needed too. A fault of sorts is met at one of four tokens: at the term, if what stands before it asks for a sort; at `<=` or `says`, if that stands after it; at the parenthesis that closes
+-- The token at which a fault is met, by its number, and how many tokens after it are needed to tell
+-- it (this project's own). A fault of the grammar is met at its own token, and so is one of size,
+-- for which
+-- the next token is needed too. A fault of sorts is met at one of four tokens: at the term, if what
+-- stands before it asks for a sort; at `<=` or `says`, if that stands after it; at the parenthesis
+-- that closes
 -- a predicate's arguments; or at a predicate's name without arguments, which the next token shows.
 use Rattle.std.specs.Prelude.{◌≡◌, ℕ, ◌+◌, ◌<◌, List, Bool, true, false, ◌||◌}
 use Rattle.bl_tokens.specs.declared.faults.TextFault.{TextFault}
@@ -30,17 +34,23 @@ pub record IsCallOf (tokens_of : ℕ → Cursor) (first last : ℕ) : Type 0 whe
   pub closed : is_sign signs.Close (tokens_of last).token ≡ true
   pub ordered : first < last
 
--- the fault is met at the token with that number. The tokens up to it decide that, and so many after it
+-- the fault is met at the token with that number. The tokens up to it decide that, and so many
+-- after it
 pub data IsMetAt (tokens_of : ℕ → Cursor) (number : ℕ) : ℕ → TextFault → Type 0 where
   misread : (e : TextFault) → IsMisread (tokens_of number).at e → IsMetAt tokens_of number 0 e
   at_term : IsMetAt tokens_of number 0 (Sort (tokens_of number).at)
-  before_sign : (first : ℕ) → number ≡ first + 1 → ends_term (tokens_of number).token ≡ true → IsMetAt tokens_of number 0 (Sort (tokens_of first).at)
-  at_close : (first : ℕ) → IsCallOf tokens_of first number → IsMetAt tokens_of number 0 (Sort (tokens_of first).at)
-  without_arguments : (name : List ℕ) → (tokens_of number).token ≡ tokens.Name name → is_sign signs.Open (tokens_of (number + 1)).token ≡ false → is_sign signs.UpTo (tokens_of (number + 1)).token ≡ false
+  before_sign : (first : ℕ) → number ≡ first + 1 → ends_term (tokens_of number).token ≡ true
+      → IsMetAt tokens_of number 0 (Sort (tokens_of first).at)
+  at_close : (first : ℕ) → IsCallOf tokens_of first number
+      → IsMetAt tokens_of number 0 (Sort (tokens_of first).at)
+  without_arguments : (name : List ℕ) → (tokens_of number).token ≡ tokens.Name name
+      → is_sign signs.Open (tokens_of (number + 1)).token ≡ false
+      → is_sign signs.UpTo (tokens_of (number + 1)).token ≡ false
       → IsMetAt tokens_of number 1 (Sort (tokens_of number).at)
   at_limit : IsMetAt tokens_of number 1 (TooLarge (tokens_of number).at)
 
--- how many tokens, from the one at which the fault is met on, the grammar allows after those before: that one, if the fault is one of sorts or size
+-- how many tokens, from the one at which the fault is met on, the grammar allows after those
+-- before: that one, if the fault is one of sorts or size
 abbrev pub allowed : TextFault → ℕ
 allowed (Sort at) = 1
 allowed (TooLarge at) = 1

@@ -1,4 +1,6 @@
--- The pieces of a formula's text that hold no formula themselves, each with its first fault (this project's own). A piece takes a token at a time, from the left; at one token the lower of the faults
+-- The pieces of a formula's text that hold no formula themselves, each with its first fault (this
+-- project's own). A piece takes a token at a time, from the left; at one token the lower of the
+-- faults
 -- Unexpected, UnknownName, BadDate, Sort and TooLarge counts.
 use Rattle.std.specs.Prelude.{◌≡◌, ℕ, List, [], ◌∷◌, codes, Bool, false, not, nat_le, ◌&&◌, Option, Some, None, Result, Ok, Err, if◌then◌else◌}
 use Rattle.std.specs.Global.{Box}
@@ -26,7 +28,8 @@ use Rattle.bl_tokens.specs.Tokens.{cursor_after, cursor_after_node, is_sign}
 use Rattle.bl_text.specs.Scope.{Variable, place_of, is_of_wanted_sort}
 
 infixl 10 ◌>>=◌
-abbrev pub ◌>>=◌ : {A B : Type 0} → Result A TextFault → (A → Result B TextFault) → Result B TextFault
+abbrev pub ◌>>=◌ : {A B : Type 0} → Result A TextFault → (A → Result B TextFault) →
+    Result B TextFault
 (Ok a) >>= f = f a
 (Err e) >>= f = Err e
 
@@ -94,7 +97,8 @@ time_argument in_statement scope here = do
 -- ---- intervals, binders and speakers
 
 -- the interval after the sign `@` at that place, and what follows it
-unfoldable pub interval : List ℕ → Bool → List Variable → Cursor → Result (Term × Term × Cursor) TextFault
+unfoldable pub interval : List ℕ → Bool → List Variable → Cursor →
+    Result (Term × Term × Cursor) TextFault
 interval text in_statement scope here = do
   _ ← count here
   first ← expect_sign text signs.OpenInterval (cursor_after_node text here)
@@ -150,7 +154,8 @@ unfoldable pub less_sign : Cursor → Result (Unit {0}) TextFault
 less_sign here = if is_sign signs.UpTo here.token then Ok tt else Err (Unexpected here.at)
 
 -- a comparison of times whose first term stands at that place, and what follows it
-unfoldable pub comparison : List ℕ → Bool → List Variable → Cursor → Result (FormulaView × Cursor) TextFault
+unfoldable pub comparison : List ℕ → Bool → List Variable → Cursor →
+    Result (FormulaView × Cursor) TextFault
 comparison text in_statement scope here = do
   low ← term_of scope here
   _ ← count here
@@ -163,23 +168,30 @@ comparison text in_statement scope here = do
 
 -- the arguments that `may` takes
 unfoldable pub are_may_arguments : List Variable → List Term → Bool
-are_may_arguments scope (who ∷ file ∷ permission ∷ []) = is_of_wanted_sort scope sorts.Principal who && is_of_wanted_sort scope sorts.File file && is_of_wanted_sort scope sorts.Perm permission
+are_may_arguments scope (who ∷ file ∷ permission ∷ []) = is_of_wanted_sort scope sorts.Principal who
+    && is_of_wanted_sort scope sorts.File file && is_of_wanted_sort scope sorts.Perm permission
 are_may_arguments scope _ = false
 
 unfoldable pub apply_atom : List Variable → ℕ → List ℕ → List Term → Result FormulaView TextFault
 apply_atom scope at name terms = if bytes_eq name may && not (are_may_arguments scope terms) then Err (faults.Sort at) else Ok (atom name terms)
 
 unfoldable pub apply_owner : List Variable → ℕ → List Term → Result FormulaView TextFault
-apply_owner scope at (file ∷ owner ∷ []) = if is_of_wanted_sort scope sorts.File file && is_of_wanted_sort scope sorts.Principal owner then Ok (state (Owner file owner)) else Err (faults.Sort at)
+apply_owner scope at (file ∷ owner ∷ []) = if is_of_wanted_sort scope sorts.File file
+    && is_of_wanted_sort scope sorts.Principal owner then Ok (state (Owner file owner))
+    else Err (faults.Sort at)
 apply_owner scope at _ = Err (faults.Sort at)
 
 unfoldable pub apply_attribute : List Variable → ℕ → List Term → Result FormulaView TextFault
 apply_attribute scope at (file ∷ name ∷ value ∷ []) =
-    if is_of_wanted_sort scope sorts.File file && is_of_wanted_sort scope sorts.Text name && is_of_wanted_sort scope sorts.Text value then Ok (state (HasXattr file name value)) else Err (faults.Sort at)
+    if is_of_wanted_sort scope sorts.File file && is_of_wanted_sort scope sorts.Text name
+    && is_of_wanted_sort scope sorts.Text value then Ok (state (HasXattr file name value))
+    else Err (faults.Sort at)
 apply_attribute scope at _ = Err (faults.Sort at)
 
 unfoldable pub apply_directory : List Variable → ℕ → List Term → Result FormulaView TextFault
-apply_directory scope at (file ∷ directory ∷ []) = if is_of_wanted_sort scope sorts.File file && is_of_wanted_sort scope sorts.File directory then Ok (state (InDir file directory)) else Err (faults.Sort at)
+apply_directory scope at (file ∷ directory ∷ []) = if is_of_wanted_sort scope sorts.File file
+    && is_of_wanted_sort scope sorts.File directory then Ok (state (InDir file directory))
+    else Err (faults.Sort at)
 apply_directory scope at _ = Err (faults.Sort at)
 
 -- a predicate on the server's state
@@ -190,10 +202,12 @@ apply_state scope at name terms =
     apply_directory scope at terms
 
 -- the predicate of that name, at that place, with these arguments
-unfoldable pub apply_predicate : List Variable → ℕ → List ℕ → List Term → Result FormulaView TextFault
+unfoldable pub apply_predicate : List Variable → ℕ → List ℕ → List Term →
+    Result FormulaView TextFault
 apply_predicate scope at name terms = if is_predicate_name name then apply_atom scope at name terms else apply_state scope at name terms
 
-unfoldable pub bare_predicate : List ℕ → List Variable → List ℕ → Cursor → Result (FormulaView × Cursor) TextFault
+unfoldable pub bare_predicate : List ℕ → List Variable → List ℕ → Cursor →
+    Result (FormulaView × Cursor) TextFault
 bare_predicate text scope name here = do
   f ← apply_predicate scope here.at name []
   _ ← count here
@@ -204,23 +218,28 @@ named_time here = do
   _ ← count here
   Err (faults.Sort here.at)
 
--- a predicate's name at that place, without arguments; before `<=` it is a principal, which is no time
-unfoldable pub name_alone : List ℕ → List Variable → List ℕ → Cursor → Result (FormulaView × Cursor) TextFault
+-- a predicate's name at that place, without arguments; before `<=` it is a principal, which is no
+-- time
+unfoldable pub name_alone : List ℕ → List Variable → List ℕ → Cursor →
+    Result (FormulaView × Cursor) TextFault
 name_alone text scope name here = if is_sign signs.UpTo (cursor_after_node text here).token then named_time here else bare_predicate text scope name here
 
-unfoldable pub constant_formula : List ℕ → FormulaView → Cursor → Result (FormulaView × Cursor) TextFault
+unfoldable pub constant_formula : List ℕ → FormulaView → Cursor →
+    Result (FormulaView × Cursor) TextFault
 constant_formula text f here = do
   _ ← count here
   Ok (f, cursor_after_node text here)
 
-abbrev pub simple_by : List ℕ → Bool → List Variable → Cursor → Token → Result (FormulaView × Cursor) TextFault
+abbrev pub simple_by : List ℕ → Bool → List Variable → Cursor → Token →
+    Result (FormulaView × Cursor) TextFault
 simple_by text in_statement scope here (tokens.Keyword keywords.True) = constant_formula text truth here
 simple_by text in_statement scope here (tokens.Keyword keywords.False) = constant_formula text falsity here
 simple_by text in_statement scope here (Name name) = name_alone text scope name here
 simple_by text in_statement scope here _ = comparison text in_statement scope here
 
 -- a formula without parentheses at that place, and what follows it
-unfoldable pub simple_formula : List ℕ → Bool → List Variable → Cursor → Result (FormulaView × Cursor) TextFault
+unfoldable pub simple_formula : List ℕ → Bool → List Variable → Cursor →
+    Result (FormulaView × Cursor) TextFault
 simple_formula text in_statement scope here = simple_by text in_statement scope here here.token
 
 -- ---- the values of the program
@@ -239,6 +258,7 @@ abbrev pub GivesPiece : Result (Box Formula) TextFault → Result FormulaView Te
 GivesPiece (Ok f) r = r ≡ Ok (formula_view f.value)
 GivesPiece (Err e) r = ReportsFault e r
 
-abbrev pub GivesPieceWith : Result (Box Formula × Cursor) TextFault → Result (FormulaView × Cursor) TextFault → Type 0
+abbrev pub GivesPieceWith : Result (Box Formula × Cursor) TextFault →
+    Result (FormulaView × Cursor) TextFault → Type 0
 GivesPieceWith (Ok p) r = r ≡ Ok (formula_view p.0.value, p.1)
 GivesPieceWith (Err e) r = ReportsFault e r

@@ -1,4 +1,5 @@
--- The text that a formula is written as (this project's own): one space round `says`, `&`, `|`, `=>`, `<=` and `@`, none after a comma, and parentheses exactly round an operand
+-- The text that a formula is written as (this project's own): one space round `says`, `&`, `|`,
+-- `=>`, `<=` and `@`, none after a comma, and parentheses exactly round an operand
 -- whose form is not allowed in its place without them.
 use Rattle.std.specs.Prelude.{ℕ, ◌-◌, ◌+◌, min, List, [], ◌∷◌, ◌++◌, codes, nat_le, if◌then◌else◌}
 use Rattle.std.specs.Fmt.{decimal, signed_decimal}
@@ -61,10 +62,13 @@ constraint_text depth c = term_text depth c.low ++ (codes " <= " ++ term_text de
 
 abbrev pub state_text : ℕ → StatePred → List ℕ
 state_text depth (Owner file owner) = codes "owner(" ++ (term_text depth file ++ (codes "," ++ (term_text depth owner ++ codes ")")))
-state_text depth (HasXattr file name value) = codes "has_xattr(" ++ (term_text depth file ++ (codes "," ++ (term_text depth name ++ (codes "," ++ (term_text depth value ++ codes ")")))))
+state_text depth (HasXattr file name value) = codes "has_xattr("
+    ++ (term_text depth file ++ (codes ","
+    ++ (term_text depth name ++ (codes "," ++ (term_text depth value ++ codes ")")))))
 state_text depth (InDir file directory) = codes "in_dir(" ++ (term_text depth file ++ (codes "," ++ (term_text depth directory ++ codes ")")))
 
--- one binder more. The count stands still at the end of 64 bits, which no formula within the limits comes near
+-- one binder more. The count stands still at the end of 64 bits, which no formula within the limits
+-- comes near
 abbrev pub inner_depth : ℕ → ℕ
 inner_depth depth = min (depth + 1) 18_446_744_073_709_551_615
 

@@ -7,7 +7,8 @@ use Rattle.bl_tokens.specs.declared.tokens.Token.{Token}
 use Rattle.bl_tokens.specs.declared.tokens.Token.TheVariants as tokens
 use Rattle.bl_tokens.specs.Classes.{is_word_byte}
 
--- what follows a word or a number goes on with neither: the end of the text, or a byte that is no letter, digit, `_` or `-`
+-- what follows a word or a number goes on with neither: the end of the text, or a byte that is no
+-- letter, digit, `_` or `-`
 abbrev pub EndsRun : List ℕ → Type 0
 EndsRun [] = Unit {0}
 EndsRun (byte ∷ more) = (is_word_byte byte ≡ false) × ((byte == 45) ≡ false)

@@ -1,4 +1,5 @@
--- The values of which what is written is a text (this project's own): closed and well sorted formulas that have a spelling, without a parameter before a `says`.
+-- The values of which what is written is a text (this project's own): closed and well sorted
+-- formulas that have a spelling, without a parameter before a `says`.
 use Rattle.std.specs.Prelude.{List}
 use Rattle.bl_syntax.specs.declared.terms.Sort.{Sort}
 use Rattle.bl_syntax.specs.declared.terms.Term.{Term}

@@ -1,4 +1,5 @@
--- The variables in scope at a place of a text, the innermost first, each with the sort of its binder.
+-- The variables in scope at a place of a text, the innermost first, each with the sort of its
+-- binder.
 use Rattle.std.specs.Prelude.{ℕ, zero, suc, List, [], ◌∷◌, Bool, true, false, Option, Some, None, if◌then◌else◌}
 use Rattle.std.specs.Str.{bytes_eq}
 use Rattle.std.specs.Option.{option_map}

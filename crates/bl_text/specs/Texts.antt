@@ -31,12 +31,17 @@ AreOneFault e f = (e ≡ faults.NoMemory) ⊎ ((f ≡ faults.NoMemory) ⊎ (e �
 
 -- the whole text is one of the formula
 pub data IsFormulaText (text : List ℕ) (f : FormulaView) : Type 0 where
-  whole : (there : Cursor) → Is text false formula [] 0 (beginning text) there f → is_end there.token ≡ true → IsFormulaText text f
+  whole : (there : Cursor) → Is text false formula [] 0 (beginning text) there f
+      → is_end there.token ≡ true → IsFormulaText text f
 
 -- the text is none of a formula, and this is its first fault
 pub data FormulaFault (text : List ℕ) : TextFault → Type 0 where
-  in_formula : (e : TextFault) → HasFirstFault text false formula [] 0 (beginning text) e → FormulaFault text e
-  behind_formula : (there : Cursor) (f : FormulaView) → Is text false formula [] 0 (beginning text) there f → is_continued_by formula there.token ≡ false → is_end there.token ≡ false → FormulaFault text (Unexpected there.at)
+  in_formula : (e : TextFault) → HasFirstFault text false formula [] 0 (beginning text) e
+      → FormulaFault text e
+  behind_formula : (there : Cursor) (f : FormulaView)
+      → Is text false formula [] 0 (beginning text) there f
+      → is_continued_by formula there.token ≡ false → is_end there.token ≡ false
+      → FormulaFault text (Unexpected there.at)
 
 -- ---- statements
 
@@ -82,7 +87,8 @@ span text here = do
 
 -- the whole text is one of what is said
 pub data IsSayingText (text : List ℕ) : StatementView → Type 0 where
-  whole_saying : (who : List ℕ) (here there : Cursor) (f : FormulaView) (from to : TimePoint) → opening text (beginning text) ≡ Ok (who, here) → Is text true formula [] 0 here there f
+  whole_saying : (who : List ℕ) (here there : Cursor) (f : FormulaView) (from to : TimePoint)
+      → opening text (beginning text) ≡ Ok (who, here) → Is text true formula [] 0 here there f
       → span text there ≡ Ok (from, to) → IsSayingText text (statement_view who f from to)
 
 -- the whole text is one of the statement
@@ -93,6 +99,10 @@ pub record IsStatementText (text : List ℕ) (s : StatementView) : Type 0 where
 -- the text is none of a statement, and this is its first fault
 pub data StatementFault (text : List ℕ) : TextFault → Type 0 where
   in_opening : (e : TextFault) → opening text (beginning text) ≡ Err e → StatementFault text e
-  in_body : (who : List ℕ) (here : Cursor) (e : TextFault) → opening text (beginning text) ≡ Ok (who, here) → HasFirstFault text true formula [] 0 here e → StatementFault text e
-  in_span : (who : List ℕ) (here there : Cursor) (f : FormulaView) (e : TextFault) → opening text (beginning text) ≡ Ok (who, here) → Is text true formula [] 0 here there f
-      → is_continued_by formula there.token ≡ false → span text there ≡ Err e → StatementFault text e
+  in_body : (who : List ℕ) (here : Cursor) (e : TextFault)
+      → opening text (beginning text) ≡ Ok (who, here) → HasFirstFault text true formula [] 0 here e
+      → StatementFault text e
+  in_span : (who : List ℕ) (here there : Cursor) (f : FormulaView) (e : TextFault)
+      → opening text (beginning text) ≡ Ok (who, here) → Is text true formula [] 0 here there f
+      → is_continued_by formula there.token ≡ false → span text there ≡ Err e
+      → StatementFault text e

@@ -53,7 +53,8 @@ fn on_interval(
 /// Whether a principal or a variable stands there, before `says`.
 #[tactic(auto, unfolding(crate::specs::Grammar::is_saying))]
 fn is_saying(here: &Cursor, ahead: &Cursor) -> bool
-    ensures { (text : List ℕ) → ahead.now ≡ cursor_after_node text here.now → result ≡ is_saying text here.now }
+    ensures { (text : List ℕ) → ahead.now ≡ cursor_after_node text here.now →
+        result ≡ is_saying text here.now }
 {
     match &here.token {
         Token::Name(_) | Token::Variable(_) => is_word(Keyword::Says, &ahead.token),
@@ -64,7 +65,8 @@ fn is_saying(here: &Cursor, ahead: &Cursor) -> bool
 /// Whether a name stands there, before `(`.
 #[tactic(auto, unfolding(crate::specs::Grammar::is_call))]
 fn is_call(here: &Cursor, ahead: &Cursor) -> bool
-    ensures { (text : List ℕ) → ahead.now ≡ cursor_after_node text here.now → result ≡ is_call text here.now }
+    ensures { (text : List ℕ) → ahead.now ≡ cursor_after_node text here.now →
+        result ≡ is_call text here.now }
 {
     match &here.token {
         Token::Name(_) => is_sign(Sign::Open, &ahead.token),
@@ -173,7 +175,8 @@ fn simple_here(
     requires ahead_left { ahead.now.left ≡ here.old.left - 1 }
     requires not_open { is_sign Sign.Open here.old.token ≡ false }
     requires no_call { is_call text.now here.old ≡ false }
-    ensures read { IfOk result (λ f. (depth : ℕ) → ReadsFormula text.now in_statement grammar.primary (variables scope.now) depth here.old here.new (formula_view f.value)) }
+    ensures read { IfOk result (λ f. (depth : ℕ) → ReadsFormula text.now in_statement
+        grammar.primary (variables scope.now) depth here.old here.new (formula_view f.value)) }
     ensures fault { IfErr result (λ e. (depth : ℕ) → HasFirstFault text.now in_statement grammar.primary (variables scope.now) depth here.old e) }
 {
     let (f, there) = simple_formula(alloc, text, in_statement, scope, here, ahead)?;
@@ -198,7 +201,8 @@ fn call_here(
     requires ahead_left { ahead.now.left ≡ here.old.left - 1 }
     requires not_open { is_sign Sign.Open here.old.token ≡ false }
     requires call { is_call text.now here.old ≡ true }
-    ensures read { IfOk result (λ f. (depth : ℕ) → ReadsFormula text.now in_statement grammar.primary (variables scope.now) depth here.old here.new (formula_view f.value)) }
+    ensures read { IfOk result (λ f. (depth : ℕ) → ReadsFormula text.now in_statement
+        grammar.primary (variables scope.now) depth here.old here.new (formula_view f.value)) }
     ensures fault { IfErr result (λ e. (depth : ℕ) → HasFirstFault text.now in_statement grammar.primary (variables scope.now) depth here.old e) }
 {
     let (f, there) = call(alloc, text, in_statement, scope, here, ahead)?;
@@ -221,7 +225,8 @@ fn primary(
     requires ahead_within { ahead.now.end ≤ length text.now }
     requires ahead_left { ahead.now.left ≡ here.old.left - 1 }
     requires not_open { is_sign Sign.Open here.old.token ≡ false }
-    ensures read { IfOk result (λ f. (depth : ℕ) → ReadsFormula text.now in_statement grammar.primary (variables scope.now) depth here.old here.new (formula_view f.value)) }
+    ensures read { IfOk result (λ f. (depth : ℕ) → ReadsFormula text.now in_statement
+        grammar.primary (variables scope.now) depth here.old here.new (formula_view f.value)) }
     ensures fault { IfErr result (λ e. (depth : ℕ) → HasFirstFault text.now in_statement grammar.primary (variables scope.now) depth here.old e) }
 {
     if is_call(here, ahead) {
@@ -247,7 +252,8 @@ fn postfix(
     requires ahead_within { ahead.now.end ≤ length text.now }
     requires ahead_left { ahead.now.left ≡ here.old.left - 1 }
     requires not_open { is_sign Sign.Open here.old.token ≡ false }
-    ensures read { IfOk result (λ f. (depth : ℕ) → ReadsFormula text.now in_statement grammar.postfix (variables scope.now) depth here.old here.new (formula_view f.value)) }
+    ensures read { IfOk result (λ f. (depth : ℕ) → ReadsFormula text.now in_statement
+        grammar.postfix (variables scope.now) depth here.old here.new (formula_view f.value)) }
     ensures fault { IfErr result (λ e. (depth : ℕ) → HasFirstFault text.now in_statement grammar.postfix (variables scope.now) depth here.old e) }
 {
     let first = primary(alloc, text, in_statement, scope, here, ahead)?;
@@ -385,7 +391,8 @@ fn disjunction(
 ) -> Result<Box<Formula>, TextFault>
     requires scope { length (variables scope.now) + here.old.left ≤ 512 }
     requires within { here.old.end ≤ length text.now }
-    ensures read { IfOk result (λ f. ReadsFormula text.now in_statement grammar.disjunction (variables scope.now) depth here.old here.new (formula_view f.value)) }
+    ensures read { IfOk result (λ f. ReadsFormula text.now in_statement grammar.disjunction
+        (variables scope.now) depth here.old here.new (formula_view f.value)) }
     ensures fault { IfErr result (λ e. HasFirstFault text.now in_statement grammar.disjunction (variables scope.now) depth here.old e) }
 {
     let first = conjunction(alloc, text, in_statement, scope, depth, here, ahead)?;
@@ -424,7 +431,8 @@ fn conjunction(
 ) -> Result<Box<Formula>, TextFault>
     requires scope { length (variables scope.now) + here.old.left ≤ 512 }
     requires within { here.old.end ≤ length text.now }
-    ensures read { IfOk result (λ f. ReadsFormula text.now in_statement grammar.conjunction (variables scope.now) depth here.old here.new (formula_view f.value)) }
+    ensures read { IfOk result (λ f. ReadsFormula text.now in_statement grammar.conjunction
+        (variables scope.now) depth here.old here.new (formula_view f.value)) }
     ensures fault { IfErr result (λ e. HasFirstFault text.now in_statement grammar.conjunction (variables scope.now) depth here.old e) }
 {
     let first = unary(alloc, text, in_statement, scope, depth, here, ahead)?;

@@ -18,12 +18,14 @@ ghost use Rattle.bl_text.specs.Met.{IsMisread};
 
 /// A text is one of one formula at most.
 pub fn one_formula()
-    ensures { (text : List ℕ) (f g : FormulaView) → IsFormulaText text f → IsFormulaText text g → f ≡ g }
+    ensures { (text : List ℕ) (f g : FormulaView) → IsFormulaText text f → IsFormulaText text g
+        → f ≡ g }
 {}
 
 /// A text of a formula has no fault, out of memory aside.
 pub fn no_fault_of_a_formula()
-    ensures { (text : List ℕ) (f : FormulaView) (e : TextFault) → IsFormulaText text f → FormulaFault text e
+    ensures { (text : List ℕ) (f : FormulaView) (e : TextFault) → IsFormulaText text f
+        → FormulaFault text e
         → e ≡ TextFault.NoMemory }
 {}
 
@@ -35,12 +37,14 @@ pub fn one_fault_of_a_formula()
 
 /// A text is one of one statement at most.
 pub fn one_statement()
-    ensures { (text : List ℕ) (s t : StatementView) → IsStatementText text s → IsStatementText text t → s ≡ t }
+    ensures { (text : List ℕ) (s t : StatementView) → IsStatementText text s
+        → IsStatementText text t → s ≡ t }
 {}
 
 /// A text of a statement has no fault, out of memory aside.
 pub fn no_fault_of_a_statement()
-    ensures { (text : List ℕ) (s : StatementView) (e : TextFault) → IsStatementText text s → StatementFault text e
+    ensures { (text : List ℕ) (s : StatementView) (e : TextFault) → IsStatementText text s
+        → StatementFault text e
         → e ≡ TextFault.NoMemory }
 {}
 
@@ -63,7 +67,8 @@ pub fn exact_fault_of_a_formula()
 
 /// The tokens of a formula's text are a sentence of the grammar.
 pub fn sentence_of_a_formula()
-    ensures { (text : List ℕ) (f : FormulaView) → IsFormulaText text f → IsSentenceText IsSentence text }
+    ensures { (text : List ℕ) (f : FormulaView) → IsFormulaText text f
+        → IsSentenceText IsSentence text }
 {}
 
 /// The place of the first fault of a text of no statement is exact likewise.
@@ -81,17 +86,20 @@ pub fn sayable_text()
 /// What a formula is written as is a text of it, where it is closed and well sorted within the limits, has a
 /// spelling, and has no parameter before a `says`.
 pub fn formula_round_trip()
-    ensures { (parameters : List Sort) (f : FormulaView) → IsPrintable parameters f → IsFormulaText (formula_text 0 f) f }
+    ensures { (parameters : List Sort) (f : FormulaView) → IsPrintable parameters f
+        → IsFormulaText (formula_text 0 f) f }
 {}
 
 /// What a condition on time is written as is a text of it, likewise.
 pub fn constraint_round_trip()
-    ensures { (parameters : List Sort) (c : Constraint) → IsPrintable parameters (compare c) → IsFormulaText (constraint_text 0 c) (compare c) }
+    ensures { (parameters : List Sort) (c : Constraint) → IsPrintable parameters (compare c)
+        → IsFormulaText (constraint_text 0 c) (compare c) }
 {}
 
 /// What a condition on the server's state is written as is a text of it, likewise.
 pub fn state_round_trip()
-    ensures { (parameters : List Sort) (s : StatePred) → IsPrintable parameters (state s) → IsFormulaText (state_text 0 s) (state s) }
+    ensures { (parameters : List Sort) (s : StatePred) → IsPrintable parameters (state s)
+        → IsFormulaText (state_text 0 s) (state s) }
 {}
 
 /// What a statement is written as is a text of it, where it has a spelling.
@@ -101,7 +109,8 @@ pub fn statement_round_trip()
 
 /// The tokens of a statement's text are a sentence of the grammar of statements.
 pub fn sentence_of_a_statement()
-    ensures { (text : List ℕ) (s : StatementView) → IsStatementText text s → IsSentenceText IsStatementSentence text }
+    ensures { (text : List ℕ) (s : StatementView) → IsStatementText text s
+        → IsSentenceText IsStatementSentence text }
 {}
 
 /// Each text is one of a formula or has a fault other than out of memory.
@@ -119,26 +128,32 @@ pub fn statement_or_fault()
 /// A text whose tokens are a sentence of the grammar is one of a formula, or it has a fault of sorts
 /// or one of size.
 pub fn formula_of_a_sentence()
-    ensures { (text : List ℕ) → IsSentenceText IsSentence text → ((f : FormulaView) × IsFormulaText text f)
+    ensures { (text : List ℕ) → IsSentenceText IsSentence text
+        → ((f : FormulaView) × IsFormulaText text f)
         ⊎ ((at : ℕ) × (FormulaFault text (TextFault.Sort at) ⊎ FormulaFault text (TextFault.TooLarge at))) }
 {}
 
 /// A text whose tokens are a sentence of the grammar of statements is one of a statement, or it has a
 /// fault of sorts or one of size.
 pub fn statement_of_a_sentence()
-    ensures { (text : List ℕ) → IsSentenceText IsStatementSentence text → ((s : StatementView) × IsStatementText text s)
+    ensures { (text : List ℕ) → IsSentenceText IsStatementSentence text
+        → ((s : StatementView) × IsStatementText text s)
         ⊎ ((at : ℕ) × (StatementFault text (TextFault.Sort at) ⊎ StatementFault text (TextFault.TooLarge at))) }
 {}
 
 /// Where a fault `Unexpected`, `UnknownName` or `BadDate` of a text of no formula is met, no sentence
 /// of the grammar goes on: no text with the same tokens up to and with that one has those of one.
 pub fn no_sentence_goes_on()
-    ensures { (text : List ℕ) (e : TextFault) (at : ℕ) → IsMisread at e → (x : IsExact FormulaFault IsSentence text e)
-        → (other : List ℕ) → SameTokens text other (x.number + 1) 0 → IsSentenceText IsSentence other → ⊥ }
+    ensures { (text : List ℕ) (e : TextFault) (at : ℕ) → IsMisread at e
+        → (x : IsExact FormulaFault IsSentence text e)
+        → (other : List ℕ) → SameTokens text other (x.number + 1) 0
+        → IsSentenceText IsSentence other → ⊥ }
 {}
 
 /// No sentence of the grammar of statements goes on after such a fault of a text of no statement.
 pub fn no_statement_goes_on()
-    ensures { (text : List ℕ) (e : TextFault) (at : ℕ) → IsMisread at e → (x : IsExact StatementFault IsStatementSentence text e)
-        → (other : List ℕ) → SameTokens text other (x.number + 1) 0 → IsSentenceText IsStatementSentence other → ⊥ }
+    ensures { (text : List ℕ) (e : TextFault) (at : ℕ) → IsMisread at e
+        → (x : IsExact StatementFault IsStatementSentence text e)
+        → (other : List ℕ) → SameTokens text other (x.number + 1) 0
+        → IsSentenceText IsStatementSentence other → ⊥ }
 {}

@@ -9,12 +9,10 @@ ghost use Rattle.bl_text.specs.Texts.{IsFormulaText, FormulaFault, IsStatementTe
 use crate::formulas::formula_at;
 use crate::pieces::step;
 use crate::scope::Scope;
+use bl_syntax::limits::MOST_FORMULA_NODES;
 use bl_syntax::{Formula, Principal, Statement, Term, TimePoint};
 use bl_tokens::{Cursor, Keyword, TextFault, Token, is_word, token_from};
 use std::alloc::Global;
-
-/// The greatest number of nodes of a formula.
-const MOST_NODES: u16 = 512;
 
 /// The formula that the text writes, or the first fault of the text; or `NoMemory`.
 pub fn parse_formula(alloc: Global, text: &[u8]) -> Result<Formula, TextFault>
@@ -56,7 +54,7 @@ fn beginning(text: &[u8]) -> Cursor
     ensures within { result.end ≤ length text.now }
     ensures left { result.left ≡ 512 }
 {
-    token_from(text, 0, MOST_NODES)
+    token_from(text, 0, MOST_FORMULA_NODES)
 }
 
 fn is_end(token: &Token) -> bool

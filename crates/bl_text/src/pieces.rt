@@ -221,7 +221,9 @@ pub fn interval(
 ) -> Result<(Term, Term), TextFault>
     requires scope { length (variables scope.now) ≤ 512 }
     requires within { here.old.end ≤ length text.now }
-    ensures value { MatchResult result (λ r. interval text.now in_statement (variables scope.now) here.old ≡ Ok (r.0, r.1, here.new)) (λ e. interval text.now in_statement (variables scope.now) here.old ≡ Err e) }
+    ensures value { MatchResult result (λ r. interval text.now in_statement (variables scope.now)
+        here.old ≡ Ok (r.0, r.1, here.new)) (λ e. interval text.now in_statement
+        (variables scope.now) here.old ≡ Err e) }
     ensures within { OnOk result (here.new.end ≤ length text.now) }
     ensures left { OnOk result (here.new.left + 1 ≤ here.old.left) }
 {
@@ -295,7 +297,8 @@ pub fn speaker(
     requires ahead { ahead.now ≡ cursor_after_node text.now here.old }
     requires ahead_within { ahead.now.end ≤ length text.now }
     requires ahead_left { ahead.now.left ≡ here.old.left - 1 }
-    ensures value { MatchResult result (λ who. speaker text.now (variables scope.now) here.old ≡ Ok (who, here.new)) (λ e. speaker text.now (variables scope.now) here.old ≡ Err e) }
+    ensures value { MatchResult result (λ who. speaker text.now (variables scope.now) here.old
+        ≡ Ok (who, here.new)) (λ e. speaker text.now (variables scope.now) here.old ≡ Err e) }
     ensures within { OnOk result (here.new.end ≤ length text.now) }
     ensures left { OnOk result (here.new.left + 1 ≤ here.old.left) }
 {
@@ -417,7 +420,8 @@ fn constant_formula(
     ahead: &Cursor,
 ) -> Result<(Box<Formula>, Cursor), TextFault>
     requires ahead_left { ahead.now.left ≡ here.now.left - 1 }
-    ensures value { (text : List ℕ) → ahead.now ≡ cursor_after_node text here.now → GivesPieceWith result (constant_formula text (if holds then truth else falsity) here.now) }
+    ensures value { (text : List ℕ) → ahead.now ≡ cursor_after_node text here.now →
+        GivesPieceWith result (constant_formula text (if holds then truth else falsity) here.now) }
     ensures ahead { IfOk result (λ r. r.1 ≡ ahead.now) }
     ensures left { IfOk result (λ r. r.1.left + 1 ≤ here.now.left) }
 {

@@ -1,4 +1,5 @@
--- Dates and times of day: their forms, and the seconds that they name. Which dates there are, and their day numbers, is the calendar of `jiff`.
+-- Dates and times of day: their forms, and the seconds that they name. Which dates there are, and
+-- their day numbers, is the calendar of `jiff`.
 use Rattle.std.specs.Prelude.{ℕ, ℤ, pos, negsuc, ◌+◌, ◌-◌, ◌*◌, ◌*ℤ◌, List, length, slice_index, Bool, nat_le, ◌&&◌, ◌==◌, Option, Some, None, if◌then◌else◌}
 use Rattle.bl_syntax.specs.Names.{is_digit}
 use Rattle.jiff_core.specs.Calendar.{days_in_month, days_from_civil}
@@ -13,11 +14,14 @@ has_byte bytes place byte = slice_index bytes place == byte
 
 -- whether the bytes begin as `yyyy-mm-dd`
 abbrev pub has_date_front : List ℕ → Bool
-has_date_front bytes = nat_le 10 (length bytes) && has_two bytes 0 && has_two bytes 2 && has_byte bytes 4 45 && has_two bytes 5 && has_byte bytes 7 45 && has_two bytes 8
+has_date_front bytes = nat_le 10 (length bytes) && has_two bytes 0 && has_two bytes 2
+    && has_byte bytes 4 45 && has_two bytes 5 && has_byte bytes 7 45 && has_two bytes 8
 
 -- whether the bytes go on from the tenth as `Thh:mm:ssZ`
 abbrev pub has_time_of_day : List ℕ → Bool
-has_time_of_day bytes = nat_le 20 (length bytes) && has_byte bytes 10 84 && has_two bytes 11 && has_byte bytes 13 58 && has_two bytes 14 && has_byte bytes 16 58 && has_two bytes 17 && has_byte bytes 19 90
+has_time_of_day bytes = nat_le 20 (length bytes) && has_byte bytes 10 84 && has_two bytes 11
+    && has_byte bytes 13 58 && has_two bytes 14 && has_byte bytes 16 58 && has_two bytes 17
+    && has_byte bytes 19 90
 
 -- the number that two digits write
 abbrev pub two_at : List ℕ → ℕ → ℕ

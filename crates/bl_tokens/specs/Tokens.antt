@@ -1,4 +1,5 @@
--- The tokens of a text (this project's own). A token takes as many bytes as it can, and what is no token is a bad one at its first byte.
+-- The tokens of a text (this project's own). A token takes as many bytes as it can, and what is no
+-- token is a bad one at its first byte.
 use Rattle.std.specs.Prelude.{ℕ, ℤ, pos, neg_ℤ, ◌+ℤ◌, ◌+◌, ◌-◌, ◌^◌, List, [], ◌∷◌, length, take, drop, codes, Bool, false, nat_le, nat_eq, ◌&&◌, ◌==◌, Option, Some, None, if◌then◌else◌}
 use Rattle.std.specs.List.{prefix_len, take_while, starts_with}
 use Rattle.std.specs.Str.Parse.{digits_value}
@@ -81,7 +82,9 @@ time_lexeme bytes =
 
 -- what stands after a `-`
 abbrev pub minus_lexeme : List ℕ → Lexeme
-minus_lexeme others = if starts_with nat_eq others (codes "inf") then sized_lexeme (tokens.Constant (terms.Time times.NegInf)) 4 else negative_lexeme (digits_of others)
+minus_lexeme others = if starts_with nat_eq others (codes "inf")
+    then sized_lexeme (tokens.Constant (terms.Time times.NegInf)) 4
+    else negative_lexeme (digits_of others)
 
 -- what stands after a `+`
 abbrev pub plus_lexeme : List ℕ → Lexeme
@@ -123,7 +126,8 @@ has_first_byte byte [] = false
 has_first_byte byte (first ∷ others) = first == byte
 
 abbrev sized_text : ℕ → List ℕ → List ℕ → Lexeme
-sized_text len text cursor_after = if has_first_byte 34 cursor_after && is_text text then sized_lexeme (tokens.Constant (terms.Text text)) (len + 2) else bad_lexeme
+sized_text len text cursor_after = if has_first_byte 34 cursor_after && is_text text
+    then sized_lexeme (tokens.Constant (terms.Text text)) (len + 2) else bad_lexeme
 
 -- what stands after a `"`
 abbrev pub text_lexeme : List ℕ → Lexeme
@@ -180,7 +184,8 @@ first_lexeme (first ∷ others) =
 abbrev lexeme_cursor : ℕ → ℕ → Lexeme → Cursor
 lexeme_cursor at left found = record { at = at; token = found.token; end = at + found.size; left = left }
 
--- the place of the first token from that byte of the text on, after spaces, if so many nodes are left
+-- the place of the first token from that byte of the text on, after spaces, if so many nodes are
+-- left
 unfoldable pub token_from : List ℕ → ℕ → ℕ → Cursor
 token_from text from left = let at = from + prefix_len (is_in classes.Space) (drop from text) in lexeme_cursor at left (first_lexeme (drop at text))
 

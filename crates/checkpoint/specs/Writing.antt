@@ -8,7 +8,8 @@ use Rattle.access_history.specs.Base.{BaseView}
 use Rattle.checkpoint_image.specs.ImageSpelling.{head_spelling, statements_spelling, issues_spelling, image_spelling, AreSpelledIn, HasFittingSignature, HasFewCited}
 use Rattle.checkpoint.specs.Reading.{IsImageOf}
 
--- the moment is in its range, and the statements with their signatures, and the issues with the numbers that they cite, fit their fields
+-- the moment is in its range, and the statements with their signatures, and the issues with the
+-- numbers that they cite, fit their fields
 pub record FitsImage (base : BaseView) : Type 0 where
   pub moment : IsMoment base.moment
   pub statements : AreSpelledIn HasFittingSignature base.statements

@@ -39,7 +39,9 @@ fn state_of(alloc: Global, image: Image) -> Result<Base, CodecFault>
 // The state of an image that was read at the front of the bytes, if this rest of them is empty.
 fn state_to_end(alloc: Global, bytes: &[u8], image: Image, rest: &[u8]) -> Result<Base, CodecFault>
     requires { AreOfSameNodes image.tree image.meta }
-    ensures { (at : ℕ → List ℕ → Reading BaseView) → at (length bytes.now) bytes.now ≡ Ok (base_of_image image, rest.now) → GivesState at bytes.now result }
+    ensures { (at : ℕ → List ℕ → Reading BaseView) →
+        at (length bytes.now) bytes.now ≡ Ok (base_of_image image, rest.now) →
+        GivesState at bytes.now result }
 {
     match state_of(alloc, image) {
         Err(fault) => Err(fault),

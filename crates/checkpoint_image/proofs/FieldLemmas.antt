@@ -1,5 +1,5 @@
 -- The fields of nodes: what is read is spelled so, and what is spelled so is read.
-use Rattle.std.proofs.Common.{◌≡◌, ℕ, ◌^◌, ◌<◌, Bool, true, false, cond, eqb, ltb, List, [], ◌∷◌, ◌++◌, length, Option, Some, None, Ok, Err, refl, sym, ap, subst, ◌∙◌, arith, nat_cmp, Ordering, Less, Equal, Greater, is_lt}
+use Rattle.std.proofs.Common.{◌≡◌, ℕ, ◌^◌, ◌<◌, true, false, cond, eqb, ltb, List, [], ◌∷◌, ◌++◌, Option, Some, Ok, Err, refl, ap, subst, ◌∙◌, arith, nat_cmp, Ordering, Less, Equal, Greater, is_lt}
 use Rattle.std.specs.Prelude.{IsTrue}
 use Rattle.std.specs.Int.{w64}
 use Rattle.std.specs.Cmp.Lexicographic.{slice_cmp}
@@ -10,7 +10,6 @@ use Rattle.bl_syntax.specs.Reading.{◌>>=◌, place}
 use Rattle.bl_syntax.specs.Codec.{AreBytes, IsCodec}
 use Rattle.bl_syntax.proofs.CodecLemmas.{bind_ok, by_test, ok_is, bind_memoryless, codec}
 use Rattle.bl_syntax.proofs.FieldLemmas.{wide64, number_again, coded_found, coded_again, coded_memoryless, word_found, word_again, word_memoryless}
-use Rattle.bl_syntax.proofs.WordLemmas.{IsBetween}
 use Rattle.procap.proofs.ItemsLemmas.{test_memoryless}
 use Rattle.file_world.specs.declared.operation.Kind.{Kind}
 use Rattle.file_world.specs.declared.operation.Kind.TheVariants.{File, Directory}

@@ -1,5 +1,5 @@
 -- An image that is read may be written.
-use Rattle.std.proofs.Common.{◌≡◌, ℕ, ◌≤◌, ◌<◌, List, [], ◌∷◌, length, Result, Ok, Err, arith}
+use Rattle.std.proofs.Common.{ℕ, List, [], ◌∷◌, Result, Ok, Err, arith}
 use Rattle.std.specs.Prelude.{IfOk, IsTrue}
 use Rattle.std.specs.List.{AllByRecursion}
 use Rattle.bl_syntax.specs.declared.codec_fault.CodecFault.{CodecFault}
@@ -9,13 +9,12 @@ use Rattle.file_world.specs.FileNames.{is_attribute_name}
 use Rattle.file_world.specs.Attributes.{Attributes}
 use Rattle.file_world.specs.World.{Item}
 use Rattle.access_history.specs.declared.event.Issue.{Issue}
-use Rattle.access_history.specs.Base.{BaseView}
 use Rattle.record_parts.specs.Fields.{FitsOneByte}
 use Rattle.node_rows.specs.Rows.{item_rows, AreOfSameNodes}
 use Rattle.node_rows.proofs.NameLengthLemmas.{short_name_or_none, short_attribute_name}
 use Rattle.checkpoint_image.specs.declared.image.Image.{Image}
-use Rattle.checkpoint_image.specs.NodeSpelling.{IsSpellableNode, AreSpellableNodes, HasFittingParts}
-use Rattle.checkpoint_image.specs.ImageSpelling.{IsSpellableEntry, IsSpellableIssue, AreSpelledIn, IsSpellableImage, HasFittingSignature, HasFewCited, HaveFittingRows, HasFittingFields}
+use Rattle.checkpoint_image.specs.NodeSpelling.{IsSpellableNode, HasFittingParts}
+use Rattle.checkpoint_image.specs.ImageSpelling.{IsSpellableEntry, IsSpellableIssue, IsSpellableImage, HasFittingSignature, HasFewCited, HasFittingFields}
 use Rattle.checkpoint_image.specs.ImageReading.{fields_at, image_at, base_of_image}
 use Rattle.checkpoint_image.specs.WithdrawnNumbers.{AreStanding}
 use Rattle.checkpoint_image.proofs.ImageLemmas.{fields_codec, image_codec}

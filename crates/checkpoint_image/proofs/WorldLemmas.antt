@@ -1,5 +1,5 @@
 -- The nodes of a world within its limits have a spelling.
-use Rattle.std.proofs.Common.{◌≡◌, ℕ, ◌<◌, ◌≤◌, ◌^◌, ◌-◌, true, false, Option, Some, option_map, List, [], ◌∷◌, length, map, refl, sym, ap, ◌∙◌, subst, arith, nat_eq, nat_cmp}
+use Rattle.std.proofs.Common.{◌≡◌, ℕ, ◌<◌, ◌^◌, ◌-◌, true, false, Option, Some, option_map, List, [], ◌∷◌, length, map, refl, sym, ap, ◌∙◌, subst, arith, nat_eq, nat_cmp}
 use Rattle.std.specs.Prelude.{IsTrue}
 use Rattle.std.specs.List.{AllByRecursion}
 use Rattle.std.specs.List.Sorted.{IsStrictlySortedBy}
@@ -9,13 +9,13 @@ use Rattle.std.proofs.lemmas.List.{length-map}
 use Rattle.std.proofs.lemmas.Option.{same_Some}
 use Rattle.file_world.specs.FileNames.{is_node_name}
 use Rattle.file_world.specs.Limits.{root_number}
-use Rattle.file_world.specs.Tree.{Node, node_at, ReachesRoot, at_root, below, root, IsSound}
-use Rattle.file_world.specs.Attributes.{Mark, mark_at, IsMark}
+use Rattle.file_world.specs.Tree.{Node, node_at, ReachesRoot, at_root, below, root}
+use Rattle.file_world.specs.Attributes.{mark_at}
 use Rattle.file_world.specs.World.{Item, World, node_of, mark_of, tree_of, marks_of, IsWorld}
 use Rattle.file_world.proofs.RowLemmas.{split, lookup_here, lookup_later, AreRising, rising_head, rising_tail, above_found}
 use Rattle.file_world.proofs.HalvesLemmas.{lookup-part}
 use Rattle.node_rows.specs.Names.{is_name_or_none}
-use Rattle.checkpoint_image.specs.NodeSpelling.{AreSpellableAttributes, IsSpellableNode, AreSpellableNodes}
+use Rattle.checkpoint_image.specs.NodeSpelling.{IsSpellableNode, AreSpellableNodes}
 
 -- what holds of each value that is found under a number holds of each row
 all_found : {V : Type 0} (P : ℕ × V → Type 0) (rows : List (ℕ × V)) → AreRising rows → ((number : ℕ) (value : V) → lookup (nat_eq number) rows ≡ Some value → P (number, value)) → AllByRecursion P rows

@@ -1,4 +1,5 @@
--- Lists, each item of which is read with what the one before it leaves, such as the number that it has to pass. This project's own.
+-- Lists, each item of which is read with what the one before it leaves, such as the number that it
+-- has to pass. This project's own.
 use Rattle.std.specs.Prelude.{ℕ, zero, suc, List, [], ◌∷◌, ◌++◌, ◌<◌, ◌≤◌, ◌^◌, length, Ok, Err}
 use Rattle.std.specs.List.{flat_map}
 use Rattle.std.specs.Int.{w32, to_be_bytes}
@@ -7,7 +8,8 @@ use Rattle.bl_syntax.specs.Reading.{◌>>=◌, Reading}
 use Rattle.record_parts.specs.Fields.{u32_at}
 
 -- so many, one after the other
-unfoldable pub chain_at : {S A : Type 0} → (S → List ℕ → Reading A) → (A → S) → ℕ → S → List ℕ → Reading (List A)
+unfoldable pub chain_at : {S A : Type 0} → (S → List ℕ → Reading A) → (A → S) → ℕ → S → List ℕ →
+    Reading (List A)
 chain_at one_at left zero state bytes = Ok ([], bytes)
 chain_at one_at left (suc count) state bytes = do
   first ← one_at state bytes
@@ -15,12 +17,14 @@ chain_at one_at left (suc count) state bytes = do
   Ok (first.0 ∷ others.0, others.1)
 
 -- how many there are, in one byte, and each
-unfoldable pub short_list_at : {S A : Type 0} → (S → List ℕ → Reading A) → (A → S) → S → List ℕ → Reading (List A)
+unfoldable pub short_list_at : {S A : Type 0} → (S → List ℕ → Reading A) → (A → S) → S → List ℕ →
+    Reading (List A)
 short_list_at one_at left start [] = Err Short
 short_list_at one_at left start (count ∷ rest) = chain_at one_at left count start rest
 
 -- how many there are, in four bytes, and each
-unfoldable pub long_list_at : {S A : Type 0} → (S → List ℕ → Reading A) → (A → S) → S → List ℕ → Reading (List A)
+unfoldable pub long_list_at : {S A : Type 0} → (S → List ℕ → Reading A) → (A → S) → S → List ℕ →
+    Reading (List A)
 long_list_at one_at left start bytes = do
   count ← u32_at bytes
   chain_at one_at left count.0 start count.1

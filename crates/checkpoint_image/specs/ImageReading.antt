@@ -1,4 +1,5 @@
--- Reading the image of a state from the left: the state and the bytes after it, or the first fault. Whether its nodes are a tree is no question of a single field. This project's own.
+-- Reading the image of a state from the left: the state and the bytes after it, or the first fault.
+-- Whether its nodes are a tree is no question of a single field. This project's own.
 use Rattle.std.specs.Prelude.{ℕ, ℤ, Bool, List, [], ◌∷◌, ◌==◌, false, length, if◌then◌else◌, Result, Ok, Err}
 use Rattle.bl_syntax.specs.declared.codec_fault.CodecFault.{CodecFault}
 use Rattle.bl_syntax.specs.declared.codec_fault.CodecFault.TheVariants.{Short, BadTag}
@@ -61,21 +62,24 @@ issues_and_nodes_at input bytes = do
   Ok ((issues.0, nodes.0), nodes.1)
 
 -- statements, issues, and nodes
-unfoldable pub lists_at : ℕ → List ℕ → Reading (List RegisteredView × (List Issue × List (ℕ × Item)))
+unfoldable pub lists_at : ℕ → List ℕ →
+    Reading (List RegisteredView × (List Issue × List (ℕ × Item)))
 lists_at input bytes = do
   statements ← statements_at input bytes
   others ← issues_and_nodes_at input statements.1
   Ok ((statements.0, others.0), others.1)
 
 -- all fields of an image, as they stand one after the other
-unfoldable pub parts_at : ℕ → List ℕ → Reading ((ℤ × (ℕ × ℕ)) × (List RegisteredView × (List Issue × List (ℕ × Item))))
+unfoldable pub parts_at : ℕ → List ℕ →
+    Reading ((ℤ × (ℕ × ℕ)) × (List RegisteredView × (List Issue × List (ℕ × Item))))
 parts_at input bytes = do
   head ← head_at input bytes
   lists ← lists_at input head.1
   Ok ((head.0, lists.0), lists.1)
 
 -- the state of these parts
-abbrev pub base_of_parts : (ℤ × (ℕ × ℕ)) × (List RegisteredView × (List Issue × List (ℕ × Item))) → BaseView
+abbrev pub base_of_parts : (ℤ × (ℕ × ℕ)) × (List RegisteredView × (List Issue × List (ℕ × Item))) →
+    BaseView
 base_of_parts p = record { world = record { rows = p.1.1.1; next = p.0.1.1 }; statements = p.1.0; issues = p.1.1.0; moment = p.0.0; count = p.0.1.0 }
 
 -- the state of these fields, in which all statements stand
@@ -99,12 +103,14 @@ unfoldable pub image_at : ℕ → List ℕ → Reading BaseView
 image_at input [] = Err Short
 image_at input (version ∷ rest) = if version == 2 then state_at input rest else Err (BadTag (place input (version ∷ rest)))
 
--- whether the bytes begin with the version of images. An image of version 1 has none: it begins with the first byte of a moment, which is another
+-- whether the bytes begin with the version of images. An image of version 1 has none: it begins
+-- with the first byte of a moment, which is another
 abbrev pub is_versioned : List ℕ → Bool
 is_versioned [] = false
 is_versioned (version ∷ rest) = version == 2
 
--- the state of an image of either version: of version 2 if the bytes begin so, and of version 1, which is the fields alone, if not
+-- the state of an image of either version: of version 2 if the bytes begin so, and of version 1,
+-- which is the fields alone, if not
 unfoldable pub stored_image_at : ℕ → List ℕ → Reading BaseView
 stored_image_at input bytes = if is_versioned bytes then image_at input bytes else fields_at input bytes
 
@@ -115,4 +121,11 @@ whole_image bytes = image_at (length bytes) bytes >>= at_end (length bytes)
 -- the state that was read
 abbrev pub base_of_image : Image → BaseView
 base_of_image image =
-    record { world = record { rows = item_rows image.tree image.meta; next = image.next }; statements = image.statements; issues = image.issues; moment = image.moment; count = image.count }
+    record {
+      world = record { rows = item_rows image.tree image.meta; next = image.next };
+      statements = image.statements;
+      issues = image.issues;
+      moment = image.moment;
+      count =
+          image.count;
+    }

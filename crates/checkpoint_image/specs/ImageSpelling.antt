@@ -1,4 +1,5 @@
--- The image of a state, with which an area begins: its one spelling. The format is this project's own. Its numbers are big-endian.
+-- The image of a state, with which an area begins: its one spelling. The format is this project's
+-- own. Its numbers are big-endian.
 use Rattle.std.specs.Prelude.{ℕ, ℤ, List, ◌∷◌, ◌++◌, ◌<◌, ◌≤◌, ◌^◌, length}
 use Rattle.std.specs.List.{AllByRecursion}
 use Rattle.bl_syntax.specs.TimeOrder.{IsMoment}
@@ -44,9 +45,11 @@ issues_spelling issues = long_list_spelling issue_spelling issues
 -- the fields of a state: its head, its statements, its issues, and its nodes
 unfoldable pub fields_spelling : BaseView → List ℕ
 fields_spelling base =
-    head_spelling base.moment base.count base.world.next ++ (statements_spelling base.statements ++ (issues_spelling base.issues ++ nodes_spelling base.world.rows))
+    head_spelling base.moment base.count base.world.next ++ (statements_spelling base.statements
+    ++ (issues_spelling base.issues ++ nodes_spelling base.world.rows))
 
--- the image of a state: the version, which is 2, its fields, and the numbers of the withdrawn statements
+-- the image of a state: the version, which is 2, its fields, and the numbers of the withdrawn
+-- statements
 unfoldable pub image_spelling : BaseView → List ℕ
 image_spelling base = 2 ∷ (fields_spelling base ++ withdrawn_numbers_spelling base.statements)
 
@@ -77,7 +80,8 @@ HasFittingSignature entry = FitsFourBytes entry.signature
 abbrev pub HasFewCited : Issue → Type 0
 HasFewCited issue = length issue.cited ≤ 255
 
--- nodes that may be written: few enough, in rows of the same nodes, whose names, attributes and contents fit their fields
+-- nodes that may be written: few enough, in rows of the same nodes, whose names, attributes and
+-- contents fit their fields
 pub record HaveFittingRows (trees : List TreeRow) (metas : List MetaRow) : Type 0 where
   pub few : length trees < 2 ^ 32
   pub same : AreOfSameNodes trees metas

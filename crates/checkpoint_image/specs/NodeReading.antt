@@ -1,5 +1,7 @@
--- Reading the nodes of an image from the left: the value and the bytes after it, or the first fault. A node's number has to pass that of the node before it, and an attribute's name
--- has to come after the one before it in byte order; one that does not has its fault at its first byte. The order of the faults is this project's own.
+-- Reading the nodes of an image from the left: the value and the bytes after it, or the first
+-- fault. A node's number has to pass that of the node before it, and an attribute's name
+-- has to come after the one before it in byte order; one that does not has its fault at its first
+-- byte. The order of the faults is this project's own.
 use Rattle.std.specs.Prelude.{ℕ, List, [], ◌∷◌, Bool, ◌&&◌, nat_lt, ◌==◌, if◌then◌else◌, Option, Some, None, Ok, Err}
 use Rattle.std.specs.Ordering.{is_lt, nat_cmp}
 use Rattle.std.specs.Cmp.Lexicographic.{slice_cmp}
@@ -91,14 +93,16 @@ node_tail_at input bytes = do
   Ok ((name.0, held.0), held.1)
 
 -- all fields of a node, as they stand one after the other
-unfoldable pub node_fields_at : ℕ → ℕ → List ℕ → Reading ((ℕ × (Kind × (List ℕ × ℕ))) × (List ℕ × (Attributes × List ℕ)))
+unfoldable pub node_fields_at : ℕ → ℕ → List ℕ →
+    Reading ((ℕ × (Kind × (List ℕ × ℕ))) × (List ℕ × (Attributes × List ℕ)))
 node_fields_at previous input bytes = do
   head ← node_head_at previous input bytes
   tail ← node_tail_at input head.1
   Ok ((head.0, tail.0), tail.1)
 
 -- the node of its fields
-abbrev pub node_of_fields : (ℕ × (Kind × (List ℕ × ℕ))) × (List ℕ × (Attributes × List ℕ)) → ℕ × Item
+abbrev pub node_of_fields : (ℕ × (Kind × (List ℕ × ℕ))) × (List ℕ × (Attributes × List ℕ)) → ℕ ×
+    Item
 node_of_fields f =
     (f.0.0, record { kind = f.0.1.0; owner = f.0.1.1.0; attributes = f.1.1.0; place = record { directory = f.0.1.1.1; name = f.1.0 }; contents = f.1.1.1 })
 

@@ -1,4 +1,5 @@
--- The nodes of a world in an image: the one spelling of each. The format is this project's own. Its numbers are big-endian.
+-- The nodes of a world in an image: the one spelling of each. The format is this project's own. Its
+-- numbers are big-endian.
 use Rattle.std.specs.Prelude.{ℕ, List, ◌∷◌, ◌++◌, ◌<◌, ◌≤◌, ◌^◌, length, IsTrue}
 use Rattle.std.specs.List.{AllByRecursion}
 use Rattle.std.specs.List.Sorted.{IsStrictlySortedBy}

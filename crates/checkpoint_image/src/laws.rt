@@ -25,15 +25,18 @@ pub fn images_are_a_codec()
 /// begins with the byte with which those of version 2 begin.
 pub fn old_images_are_a_codec()
     ensures codec { IsCodec AreFieldsOf fields_spelling fields_at }
-    ensures apart { (base : BaseView) (rest : List ℕ) → AreFieldsOf base → is_versioned (fields_spelling base ++ rest) ≡ false }
+    ensures apart { (base : BaseView) (rest : List ℕ) → AreFieldsOf base
+        → is_versioned (fields_spelling base ++ rest) ≡ false }
 {}
 
 /// An image is read whole. With bytes left over it is refused at the first of them, and cut short it is refused.
 pub fn images_are_whole()
-    ensures again { (base : BaseView) → IsSpellableImage base → whole_image (image_spelling base) ≡ Ok base }
+    ensures again { (base : BaseView) → IsSpellableImage base
+        → whole_image (image_spelling base) ≡ Ok base }
     ensures left_over { (base : BaseView) (byte : ℕ) (rest : List ℕ) → IsSpellableImage base
         → whole_image (image_spelling base ++ byte ∷ rest) ≡ Err (NotCanonical (length (image_spelling base))) }
-    ensures cut { (base : BaseView) (input : ℕ) (front : List ℕ) (byte : ℕ) (rest : List ℕ) → AreBytes front → IsSpellableImage base
+    ensures cut { (base : BaseView) (input : ℕ) (front : List ℕ) (byte : ℕ) (rest : List ℕ)
+        → AreBytes front → IsSpellableImage base
         → image_spelling base ≡ front ++ byte ∷ rest → IsErr (image_at input front) }
 {}
 

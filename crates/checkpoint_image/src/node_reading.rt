@@ -213,7 +213,8 @@ fn many_nodes_at(
     input: usize,
     bytes: &[u8],
 ) -> Result<(TreeRows, MetaRows, &[u8]), CodecFault>
-    ensures read { GivesReadingOrReports (λ x. (item_rows x.0 x.1, x.2.now)) result (chain_at (λ previous. node_at previous input) number_of count 0 bytes.now) }
+    ensures read { GivesReadingOrReports (λ x. (item_rows x.0 x.1, x.2.now)) result
+        (chain_at (λ previous. node_at previous input) number_of count 0 bytes.now) }
     ensures same { IfOk result (λ x. AreOfSameNodes x.0 x.1) }
 {
     let mut trees = Sequence::new(alloc);

@@ -1,4 +1,5 @@
--- The commands of the program as `clap` knows them: a command with one level of subcommands, whose values are texts (this project's own).
+-- The commands of the program as `clap` knows them: a command with one level of subcommands, whose
+-- values are texts (this project's own).
 use Rattle.std.specs.Prelude.{[], codes, true, Some}
 use Rattle.clap.specs.Words.{App, Rule, Text, new_app, new_rule, with_rule, with_subcommand}
 use Rattle.clap.specs.Simple.{new_shape}
@@ -51,4 +52,6 @@ abbrev pub stored_commands : App
 stored_commands = with_subcommand (with_subcommand (with_subcommand (with_subcommand no_commands script_app.top) init_app.top) audit_app.top) checkpoint_app.top
 
 abbrev pub program : App
-program = with_subcommand (with_subcommand (with_subcommand (with_subcommand (with_subcommand stored_commands check_app.top) load_app.top) modes_app.top) rootsign_app.top) serve_app.top
+program = with_subcommand (with_subcommand
+    (with_subcommand (with_subcommand (with_subcommand stored_commands check_app.top) load_app.top)
+    modes_app.top) rootsign_app.top) serve_app.top

@@ -6,4 +6,5 @@ use Rattle.command_words.specs.declared.words.Task.{Task}
 
 -- words ask for one thing at most
 abbrev pub WordsAskForOneThing : Type 0
-WordsAskForOneThing = (words : List (String Global)) (first second : Task) → AsksFor words first → AsksFor words second → first ≡ second
+WordsAskForOneThing = (words : List (String Global)) (first second : Task) → AsksFor words first →
+    AsksFor words second → first ≡ second

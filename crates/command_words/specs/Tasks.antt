@@ -10,17 +10,26 @@ use Rattle.command_words.specs.Commands.{program}
 
 -- the command of this name with what is given to it asks for this
 abbrev pub IsTaskOf : Text → List Row → Task → Type 0
-IsTaskOf name given Script = (name ≡ codes "script") × (first_of (codes "stored") given ≡ Some (codes "true") → ⊥)
-IsTaskOf name given Stored = (name ≡ codes "script") × (first_of (codes "stored") given ≡ Some (codes "true"))
+IsTaskOf name given Script = (name ≡ codes "script") ×
+    (first_of (codes "stored") given ≡ Some (codes "true") → ⊥)
+IsTaskOf name given Stored = (name ≡ codes "script") ×
+    (first_of (codes "stored") given ≡ Some (codes "true"))
 IsTaskOf name given Init = name ≡ codes "init"
 IsTaskOf name given Checkpoint = name ≡ codes "checkpoint"
 IsTaskOf name given (Audit pieces) = (name ≡ codes "audit") × GivesPieces given pieces
 IsTaskOf name given Check = name ≡ codes "check"
-IsTaskOf name given (Load rounds seed) = (name ≡ codes "load") × GivesNumber 0 20000 (codes "rounds") given rounds × GivesNumber 0 (2 ^ 64 - 1) (codes "seed") given seed
-IsTaskOf name given (Modes from to) = (name ≡ codes "modes") × GivesNumber 0 253402300799 (codes "from") given from × GivesNumber 0 253402300799 (codes "to") given to
+IsTaskOf name given (Load rounds seed) = (name ≡ codes "load") ×
+    GivesNumber 0 20000 (codes "rounds") given rounds ×
+    GivesNumber 0 (2 ^ 64 - 1) (codes "seed") given seed
+IsTaskOf name given (Modes from to) = (name ≡ codes "modes") ×
+    GivesNumber 0 253402300799 (codes "from") given from ×
+    GivesNumber 0 253402300799 (codes "to") given to
 IsTaskOf name given (RootSign height from) =
-    (name ≡ codes "rootsign") × GivesNumber 0 8 (codes "height") given height × GivesNumber 0 (2 ^ height) (codes "from") given from
-IsTaskOf name given (Serve port count) = (name ≡ codes "serve") × GivesNumber 1 65535 (codes "port") given port × GivesNumber 1 1000000 (codes "count") given count
+    (name ≡ codes "rootsign") × GivesNumber 0 8 (codes "height") given height ×
+    GivesNumber 0 (2 ^ height) (codes "from") given from
+IsTaskOf name given (Serve port count) = (name ≡ codes "serve") ×
+    GivesNumber 1 65535 (codes "port") given port ×
+    GivesNumber 1 1000000 (codes "count") given count
 
 -- the command that was found asks for this
 abbrev pub Finds : Option (Text × List Row) → Task → Type 0

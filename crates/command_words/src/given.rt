@@ -30,7 +30,9 @@ const MOST_CONNECTIONS: u64 = 1_000_000;
 
 // The number in this range that is given under that name.
 fn number_given(given: &ArgMatches<'_>, name: &str, least: u64, most: u64) -> Option<u64>
-    ensures { MatchOption result ((n : ℕ) → GivesNumber least most name.now (rows_of (found_of given.now)) n → ⊥) (GivesNumber least most name.now (rows_of (found_of given.now))) }
+    ensures { MatchOption result ((n : ℕ) → GivesNumber least most name.now
+        (rows_of (found_of given.now)) n → ⊥)
+        (GivesNumber least most name.now (rows_of (found_of given.now))) }
 {
     let text = match given.get_str(name) {
         Some(text) => text,
@@ -48,7 +50,9 @@ fn number_given(given: &ArgMatches<'_>, name: &str, least: u64, most: u64) -> Op
 
 /// What a script is asked for.
 pub fn script_task(given: &ArgMatches<'_>) -> Option<Task>
-    ensures { MatchOption result ((task : Task) → IsTaskOf (codes "script") (rows_of (found_of given.now)) task → ⊥) (IsTaskOf (codes "script") (rows_of (found_of given.now))) }
+    ensures { MatchOption result ((task : Task) →
+        IsTaskOf (codes "script") (rows_of (found_of given.now)) task → ⊥)
+        (IsTaskOf (codes "script") (rows_of (found_of given.now))) }
 {
     match given.get_str("stored") {
         Some(text) => {
@@ -63,7 +67,9 @@ pub fn script_task(given: &ArgMatches<'_>) -> Option<Task>
 
 /// What an audit is asked for; none if its pieces are no such number.
 pub fn audit_task(given: &ArgMatches<'_>) -> Option<Task>
-    ensures { MatchOption result ((task : Task) → IsTaskOf (codes "audit") (rows_of (found_of given.now)) task → ⊥) (IsTaskOf (codes "audit") (rows_of (found_of given.now))) }
+    ensures { MatchOption result ((task : Task) →
+        IsTaskOf (codes "audit") (rows_of (found_of given.now)) task → ⊥)
+        (IsTaskOf (codes "audit") (rows_of (found_of given.now))) }
 {
     match given.get_str("pieces") {
         Some(_text) => {}
@@ -77,7 +83,9 @@ pub fn audit_task(given: &ArgMatches<'_>) -> Option<Task>
 
 /// What a large run is asked for; none if its words are no such numbers.
 pub fn load_task(given: &ArgMatches<'_>) -> Option<Task>
-    ensures { MatchOption result ((task : Task) → IsTaskOf (codes "load") (rows_of (found_of given.now)) task → ⊥) (IsTaskOf (codes "load") (rows_of (found_of given.now))) }
+    ensures { MatchOption result ((task : Task) →
+        IsTaskOf (codes "load") (rows_of (found_of given.now)) task → ⊥)
+        (IsTaskOf (codes "load") (rows_of (found_of given.now))) }
 {
     match number_given(given, "rounds", 0, MOST_ROUNDS) {
         Some(rounds) => match number_given(given, "seed", 0, u64::MAX) {
@@ -90,7 +98,9 @@ pub fn load_task(given: &ArgMatches<'_>) -> Option<Task>
 
 /// What a table of modes is asked for: its statements hold from one second to another; none if the words are no such numbers.
 pub fn modes_task(given: &ArgMatches<'_>) -> Option<Task>
-    ensures { MatchOption result ((task : Task) → IsTaskOf (codes "modes") (rows_of (found_of given.now)) task → ⊥) (IsTaskOf (codes "modes") (rows_of (found_of given.now))) }
+    ensures { MatchOption result ((task : Task) →
+        IsTaskOf (codes "modes") (rows_of (found_of given.now)) task → ⊥)
+        (IsTaskOf (codes "modes") (rows_of (found_of given.now))) }
 {
     match number_given(given, "from", 0, LAST_SECOND) {
         Some(from) => match number_given(given, "to", 0, LAST_SECOND) {
@@ -112,7 +122,9 @@ fn leaves_of(height: u64) -> u64
 
 /// What signing by a tree of hashes is asked for; none if its words are no such numbers.
 pub fn rootsign_task(given: &ArgMatches<'_>) -> Option<Task>
-    ensures { MatchOption result ((task : Task) → IsTaskOf (codes "rootsign") (rows_of (found_of given.now)) task → ⊥) (IsTaskOf (codes "rootsign") (rows_of (found_of given.now))) }
+    ensures { MatchOption result ((task : Task) →
+        IsTaskOf (codes "rootsign") (rows_of (found_of given.now)) task → ⊥)
+        (IsTaskOf (codes "rootsign") (rows_of (found_of given.now))) }
 {
     match number_given(given, "height", 0, MOST_HEIGHT) {
         Some(height) => match number_given(given, "from", 0, leaves_of(height)) {
@@ -125,7 +137,9 @@ pub fn rootsign_task(given: &ArgMatches<'_>) -> Option<Task>
 
 /// What serving is asked for; none if its words are no such numbers.
 pub fn serve_task(given: &ArgMatches<'_>) -> Option<Task>
-    ensures { MatchOption result ((task : Task) → IsTaskOf (codes "serve") (rows_of (found_of given.now)) task → ⊥) (IsTaskOf (codes "serve") (rows_of (found_of given.now))) }
+    ensures { MatchOption result ((task : Task) →
+        IsTaskOf (codes "serve") (rows_of (found_of given.now)) task → ⊥)
+        (IsTaskOf (codes "serve") (rows_of (found_of given.now))) }
 {
     match number_given(given, "port", 1, LAST_PORT) {
         Some(port) => match number_given(given, "count", 1, MOST_CONNECTIONS) {

@@ -38,7 +38,8 @@ pub enum Task {
 
 // What the command of this name asks for; none if there is no such command, or a number that is given to it is not one.
 fn task_named(name: &str, given: &ArgMatches<'_>) -> Option<Task>
-    ensures { MatchOption result ((task : Task) → IsTaskOf name.now (rows_of (found_of given.now)) task → ⊥) (IsTaskOf name.now (rows_of (found_of given.now))) }
+    ensures { MatchOption result ((task : Task) → IsTaskOf name.now (rows_of (found_of given.now))
+        task → ⊥) (IsTaskOf name.now (rows_of (found_of given.now))) }
 {
     if name == "script" {
         return script_task(given);

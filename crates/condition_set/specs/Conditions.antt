@@ -1,4 +1,5 @@
--- Conditions as they come up: each is kept once, in the order of its first appearance (this project's own).
+-- Conditions as they come up: each is kept once, in the order of its first appearance (this
+-- project's own).
 use Rattle.std.specs.Prelude.{◌≡◌, ◌+◌, List, [], ◌∷◌, ◌++◌, length, Contains}
 use Rattle.bl_syntax.specs.declared.limits.TheConstants.{MOST_CONDITIONS}
 use Rattle.bl_syntax.specs.declared.terms.Constraint.{Constraint}
@@ -14,7 +15,8 @@ without_conditions goal = record { goal = goal; times = []; states = []; cited =
 abbrev pub IsFull : GrantView → Type 0
 IsFull g = length g.times + length g.states ≡ MOST_CONDITIONS
 
--- what a list of things, each kept once, becomes when one comes up: it stays where that one is there, and else has it at its end
+-- what a list of things, each kept once, becomes when one comes up: it stays where that one is
+-- there, and else has it at its end
 pub data KeepsOnce {A : Type 0} (old : List A) (x : A) (new : List A) : Type 0 where
   known : Contains old x → new ≡ old → KeepsOnce old x new
   unknown : (Contains old x → ⊥) → new ≡ old ++ x ∷ [] → KeepsOnce old x new

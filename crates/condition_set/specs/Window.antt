@@ -22,12 +22,17 @@ pub record AreSatisfiable (conditions : List Constraint) : Type 0 where
   pub in_range : IsMoment moment
   pub meets : MeetsConditions conditions moment
 
--- the conditions hold exactly from the first time to the last, which are the least and the greatest such ends: no later
+-- the conditions hold exactly from the first time to the last, which are the least and the greatest
+-- such ends: no later
 -- time comes before all seconds that meet the conditions, and no earlier one after all of them
 pub record IsWindow (conditions : List Constraint) (first last : TimePoint) : Type 0 where
   pub between : (second : ℤ) → MeetsConditions conditions second ↔ LiesBetween first last second
-  pub least : (time : TimePoint) → ((second : ℤ) → MeetsConditions conditions second → IsUpTo time (At second)) → IsUpTo time first
-  pub greatest : (time : TimePoint) → ((second : ℤ) → MeetsConditions conditions second → IsUpTo (At second) time) → IsUpTo last time
+  pub least : (time : TimePoint) →
+      ((second : ℤ) → MeetsConditions conditions second → IsUpTo time (At second)) →
+      IsUpTo time first
+  pub greatest : (time : TimePoint) →
+      ((second : ℤ) → MeetsConditions conditions second → IsUpTo (At second) time) →
+      IsUpTo last time
   pub is_met : AreSatisfiable conditions
   pub first_in_range : IsInRange first
   pub last_in_range : IsInRange last

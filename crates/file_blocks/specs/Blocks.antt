@@ -1,4 +1,5 @@
--- The contents of a file in blocks: the blocks end to end begin with the bytes, and have zero bytes after them.
+-- The contents of a file in blocks: the blocks end to end begin with the bytes, and have zero bytes
+-- after them.
 use Rattle.std.specs.Prelude.{◌≡◌, ℕ, ◌+◌, ◌-◌, ◌*◌, ◌/◌, ◌^◌, ◌≤◌, List, ◌++◌, length, take, drop, replicate}
 use Rattle.std.specs.List.{All, concat}
 use Rattle.file_blocks.specs.declared.block.TheConstants.{BLOCK_BYTES}

@@ -298,7 +298,7 @@ impl<'a, R: Files<File = File> + Eprint> FileDisk<'a, R> {
     }
 
     // Says an error, if it is the first. A line that cannot be written is dropped.
-    fn say(&self, error: io::Error) {
+    fn write_error(&self, error: io::Error) {
         if self.faults == 0 {
             let path = self.path;
             let _ = eprintln!(self.rt; "{path}: {error}");
@@ -310,7 +310,7 @@ impl<'a, R: Files<File = File> + Eprint> FileDisk<'a, R> {
         ensures counted { self.new ≡ raise self.old }
         ensures never_falls { self.old ≤ self.new }
     {
-        self.say(error);
+        self.write_error(error);
         self.faults = self.faults.saturating_add(1);
         Failed
     }

@@ -1,4 +1,5 @@
--- How the nodes that the code keeps stand for the rows of a tree, and where the names in its directories are found.
+-- How the nodes that the code keeps stand for the rows of a tree, and where the names in its
+-- directories are found.
 use Rattle.std.specs.Prelude.{◌≡◌, ◌≢◌, ◌≤◌, ◌<◌, ◌-◌, ℕ, List, [], ◌∷◌, ◌++◌, length, take, map, false, Option, Some, None, if◌then◌else◌, nat_eq, ◌==◌}
 use Rattle.std.specs.Map.{lookup, remove_entry}
 use Rattle.std.specs.BTreeMap.{is_at}
@@ -60,7 +61,8 @@ published_nodes (Some (Made kind spot)) entries = take (length entries - 1) entr
 published_nodes (Some (Gone number spot)) entries = entries
 published_nodes (Some (Moved number from to)) entries = entries
 
--- what is listed of each node, without what is listed of one that is only ready to be made, which is the last
+-- what is listed of each node, without what is listed of one that is only ready to be made, which
+-- is the last
 abbrev pub without_unpublished : {Row : Type 0} → Option Ready → List Row → List Row
 without_unpublished None rows = rows
 without_unpublished (Some Nothing) rows = rows
@@ -106,27 +108,32 @@ IsPrepared (Some (Moved number from to)) entries next = Unit {0}
 abbrev pub tree_in : Option Ready → Entries → ℕ → FileTree
 tree_in ready entries next = record { rows = rows_of (published_nodes ready entries); next = next }
 
--- the nodes that are kept are those of a tree, the names in the directories those of its children, and what is ready is prepared
+-- the nodes that are kept are those of a tree, the names in the directories those of its children,
+-- and what is ready is prepared
 pub record IsTreeIndex (entries : Entries) (next : ℕ) (ready : Option Ready) : Type 0 where
   pub tree : IsTree (tree_in ready entries next)
-  pub index : (directory : ℕ) (name : List ℕ) → reserved_at entries directory name ≡ expected_number (reserved_spot ready) (rows_of (published_nodes ready entries)) directory name
+  pub index : (directory : ℕ) (name : List ℕ) →
+      reserved_at entries directory name ≡ expected_number (reserved_spot ready) (rows_of (published_nodes ready entries)) directory name
   pub free : IsReservedFree (reserved_spot ready) (rows_of (published_nodes ready entries))
   pub prepared : IsPrepared ready entries next
 
 -- a directory keeps the number under the name of the place, and all else is as before
 pub record Puts (old new : Entries) (place : Place) (number : Option ℕ) : Type 0 where
   pub here : reserved_at new place.directory place.name ≡ number
-  pub elsewhere : (directory : ℕ) (name : List ℕ) → is_place place (at directory name) ≡ false → reserved_at new directory name ≡ reserved_at old directory name
+  pub elsewhere : (directory : ℕ) (name : List ℕ) → is_place place (at directory name) ≡ false →
+      reserved_at new directory name ≡ reserved_at old directory name
   pub same_rows : rows_of new ≡ rows_of old
 
 -- all is as before, but for room
 pub record ChangesRoomAlone (old new : Entries) : Type 0 where
-  pub same_held : (directory : ℕ) (name : List ℕ) → reserved_at new directory name ≡ reserved_at old directory name
+  pub same_held : (directory : ℕ) (name : List ℕ) →
+      reserved_at new directory name ≡ reserved_at old directory name
   pub same_rows : rows_of new ≡ rows_of old
 
 -- each number that is kept is below the next one
 abbrev pub AreNumbersBelow : Entries → ℕ → Type 0
-AreNumbersBelow entries next = (number : ℕ) (kept : Kept) → kept_at entries number ≡ Some kept → number < next
+AreNumbersBelow entries next = (number : ℕ) (kept : Kept) → kept_at entries number ≡ Some kept →
+    number < next
 
 -- one more node is kept at the end, a directory without names
 pub record AddsLast (old new : Entries) (next : ℕ) (node : Node) : Type 0 where
@@ -148,28 +155,34 @@ pub record Stays (old new : Entries) (next : ℕ) : Type 0 where
 -- the node of that number has those contents, and the sum of all contents is told
 pub record Fills (old new : Entries) (number : ℕ) (contents : List ℕ) (total : ℕ) : Type 0 where
   pub rows : rows_of new ≡ revise number (with_contents contents) (rows_of old)
-  pub same_held : (directory : ℕ) (name : List ℕ) → reserved_at new directory name ≡ reserved_at old directory name
+  pub same_held : (directory : ℕ) (name : List ℕ) →
+      reserved_at new directory name ≡ reserved_at old directory name
   pub summed : total ≡ contents_sum (rows_of new)
 
 -- the node of that number is gone, and the name of its place, and the sum of all contents is told
 pub record Removes (old new : Entries) (number : ℕ) (place : Place) (total : ℕ) : Type 0 where
   pub rows : rows_of new ≡ remove_entry (nat_eq number) (rows_of old)
   pub here : reserved_at new place.directory place.name ≡ None
-  pub elsewhere : (directory : ℕ) (name : List ℕ) → is_place place (at directory name) ≡ false → directory ≢ number → reserved_at new directory name ≡ reserved_at old directory name
+  pub elsewhere : (directory : ℕ) (name : List ℕ) → is_place place (at directory name) ≡ false →
+      directory ≢ number → reserved_at new directory name ≡ reserved_at old directory name
   pub within : (name : List ℕ) → reserved_at new number name ≡ None
   pub summed : total ≡ contents_sum (rows_of new)
 
 -- the node of that number stands at the place, and all names are as before
 pub record Replaces (old new : Entries) (number : ℕ) (place : Place) : Type 0 where
   pub rows : rows_of new ≡ revise number (with_place place) (rows_of old)
-  pub same_held : (directory : ℕ) (name : List ℕ) → reserved_at new directory name ≡ reserved_at old directory name
+  pub same_held : (directory : ℕ) (name : List ℕ) →
+      reserved_at new directory name ≡ reserved_at old directory name
 
--- the node of that number stands at the second place, and its name is there and no longer at the first
+-- the node of that number stands at the second place, and its name is there and no longer at the
+-- first
 pub record Relocates (old new : Entries) (number : ℕ) (from to : Place) : Type 0 where
   pub rows : rows_of new ≡ revise number (with_place to) (rows_of old)
   pub here : is_place from to ≡ false → reserved_at new to.directory to.name ≡ Some number
   pub there : reserved_at new from.directory from.name ≡ None
-  pub elsewhere : (directory : ℕ) (name : List ℕ) → is_place from (at directory name) ≡ false → is_place to (at directory name) ≡ false → reserved_at new directory name ≡ reserved_at old directory name
+  pub elsewhere : (directory : ℕ) (name : List ℕ) → is_place from (at directory name) ≡ false →
+      is_place to (at directory name) ≡ false →
+      reserved_at new directory name ≡ reserved_at old directory name
 
 abbrev pub option_number : Option ℕ → Option NodeId
 option_number None = None

@@ -26,7 +26,8 @@ is_root_row row =
 -- whether the row of another node is sound, whatever the other rows are
 abbrev pub is_sound_row : ℕ → ℕ × Node → Bool
 is_sound_row next row =
-    nat_lt row.0 next && is_node_name row.1.place.name && (not (is_directory_kind row.1.kind) || (length row.1.contents == 0)) && nat_le (length row.1.contents) most_bytes
+    nat_lt row.0 next && is_node_name row.1.place.name && (not (is_directory_kind row.1.kind)
+    || (length row.1.contents == 0)) && nat_le (length row.1.contents) most_bytes
 
 -- whether the numbers rise from above a number
 abbrev pub is_rising_after : ℕ → Nodes → Bool
@@ -54,10 +55,12 @@ pub record AreNamed (all rows : Nodes) : Type 0 where
   pub in_directories : AllByRecursion (λ row. is_directory (node_at all row.1.place.directory) ≡ true) rows
   pub places_differ : IsDistinct is_place (keys_of (places_of rows))
 
--- the nodes show all rows, and the directories keep the names of these rows, which have places of their own
+-- the nodes show all rows, and the directories keep the names of these rows, which have places of
+-- their own
 pub record NamesRows (entries : Entries) (all rows : Nodes) : Type 0 where
   pub same_rows : rows_of entries ≡ all
-  pub named : (directory : ℕ) (name : List ℕ) → reserved_at entries directory name ≡ number_at rows (at directory name)
+  pub named : (directory : ℕ) (name : List ℕ) →
+      reserved_at entries directory name ≡ number_at rows (at directory name)
   pub are_named : AreNamed all rows
 
 -- whether the place is in a directory that keeps no such name
@@ -66,7 +69,8 @@ is_free_place entries place = is_directory (node_at (rows_of entries) place.dire
 
 -- ---- ways to the root
 
--- whether following directories from the number, with so many steps, leads to a number below the bound
+-- whether following directories from the number, with so many steps, leads to a number below the
+-- bound
 abbrev pub leads_below : ℕ → Nodes → ℕ → ℕ → Bool
 leads_below zero rows bound number = false
 leads_below (suc steps) rows bound number =

@@ -46,10 +46,13 @@ pub record IsReady (state : TreeView) (op : TreeOp) : Type 0 where
   pub free : tree_refusal state.tree op ≡ None
   pub ready : state.ready ≡ Some (ready_for state.tree op)
 
--- the operation got its reply and is ready; or it is refused, and its first refusal is reported; or out of memory
+-- the operation got its reply and is ready; or it is refused, and its first refusal is reported; or
+-- out of memory
 abbrev pub Reserves : FileTree → TreeOp → Result TreeReply OpFault → Option Ready → Type 0
-Reserves tree op (Ok reply) ready = (tree_refusal tree op ≡ None) × (reply ≡ tree_reply tree op) × (ready ≡ Some (ready_for tree op))
-Reserves tree op (Err (Refused refusal)) ready = (tree_refusal tree op ≡ Some refusal) × (ready ≡ None)
+Reserves tree op (Ok reply) ready = (tree_refusal tree op ≡ None) × (reply ≡ tree_reply tree op) ×
+    (ready ≡ Some (ready_for tree op))
+Reserves tree op (Err (Refused refusal)) ready = (tree_refusal tree op ≡ Some refusal) ×
+    (ready ≡ None)
 Reserves tree op (Err NoMemory) ready = (tree_refusal tree op ≡ None) × (ready ≡ None)
 
 -- the tree of the rows is made, with nothing ready; or they are no tree's; or out of memory

@@ -22,7 +22,8 @@ pub fn enter(nodes: &mut KeptNodes, spot: &Spot, number: u64) -> Result<(), NoMe
     requires { IsSome (kept_at nodes.old.entries spot.now.directory) }
     ensures ok { OnOk result (Puts nodes.old.entries nodes.new.entries (spot_place spot.now) (Some number)) }
     ensures err { OnErr result (ChangesRoomAlone nodes.old.entries nodes.new.entries) }
-    ensures succeeds { IsSome (reserved_at nodes.old.entries spot.now.directory spot.now.name) → IsOk result }
+    ensures succeeds { IsSome (reserved_at nodes.old.entries spot.now.directory spot.now.name) →
+        IsOk result }
 {
     let node = nodes.get_mut(&spot.directory).unwrap();
     let put: Result<Option<u64>, AllocFailed<(Name, u64)>> = node.names.insert(spot.name, number);

@@ -1,4 +1,5 @@
--- What each operation does to owners and attributes: its refusals in their order, its reply, and the marks after it (this project's own).
+-- What each operation does to owners and attributes: its refusals in their order, its reply, and
+-- the marks after it (this project's own).
 use Rattle.std.specs.Prelude.{◌≡◌, ℕ, List, [], ◌∷◌, ◌++◌, length, Option, Some, None, is_none, unwrap_or, IsSome, IsTrue, not, nat_le, nat_eq, ◌&&◌, codes}
 use Rattle.std.specs.Map.{remove_entry}
 use Rattle.std.specs.BTreeMap.{insert_entry}
@@ -63,7 +64,8 @@ IsMetaOperation (Add node owner parent) = IsTrue (is_principal_name owner)
 IsMetaOperation (Drop node) = Unit {0}
 IsMetaOperation (Move node parent) = Unit {0}
 
--- what an operation asks of its caller: a node that is added is new, and one that goes or is moved is there
+-- what an operation asks of its caller: a node that is added is new, and one that goes or is moved
+-- is there
 abbrev pub IsAskable : Marks → MetaOp → Type 0
 IsAskable marks (Get node name) = Unit {0}
 IsAskable marks (Set node name value) = Unit {0}

@@ -1,4 +1,5 @@
--- What policy can speak of beside names and contents: owners, directories and attributes, as plain data (this project's own).
+-- What policy can speak of beside names and contents: owners, directories and attributes, as plain
+-- data (this project's own).
 use Rattle.std.specs.Prelude.{◌≡◌, ◌≤◌, ℕ, List, length, IsTrue, nat_eq, Option, Some}
 use Rattle.std.specs.List.{AllByRecursion}
 use Rattle.std.specs.List.Sorted.{IsStrictlySortedBy}
@@ -14,7 +15,8 @@ use Rattle.file_world.specs.Limits.{most_attributes}
 abbrev pub Attributes : Type 0
 Attributes = List (List ℕ × List ℕ)
 
--- what is kept of a node: its owner, the number of its directory (0 for the root), and its attributes
+-- what is kept of a node: its owner, the number of its directory (0 for the root), and its
+-- attributes
 pub record Mark : Type 0 where
   pub owner : List ℕ
   pub parent : ℕ

@@ -1,4 +1,5 @@
--- What each operation does to the world: its first refusal, or its reply and the world after it (this project's own).
+-- What each operation does to the world: its first refusal, or its reply and the world after it
+-- (this project's own).
 use Rattle.std.specs.Prelude.{ℕ, List, [], ◌∷◌, ◌++◌, ◌+◌, Option, IsTrue, nat_eq}
 use Rattle.std.specs.Map.{remove_entry}
 use Rattle.bl_syntax.specs.Names.{is_principal_name, is_text}

@@ -12,7 +12,9 @@ is_node_name_byte byte = is_lower_case byte || is_upper_case byte || is_digit by
 
 -- whether the bytes name a node: 1 to 64 of these, and neither `.` nor `..`
 unfoldable pub is_node_name : List ℕ → Bool
-is_node_name name = nat_le 1 (length name) && nat_le (length name) longest_name && list_all is_node_name_byte name && not (bytes_eq name (codes ".")) && not (bytes_eq name (codes ".."))
+is_node_name name = nat_le 1 (length name) && nat_le (length name) longest_name
+    && list_all is_node_name_byte name && not (bytes_eq name (codes "."))
+    && not (bytes_eq name (codes ".."))
 
 -- what may follow the first byte of an attribute's name: a lower-case letter, a digit, `_` or `.`
 abbrev pub is_attribute_name_byte : ℕ → Bool

@@ -1,4 +1,5 @@
--- The two halves of a world, its tree and its owners and attributes: what the one does after a change of the other (this project's own).
+-- The two halves of a world, its tree and its owners and attributes: what the one does after a
+-- change of the other (this project's own).
 use Rattle.std.specs.Prelude.{ℕ, List, Option, Some, None, IfSome}
 use Rattle.file_world.specs.declared.operation.MetaOp.{MetaOp}
 use Rattle.file_world.specs.declared.operation.MetaOp.TheVariants.{Get, Set, Remove, Chown, Add, Drop, Move}
@@ -31,7 +32,8 @@ IsDirect (Add node owner parent) = ⊥
 IsDirect (Drop node) = ⊥
 IsDirect (Move node parent) = ⊥
 
--- the operation on owners and attributes that an operation of the caller leads to, if it leads to one
+-- the operation on owners and attributes that an operation of the caller leads to, if it leads to
+-- one
 abbrev pub meta_op_of : List ℕ → FileTree → Part → Option MetaOp
 meta_op_of caller tree (tree_part op) = following caller tree.next (change_of tree op)
 meta_op_of caller tree (meta_part op) = Some op

@@ -52,7 +52,9 @@ contents_sum rows = sum_by (λ row. length row.1.contents) rows
 -- following directories from the node of that number leads to the root
 pub data ReachesRoot (rows : Nodes) : ℕ → Type 0 where
   at_root : ReachesRoot rows root_number
-  below : (number : ℕ) (node : Node) → node_at rows number ≡ Some node → (directory : Node) → node_at rows node.place.directory ≡ Some directory → directory.kind ≡ Directory → ReachesRoot rows node.place.directory → ReachesRoot rows number
+  below : (number : ℕ) (node : Node) → node_at rows number ≡ Some node → (directory : Node) →
+      node_at rows node.place.directory ≡ Some directory → directory.kind ≡ Directory →
+      ReachesRoot rows node.place.directory → ReachesRoot rows number
 
 -- the root: a directory without directory and name
 abbrev pub root : Node
@@ -70,7 +72,8 @@ pub record IsSound (tree : FileTree) (number : ℕ) (node : Node) : Type 0 where
 -- a tree within the limits
 pub record IsTree (tree : FileTree) : Type 0 where
   pub has_root : node_at tree.rows root_number ≡ Some root
-  pub sound : (number : ℕ) (node : Node) → node_at tree.rows number ≡ Some node → IsSound tree number node
+  pub sound : (number : ℕ) (node : Node) → node_at tree.rows number ≡ Some node →
+      IsSound tree number node
   pub rising : IsStrictlySortedBy nat_cmp (keys_of tree.rows)
   pub places_differ : IsDistinct is_place (keys_of (places_of tree.rows))
   pub few : length tree.rows ≤ most_nodes

@@ -1,4 +1,5 @@
--- What each operation does to the file tree: its refusals in their order, its reply, and its change (this project's own).
+-- What each operation does to the file tree: its refusals in their order, its reply, and its change
+-- (this project's own).
 use Rattle.std.specs.Prelude.{ℕ, zero, suc, List, [], ◌∷◌, ◌++◌, ◌+◌, ◌-◌, length, take, drop, replicate, max, Option, Some, None, is_some, is_none, unwrap_or, Bool, true, false, not, nat_lt, nat_le, nat_eq, ◌||◌, ◌==◌, if◌then◌else◌}
 use Rattle.std.specs.List.{list_any}
 use Rattle.std.specs.Map.{remove_entry}
@@ -52,7 +53,8 @@ abbrev pub has_way_on : Option Node → (ℕ → Bool) → Bool
 has_way_on None past = false
 has_way_on (Some node) past = past node.place.directory
 
--- following directories from the number, with so many steps, leads to the root without meeting the avoided node
+-- following directories from the number, with so many steps, leads to the root without meeting the
+-- avoided node
 abbrev pub has_way_past : ℕ → Nodes → ℕ → ℕ → Bool
 has_way_past zero rows avoided number = false
 has_way_past (suc steps) rows avoided number =

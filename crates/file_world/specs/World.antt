@@ -1,4 +1,5 @@
--- The world of the server: its nodes with all that is kept of them, and the number of the next one (this project's own).
+-- The world of the server: its nodes with all that is kept of them, and the number of the next one
+-- (this project's own).
 use Rattle.std.specs.Prelude.{ℕ, List, [], ◌∷◌, ◌+◌, map, codes}
 use Rattle.file_world.specs.declared.operation.Kind.{Kind}
 use Rattle.file_world.specs.declared.operation.Kind.TheVariants.{Directory}
@@ -14,7 +15,8 @@ pub record Item : Type 0 where
   pub place : Place
   pub contents : List ℕ
 
--- the nodes under their numbers in the order in which they were made, and the number of the next one
+-- the nodes under their numbers in the order in which they were made, and the number of the next
+-- one
 pub record World : Type 0 where
   pub rows : List (ℕ × Item)
   pub next : ℕ
@@ -42,4 +44,17 @@ pub record IsWorld (world : World) : Type 0 where
 
 -- the world with the root alone, which `admin` owns
 abbrev pub fresh_world : World
-fresh_world = record { rows = (root_number, record { kind = Directory; owner = codes "admin"; attributes = []; place = record { directory = 0; name = [] }; contents = [] }) ∷ []; next = root_number + 1 }
+fresh_world = record {
+  rows = (
+    root_number,
+    record {
+      kind = Directory;
+      owner = codes "admin";
+      attributes = [];
+      place = record { directory = 0; name = [] };
+      contents = [];
+    },
+  ) ∷ [];
+  next =
+      root_number + 1;
+}

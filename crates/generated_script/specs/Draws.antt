@@ -1,4 +1,5 @@
--- What is drawn for the rounds of a generated script, from the upper bits of a linear congruential generator (its multiplier and increment are those of Knuth's MMIX).
+-- What is drawn for the rounds of a generated script, from the upper bits of a linear congruential
+-- generator (its multiplier and increment are those of Knuth's MMIX).
 use Rattle.std.specs.Prelude.{ℕ, ◌+◌, ◌*◌, ◌/◌, ◌%◌, ◌^◌, ◌==◌, if◌then◌else◌}
 use Rattle.generated_script.specs.declared.drawing.Kind.{Kind}
 use Rattle.generated_script.specs.declared.drawing.Kind.TheVariants.{Create, Prove, Again, Give}

@@ -1,4 +1,5 @@
--- The lines of a generated script, each with its end (this project's own). The name of a user is `u` and its number.
+-- The lines of a generated script, each with its end (this project's own). The name of a user is
+-- `u` and its number.
 use Rattle.std.specs.Prelude.{ℕ, List, [], ◌∷◌, ◌++◌, ◌+◌, ◌/◌, ◌%◌, codes}
 use Rattle.std.specs.Fmt.{decimal}
 
@@ -39,7 +40,9 @@ user_goal user file = codes "verify u" ++ (decimal user ++ (codes " #" ++ decima
 -- the proof that a user may write a file, if it owns the file
 unfoldable pub owner_proof_line : ℕ → ℕ → List ℕ
 owner_proof_line user file =
-    user_goal user file ++ (codes " write 9 saysR(claim(0,forallL(1,#" ++ (decimal file ++ (codes ",forallL(2,u" ++ (decimal user ++ codes ",impL(3,ctime,ctime,interR,init(4))))))\n"))))
+    user_goal user file ++ (codes " write 9 saysR(claim(0,forallL(1,#"
+    ++ (decimal file ++ (codes ",forallL(2,u"
+    ++ (decimal user ++ codes ",impL(3,ctime,ctime,interR,init(4))))))\n"))))
 
 -- the proof that `admin` may govern a file
 unfoldable pub govern_proof_line : ℕ → List ℕ
@@ -62,7 +65,11 @@ digit number = 48 + number % 10
 -- a number in eight digits
 unfoldable pub eight_digits : ℕ → List ℕ
 eight_digits number =
-    digit (number / 10000000) ∷ (digit (number / 1000000) ∷ (digit (number / 100000) ∷ (digit (number / 10000) ∷ (digit (number / 1000) ∷ (digit (number / 100) ∷ (digit (number / 10) ∷ (digit number ∷ [])))))))
+    digit (number / 10000000) ∷ (digit (number / 1000000)
+    ∷ (digit (number / 100000)
+    ∷ (digit (number / 10000)
+    ∷ (digit (number / 1000)
+    ∷ (digit (number / 100) ∷ (digit (number / 10) ∷ (digit number ∷ [])))))))
 
 -- a number is written into a file
 unfoldable pub write_line : ℕ → ℕ → ℕ → List ℕ

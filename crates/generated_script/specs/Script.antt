@@ -1,4 +1,6 @@
--- A script that is generated from a number of rounds and a seed (this project's own): eight users with a procap each for the root, and then rounds in which one of them makes a file or writes into one, or `admin` gives one away.
+-- A script that is generated from a number of rounds and a seed (this project's own): eight users
+-- with a procap each for the root, and then rounds in which one of them makes a file or writes into
+-- one, or `admin` gives one away.
 use Rattle.std.specs.Prelude.{ℕ, zero, suc, List, [], ◌++◌, ◌+◌, ◌-◌, ◌*◌, ◌%◌, ◌==◌, if◌then◌else◌}
 use Rattle.generated_script.specs.declared.drawing.Kind.{Kind}
 use Rattle.generated_script.specs.declared.drawing.Kind.TheVariants.{Create, Prove, Again, Give}

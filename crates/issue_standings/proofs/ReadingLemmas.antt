@@ -1,16 +1,17 @@
 -- What is read of issues and rows, over plain values.
-use Rattle.std.proofs.Common.{◌≡◌, inl, inr, ◌<◌, ◌≤◌, ◌+◌, ℕ, zero, suc, List, [], ◌∷◌, ◌++◌, length, get_or, map, take, Bool, Option, Some, refl, sym, ap, subst, ◌∙◌, arith}
-use Rattle.std.specs.Prelude.{◌↔◌, IsTrue, find}
+use Rattle.std.proofs.Common.{◌≡◌, inl, inr, ◌<◌, ◌≤◌, ◌+◌, ℕ, List, [], ◌∷◌, ◌++◌, length, get_or, map, take, Bool, true, false, Some, refl, sym, ap, subst, ◌∙◌, arith, length-append}
+use Rattle.std.specs.Prelude.{◌↔◌, IsTrue}
 use Rattle.std.specs.List.{slice_get}
 use Rattle.std.specs.Option.{option_map}
 use Rattle.std.proofs.lemmas.Bool.{cases_lt}
-use Rattle.std.proofs.lemmas.List.{get_or_default, length-map, map-append, take-map, take_all, take_more}
+use Rattle.std.proofs.lemmas.List.{get_or_default, length-map, length-take-le, map-append, take-map, take_all, take_more}
 use Rattle.std.proofs.lemmas.Option.{slice_get-map, slice_get_read, slice_get_within}
 use Rattle.bl_syntax.specs.Grant.{GrantView}
 use Rattle.issue_standings.specs.declared.standings.Row.{Row}
-use Rattle.issue_standings.specs.Bearing.{BearingView, IsGrantAt}
-use Rattle.issue_standings.specs.Rows.{ArePlaces, AreWithin, IsRowOf, IsRowless, counted, recounted}
-use Rattle.issue_standings.proofs.RowLemmas.{length-recounted, new_row, recounted-step, same_at}
+use Rattle.issue_standings.specs.Bearing.{BearingView, IsGrantAt, is_plain, plain}
+use Rattle.issue_standings.specs.Rows.{ArePlaces, AreWithin, IsRowOf, IsRowless, changed, each_changed}
+use Rattle.issue_standings.proofs.PlainLemmas.{plain-named, plain-push, plain_fewer}
+use Rattle.issue_standings.proofs.RowLemmas.{each-push, length-each, new_row, same_at}
 
 -- an item that was read is the one at its place
 pub read_at : {A : Type 0} (xs : List A) (place : ℕ) (x : A) → place < length xs → x ≡ get_or xs place x → slice_get xs place ≡ Some x
@@ -85,52 +86,71 @@ pub none_at_all : (bearings : List BearingView) (rows : List Row) (g : GrantView
 none_at_all bearings rows g row all none other is_row =
     let within = slice_get_within rows other is_row.kept is_row.at in none other (omega (arith, within, all)) is_row
 
--- ---- the loop that counts
+-- ---- the loops over plain issues
 
-module _ {B : Type 0} (bearing : B → BearingView) (withdrawn : ℕ → Bool) (row_of : List ℕ) (issues : List B) (rows : List Row) where
-  -- the rows after the first issues
+module _ {B : Type 0} (bearing : B → BearingView) (issues : List B) where
+  -- the plain ones of the first issues
+  abbrev pub plain_to : ℕ → List BearingView
+  plain_to place = plain (map bearing (take place issues))
+
+  plain_to-push : (place : ℕ) (issue : B) → place < length issues → issue ≡ get_or issues place issue → is_plain (bearing issue) ≡ true → plain_to (place + 1) ≡ plain_to place ++ bearing issue ∷ []
+  plain_to-push place issue within is is_so = ap plain (bearings_more bearing issues place issue within is) ∙ plain-push (map bearing (take place issues)) (bearing issue) is_so
+
+  -- an issue more that is not plain
+  pub plain_to-named : (place : ℕ) (issue : B) → place < length issues → issue ≡ get_or issues place issue → is_plain (bearing issue) ≡ false → plain_to (place + 1) ≡ plain_to place
+  plain_to-named place issue within is is_not = ap plain (bearings_more bearing issues place issue within is) ∙ plain-named (map bearing (take place issues)) (bearing issue) is_not
+
+  -- one that is
+  pub count_more : (place : ℕ) (issue : B) → place < length issues → issue ≡ get_or issues place issue → is_plain (bearing issue) ≡ true → length (plain_to (place + 1)) ≡ length (plain_to place) + 1
+  count_more place issue within is is_so = ap length (plain_to-push place issue within is is_so) ∙ length-append (plain_to place) (bearing issue ∷ [])
+
+  -- is one of all that are
+  pub count_within : (place : ℕ) (issue : B) → place < length issues → issue ≡ get_or issues place issue → is_plain (bearing issue) ≡ true → length (plain_to place) < length (plain (map bearing issues))
+  count_within place issue within is is_so =
+      let fewer = subst (λ (bs : List BearingView). length (plain bs) ≤ length (plain (map bearing issues))) (take_map bearing issues (place + 1)) (plain_fewer (place + 1) (map bearing issues)) in
+      omega (arith, fewer, count_more place issue within is is_so)
+
+module _ {B : Type 0} (bearing : B → BearingView) (change : BearingView → Row → Row) (row_of : List ℕ) (issues : List B) (rows : List Row) where
+  -- the rows after these plain issues changed theirs
+  abbrev rows_by : List BearingView → List Row
+  rows_by first = each_changed change (take (length first) row_of) first rows
+
+  -- after the first issues
   abbrev pub rows_after : ℕ → List Row
-  rows_after place = recounted withdrawn (take place row_of) (map bearing (take place issues)) rows
+  rows_after place = rows_by (plain_to bearing issues place)
 
-  pub rows_after_none : rows_after 0 ≡ rows
-  rows_after_none = refl
+  rows_push : (first : List BearingView) (b : BearingView) → length first < length row_of → rows_by (first ++ b ∷ []) ≡ changed (change b) (rows_by first) (get_or row_of (length first) 0)
+  rows_push first b below =
+      ap (λ (ns : List ℕ). each_changed change ns (first ++ b ∷ []) rows) (ap (λ (n : ℕ). take n row_of) (length-append first (b ∷ [])) ∙ take_more row_of (length first) 0 below)
+      ∙ each-push change first (take (length first) row_of) rows b (get_or row_of (length first) 0) (length-take-le (length first) row_of (omega (arith, below)))
 
-  -- the row of the next issue is one of the rows
-  pub next_within : (place : ℕ) → AreWithin row_of rows → place < length row_of → get_or row_of place 0 < length (rows_after place)
-  next_within place within below =
-      let at = within place below in
-      let same = length-recounted withdrawn (map bearing issues) (map bearing (take place issues)) (take place row_of) rows in
-      omega (arith, at, same)
-
-  step_equal : (place n : ℕ) (issue : B) → n ≡ suc place → place < length row_of → place < length issues → issue ≡ get_or issues place issue → rows_after n ≡ counted (rows_after place) (get_or row_of place 0) (find withdrawn (bearing issue).cited)
-  step_equal place n issue next below within is =
-      let step = recounted-step withdrawn (map bearing issues) (map bearing issues) row_of rows place (bearing issue) below (bearing_at bearing issues place issue within is) in
-      ap rows_after next
-      ∙ (ap (λ (bs : List BearingView). recounted withdrawn (take (suc place) row_of) bs rows) (sym (take_map bearing issues (suc place)))
-      ∙ (step
-      ∙ ap (λ (bs : List BearingView). counted (recounted withdrawn (take place row_of) bs rows) (get_or row_of place 0) (find withdrawn (bearing issue).cited)) (take_map bearing issues place)))
-
-  -- the rows after one issue more
-  pub rows_after_more : (place : ℕ) (issue : B) → place < length row_of → place < length issues → issue ≡ get_or issues place issue → rows_after (place + 1) ≡ counted (rows_after place) (get_or row_of place 0) (find withdrawn (bearing issue).cited)
-  rows_after_more place issue below within is = step_equal place (place + 1) issue (omega arith) below within is
-
-  -- so after the issue that was read
-  pub rows_next : (place : ℕ) (issue : B) (now next : List Row) (shown : List ℕ) (found : Option ℕ) → place < length row_of → place < length issues → issue ≡ get_or issues place issue → now ≡ rows_after place → shown ≡ (bearing issue).cited → found ≡ find withdrawn shown
-      → next ≡ counted now (get_or row_of place 0) found → next ≡ rows_after (place + 1)
-  rows_next place issue now next shown found below within is now_is shown_is found_is next_is =
-      let row = get_or row_of place 0 in
+  -- after one more, which is plain
+  pub rows_next : (place count : ℕ) (issue : B) (now next : List Row) → length row_of ≡ length (plain (map bearing issues)) → place < length issues → issue ≡ get_or issues place issue → is_plain (bearing issue) ≡ true
+      → count ≡ length (plain_to bearing issues place) → now ≡ rows_after place → next ≡ changed (change (bearing issue)) now (get_or row_of count 0) → next ≡ rows_after (place + 1)
+  rows_next place count issue now next each within is is_so count_is now_is next_is =
+      let first = plain_to bearing issues place in
+      let below = count_within bearing issues place issue within is is_so in
       next_is
-      ∙ (ap (λ (rs : List Row). counted rs row found) now_is
-      ∙ (ap (counted (rows_after place) row) (found_is ∙ ap (find withdrawn) shown_is)
-      ∙ sym (rows_after_more place issue below within is)))
+      ∙ (ap (λ (n : ℕ). changed (change (bearing issue)) now (get_or row_of n 0)) count_is
+      ∙ (ap (λ (rs : List Row). changed (change (bearing issue)) rs (get_or row_of (length first) 0)) now_is
+      ∙ (sym (rows_push first (bearing issue) (omega (arith, below, each)))
+      ∙ ap rows_by (sym (plain_to-push bearing issues place issue within is is_so)))))
+
+  -- after one more, which is not
+  pub rows_passed : (place : ℕ) (issue : B) (now : List Row) → place < length issues → issue ≡ get_or issues place issue → is_plain (bearing issue) ≡ false → now ≡ rows_after place → now ≡ rows_after (place + 1)
+  rows_passed place issue now within is is_not now_is = now_is ∙ ap rows_by (sym (plain_to-named bearing issues place issue within is is_not))
 
   -- and after all of them
-  pub rows_all : (place : ℕ) (now : List Row) → length row_of ≡ length issues → length issues ≤ place → now ≡ rows_after place → now ≡ recounted withdrawn row_of (map bearing issues) rows
+  pub rows_all : (place : ℕ) (now : List Row) → length row_of ≡ length (plain (map bearing issues)) → length issues ≤ place → now ≡ rows_after place → now ≡ each_changed change row_of (plain (map bearing issues)) rows
   rows_all place now each all now_is =
       now_is
-      ∙ (ap (λ (ns : List ℕ). recounted withdrawn ns (map bearing (take place issues)) rows) (take_all place row_of (omega (arith, each, all)))
-      ∙ ap (λ (xs : List B). recounted withdrawn row_of (map bearing xs) rows) (take_all place issues all))
+      ∙ (ap (λ (xs : List B). rows_by (plain (map bearing xs))) (take_all place issues all)
+      ∙ ap (λ (ns : List ℕ). each_changed change ns (plain (map bearing issues)) rows) (take_all (length (plain (map bearing issues))) row_of (omega (arith, each))))
 
-  -- the row of the next issue is one of the rows that are there
-  pub row_within : (place : ℕ) (now : List Row) → AreWithin row_of rows → place < length row_of → now ≡ rows_after place → get_or row_of place 0 < length now
-  row_within place now within below now_is = subst (λ (rs : List Row). get_or row_of place 0 < length rs) (sym now_is) (next_within place within below)
+  -- a row of an issue is one of the rows that are there
+  pub row_within : (place count : ℕ) (now : List Row) → AreWithin row_of rows → count < length row_of → now ≡ rows_after place → get_or row_of count 0 < length now
+  row_within place count now within below now_is =
+      let first = plain_to bearing issues place in
+      let at = within count below in
+      let same = ap length now_is ∙ length-each change first (take (length first) row_of) rows in
+      omega (arith, at, same)

@@ -1,6 +1,6 @@
 -- What an issue rests on (this project's own).
-use Rattle.std.specs.Prelude.{◌≡◌, ℕ, List, Some}
-use Rattle.std.specs.List.{slice_get}
+use Rattle.std.specs.Prelude.{◌≡◌, ◌==◌, ℕ, List, length, Bool, Some, filter}
+use Rattle.std.specs.List.{list_any, slice_get}
 use Rattle.bl_syntax.specs.Grant.{GrantView}
 
 -- its grant, and the numbers of the statements that it cites
@@ -17,3 +17,14 @@ pub record IsGrantAt (bearings : List BearingView) (place : ℕ) (g : GrantView)
 -- no issue has the grant
 abbrev pub IsUnissued : List BearingView → GrantView → Type 0
 IsUnissued bearings g = (place : ℕ) → IsGrantAt bearings place g → ⊥
+
+-- the issue is plain: its grant names no statements
+abbrev pub is_plain : BearingView → Bool
+is_plain b = length b.grant.cited == 0
+
+abbrev pub plain : List BearingView → List BearingView
+plain bearings = filter is_plain bearings
+
+-- it cites the number
+abbrev pub cites : ℕ → BearingView → Bool
+cites number b = list_any (λ (n : ℕ). n == number) b.cited

@@ -3,7 +3,7 @@ use Rattle.std.specs.Prelude.{◌≡◌, ◌↔◌, ℕ, List, ◌∷◌, ◌++�
 use Rattle.std.specs.List.{AllByRecursion}
 use Rattle.bl_syntax.specs.Grant.{GrantView}
 use Rattle.issue_standings.specs.Bearing.{BearingView}
-use Rattle.issue_standings.specs.Standing.{gone_by, standing_of}
+use Rattle.issue_standings.specs.GrantStanding.{gone_by, standing_of}
 
 -- if the issue has the grant, it cites a withdrawn number
 abbrev pub RestsOnWithdrawn : (ℕ → Bool) → GrantView → BearingView → Type 0
@@ -13,7 +13,8 @@ RestsOnWithdrawn withdrawn g b = b.grant ≡ g → IsSome (find withdrawn b.cite
 abbrev pub HasOther : GrantView → BearingView → Type 0
 HasOther g b = b.grant ≡ g → ⊥
 
--- there are issues with the grant, each of them cites a withdrawn number, and this is the first withdrawn number that the last of them cites
+-- there are issues with the grant, each of them cites a withdrawn number, and this is the first
+-- withdrawn number that the last of them cites
 pub record IsGoneBy (withdrawn : ℕ → Bool) (g : GrantView) (bearings : List BearingView) (number : ℕ) : Type 0 where
   pub earlier : List BearingView
   pub last : BearingView
@@ -26,4 +27,6 @@ pub record IsGoneBy (withdrawn : ℕ → Bool) (g : GrantView) (bearings : List 
 
 -- the standing of a grant says by which number it is gone
 abbrev pub GoneMeans : Type 0
-GoneMeans = (withdrawn : ℕ → Bool) (g : GrantView) (bearings : List BearingView) (number : ℕ) → (gone_by (standing_of withdrawn g bearings) ≡ Some number) ↔ IsGoneBy withdrawn g bearings number
+GoneMeans = (withdrawn : ℕ → Bool) (g : GrantView) (bearings : List BearingView) (number : ℕ) →
+    (gone_by (standing_of withdrawn g bearings) ≡ Some number) ↔
+    IsGoneBy withdrawn g bearings number

@@ -2,4 +2,4 @@ pub mod Bearing
 pub mod Gone
 pub mod Index
 pub mod Rows
-pub mod Standing
+pub mod GrantStanding

@@ -2,13 +2,13 @@
 
 ghost use Rattle.std.specs.Prelude.{◌≡◌, find};
 ghost use Rattle.policy_statement.specs.Withdrawal.{is_withdrawn};
-ghost use Rattle.issue_standings.specs.Standing.{after, gone_by};
+ghost use Rattle.issue_standings.specs.GrantStanding.{after, gone_by};
 
 use policy_statement::Registry;
 
 /// How a grant stands, by its issues.
 #[derive(Clone, Copy, Debug, PartialEq, Eq)]
-pub enum Standing {
+pub enum GrantStanding {
     /// It was not issued.
     Unissued,
     /// One of its issues cites no withdrawn statement.
@@ -17,16 +17,16 @@ pub enum Standing {
     GoneBy(u32),
 }
 
-impl Standing {
+impl GrantStanding {
     /// How the grant stands after one more issue, of whose statements this is the first that was withdrawn.
-    pub fn after(self, withdrawn: Option<u32>) -> Standing
+    pub fn after(self, withdrawn: Option<u32>) -> GrantStanding
         ensures { result ≡ after self withdrawn }
     {
         match self {
-            Standing::Stands => Standing::Stands,
+            GrantStanding::Stands => GrantStanding::Stands,
             _ => match withdrawn {
-                None => Standing::Stands,
-                Some(number) => Standing::GoneBy(number),
+                None => GrantStanding::Stands,
+                Some(number) => GrantStanding::GoneBy(number),
             },
         }
     }
@@ -36,7 +36,7 @@ impl Standing {
         ensures { result ≡ gone_by self }
     {
         match self {
-            Standing::GoneBy(number) => Some(number),
+            GrantStanding::GoneBy(number) => Some(number),
             _ => None,
         }
     }

@@ -1,15 +1,15 @@
-//! The index of standings: a row for each grant that was issued.
+//! The index of standings: a row for each grant that was issued and names no statements.
 
 ghost use Rattle.std.specs.Prelude.{◌≡◌, ◌≤◌, ◌<◌, ◌++◌, ◌∷◌, [], ◌↔◌, ℕ, List, IfOk, IsSome, IsTrue, OnOk, length, map};
 ghost use Rattle.policy_statement.specs.Registered.{RegisteredView, spare_of};
 ghost use Rattle.policy_statement.specs.Withdrawal.{is_withdrawn};
-ghost use Rattle.issue_standings.specs.Bearing.{IsGrantAt};
-ghost use Rattle.issue_standings.specs.Standing.{gone_by, standing_of};
-ghost use Rattle.issue_standings.specs.Rows.{ArePlaces, AreWithin, TellsRow, counted, forgotten, recounted};
+ghost use Rattle.issue_standings.specs.Bearing.{IsGrantAt, is_plain, plain};
+ghost use Rattle.issue_standings.specs.GrantStanding.{gone_by, standing_of};
+ghost use Rattle.issue_standings.specs.Rows.{ArePlaces, AreWithin, TellsRow, all_begun, all_counted, begun, begun_by, changed, counted, counted_anew, left};
 ghost use Rattle.issue_standings.specs.Index.{Finds, GivesRow, HasNewRow, HasRows, IsIndexOf, IsRecounted, IsSameIndex, Knows, TellsIssued, front_of, room_of, row_at, rows_of};
 
 use crate::bearing::Bearing;
-use crate::standing::{Standing, first_withdrawn};
+use crate::standing::{GrantStanding, first_withdrawn};
 use bl_syntax::{Grant, NoMemory};
 use policy_statement::Registry;
 use procap::{Procap, SealKey};
@@ -20,16 +20,19 @@ use std::collections::HashMap;
 #[derive(Clone, Copy, Debug)]
 struct Row {
     place: usize,
-    standing: Standing,
+    standing: GrantStanding,
+    // Whether the issues with the grant are counted anew. Only a recount reads it, after it was set for each row.
+    anew: bool,
 }
 
-/// How each grant stands that was issued. It has no grants: its calls take the issues, and it has their places.
+/// How each grant stands that was issued and names no statements. It has no grants: its calls take the issues, and it has
+/// places of them.
 #[derive(Drop)]
 pub struct Standings {
     rows: Vec<Row>,
-    // The row of each issue's grant, in the order of the issues.
+    // The row of each plain issue's grant, in the order of the issues.
     row_of: Vec<usize>,
-    // For the front of each issue's tag, the row of a grant whose tag has that front.
+    // For the front of each plain issue's tag, the row of a grant whose tag has that front.
     fronts: HashMap<u64, usize>,
 }
 
@@ -42,6 +45,13 @@ fn front_of(tag: &[u8]) -> u64
     u64::from_be_bytes([
         bytes[0], bytes[1], bytes[2], bytes[3], bytes[4], bytes[5], bytes[6], bytes[7],
     ])
+}
+
+// Whether the issue's grant names no statements.
+fn is_plain<B: Bearing>(issue: &B) -> bool
+    ensures { result ≡ is_plain (B.Bearing.bearing issue.now) }
+{
+    issue.grant().cited().is_empty()
 }
 
 // Whether the issue in that place has the grant.
@@ -75,33 +85,92 @@ fn count(rows: &mut Vec<Row>, row: usize, withdrawn: Option<u32>)
     rows[row] = Row {
         place: before.place,
         standing: before.standing.after(withdrawn),
+        anew: before.anew,
     };
 }
 
-// Forgets what was counted.
-fn forget(rows: &mut Vec<Row>)
-    ensures rows { rows.new.items ≡ map forgotten rows.old.items }
+// Forgets what was counted in the row, which is to be counted anew.
+fn begin(rows: &mut Vec<Row>, row: usize)
+    requires { row < length rows.old.items }
+    ensures rows { rows.new.items ≡ changed begun rows.old.items row }
+    ensures spare { spare_of rows.new ≡ spare_of rows.old }
+{
+    let before = rows[row];
+    rows[row] = Row {
+        place: before.place,
+        standing: GrantStanding::Unissued,
+        anew: true,
+    };
+}
+
+// Leaves each row as it stands; none is to be counted anew.
+fn leave_all(rows: &mut Vec<Row>)
+    ensures rows { rows.new.items ≡ map left rows.old.items }
     ensures spare { spare_of rows.new ≡ spare_of rows.old }
 {
     for row in 0..rows.len() {
         let before = rows[row];
         rows[row] = Row {
             place: before.place,
-            standing: Standing::Unissued,
+            standing: before.standing,
+            anew: false,
         };
     }
 }
 
-// Counts each issue in the row of its grant.
-fn count_all<B: Bearing>(rows: &mut Vec<Row>, row_of: &[usize], registry: &Registry, issues: &[B])
-    requires each { length row_of.now ≡ length issues.now }
-    requires within { AreWithin row_of.now rows.old.items }
-    ensures rows { rows.new.items ≡ recounted (is_withdrawn registry.now.entries) row_of.now (map B.Bearing.bearing issues.now) rows.old.items }
+// Begins the row of the issue anew, if the issue cites the number.
+fn begin_citing<B: Bearing>(rows: &mut Vec<Row>, row: usize, issue: &B, number: u32)
+    requires { row < length rows.old.items }
+    ensures rows { rows.new.items ≡ changed (begun_by number (B.Bearing.bearing issue.now)) rows.old.items row }
     ensures spare { spare_of rows.new ≡ spare_of rows.old }
 {
+    if issue.cited().contains(&number) {
+        begin(rows, row);
+    }
+}
+
+// Counts the issue in its row, if this is to be counted anew.
+fn count_anew<B: Bearing>(rows: &mut Vec<Row>, row: usize, registry: &Registry, issue: &B)
+    requires { row < length rows.old.items }
+    ensures rows { rows.new.items ≡ changed (counted_anew (is_withdrawn registry.now.entries) (B.Bearing.bearing issue.now)) rows.old.items row }
+    ensures spare { spare_of rows.new ≡ spare_of rows.old }
+{
+    if rows[row].anew {
+        count(rows, row, first_withdrawn(registry, issue.cited()));
+    }
+}
+
+// Begins the row of each plain issue anew that cites the number.
+fn begin_all<B: Bearing>(rows: &mut Vec<Row>, row_of: &[usize], issues: &[B], number: u32)
+    requires each { length row_of.now ≡ length (plain (map B.Bearing.bearing issues.now)) }
+    requires within { AreWithin row_of.now rows.old.items }
+    ensures rows { rows.new.items ≡ all_begun number row_of.now (plain (map B.Bearing.bearing issues.now)) rows.old.items }
+    ensures spare { spare_of rows.new ≡ spare_of rows.old }
+{
+    let mut seen = 0;
     for place in 0..issues.len() {
-        let withdrawn = first_withdrawn(registry, issues[place].cited());
-        count(rows, row_of[place], withdrawn);
+        let issue = &issues[place];
+        if is_plain(issue) {
+            begin_citing(rows, row_of[seen], issue, number);
+            seen += 1;
+        }
+    }
+}
+
+// Counts each plain issue whose row is to be counted anew.
+fn count_all<B: Bearing>(rows: &mut Vec<Row>, row_of: &[usize], registry: &Registry, issues: &[B])
+    requires each { length row_of.now ≡ length (plain (map B.Bearing.bearing issues.now)) }
+    requires within { AreWithin row_of.now rows.old.items }
+    ensures rows { rows.new.items ≡ all_counted (is_withdrawn registry.now.entries) row_of.now (plain (map B.Bearing.bearing issues.now)) rows.old.items }
+    ensures spare { spare_of rows.new ≡ spare_of rows.old }
+{
+    let mut seen = 0;
+    for place in 0..issues.len() {
+        let issue = &issues[place];
+        if is_plain(issue) {
+            count_anew(rows, row_of[seen], registry, issue);
+            seen += 1;
+        }
     }
 }
 
@@ -145,12 +214,16 @@ impl Standings {
         Ok(())
     }
 
-    /// Adds an issue after these, for which there has to be room. It takes no memory.
+    /// Adds an issue after these, for which there has to be room. Nothing is added for a grant that names statements. It takes
+    /// no memory.
     pub fn add<B: Bearing>(&mut self, key: &SealKey, registry: &Registry, issues: &[B], issue: &B)
         requires room { 1 ≤ room_of self.old }
         requires index { IsIndexOf key.now registry.now.entries (map B.Bearing.bearing issues.now) self.old }
         ensures { IsIndexOf key.now registry.now.entries (map B.Bearing.bearing issues.now ++ B.Bearing.bearing issue.now ∷ []) self.new }
     {
+        if !is_plain(issue) {
+            return;
+        }
         let grant = issue.grant();
         let withdrawn = first_withdrawn(registry, issue.cited());
         let row = self.row_for(issues, front_of(&key.tag(grant)), grant);
@@ -158,17 +231,22 @@ impl Standings {
         self.row_of.push_reserved(row);
     }
 
-    /// Counts the issues again, after a statement was withdrawn. It takes no memory.
-    pub fn recount<B: Bearing>(&mut self, registry: &Registry, issues: &[B])
+    /// Counts again after the statement of this number was withdrawn: the issues with those grants of which an issue cites it.
+    /// It goes over no issues if each names statements. It takes no memory.
+    pub fn recount<B: Bearing>(&mut self, registry: &Registry, issues: &[B], number: u32)
         requires { HasRows (map B.Bearing.bearing issues.now) self.old }
-        ensures { IsRecounted registry.now.entries (map B.Bearing.bearing issues.now) self.old self.new }
+        ensures { IsRecounted number registry.now.entries (map B.Bearing.bearing issues.now) self.old self.new }
     {
-        forget(&mut self.rows);
+        if self.row_of.is_empty() {
+            return;
+        }
+        leave_all(&mut self.rows);
+        begin_all(&mut self.rows, self.row_of.as_slice(), issues, number);
         count_all(&mut self.rows, self.row_of.as_slice(), registry, issues);
     }
 
-    /// The number of the withdrawn statement by which the procap's grant is gone, of the issues of this index; none exactly if
-    /// it is not gone. It takes no memory, and goes over no issues.
+    /// The number of the withdrawn statement by which the procap's grant, which names no statements, is gone, of the issues of
+    /// this index; none exactly if it is not gone. It takes no memory, and goes over no issues.
     pub fn gone_by<B: Bearing>(
         &self,
         registry: &Registry,
@@ -187,7 +265,7 @@ impl Standings {
         }
     }
 
-    // The row of the grant, by the front of its tag; none exactly if no issue has the grant.
+    // The row of the grant, by the front of its tag; none exactly if no plain issue has the grant.
     fn find_row<B: Bearing>(&self, issues: &[B], front: u64, grant: &Grant) -> Option<usize>
         requires { Finds (map B.Bearing.bearing issues.now) self.now front grant.now }
         ensures row { TellsIssued (map B.Bearing.bearing issues.now) self.now grant.now result }
@@ -203,7 +281,8 @@ impl Standings {
         search_rows(self.rows.as_slice(), issues, grant)
     }
 
-    // The row of the grant, by the front of its tag; a new one, in which nothing is counted, if no issue has the grant.
+    // The row of the grant, by the front of its tag; a new one, in which nothing is counted, if no plain issue has
+    // the grant.
     fn row_for<B: Bearing>(&mut self, issues: &[B], front: u64, grant: &Grant) -> usize
         requires room { 1 ≤ room_of self.old }
         requires finds { Finds (map B.Bearing.bearing issues.now) self.old front grant.now }
@@ -224,7 +303,8 @@ impl Standings {
         let row = self.rows.len();
         self.rows.push_reserved(Row {
             place,
-            standing: Standing::Unissued,
+            standing: GrantStanding::Unissued,
+            anew: false,
         });
         let _ = self.fronts.insert(front, row);
         row

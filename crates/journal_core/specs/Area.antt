@@ -1,4 +1,5 @@
--- Areas: the bytes of a disk that holds an image and the records after it. The format is this project's own. Its numbers
+-- Areas: the bytes of a disk that holds an image and the records after it. The format is this
+-- project's own. Its numbers
 -- are big-endian.
 use Rattle.std.specs.Prelude.{◌≡◌, ◌≢◌, ◌⊎◌, ℕ, ◌+◌, ◌^◌, ◌<◌, ◌≤◌, List, [], ◌∷◌, ◌++◌, length, take, drop, get_or, Option, Some, None, nat_lt, ◌==◌, if◌then◌else◌}
 use Rattle.std.specs.Int.{w32, w64, to_be_bytes, from_be_bytes}
@@ -35,7 +36,8 @@ IsShut bytes = get_or bytes 0 0 ≢ 1
 abbrev pub Begins : List ℕ → List ℕ → Type 0
 Begins front bytes = take (length front) bytes ≡ front
 
--- Bytes stand for a body: they begin with it, and what follows is empty or does not begin with an open gate.
+-- Bytes stand for a body: they begin with it, and what follows is empty or does not begin with an
+-- open gate.
 pub record StandsForBody (body bytes : List ℕ) : Type 0 where
   pub front : Begins body bytes
   pub shut : get_or bytes (length body) 0 ≢ 1
@@ -63,15 +65,18 @@ pub record IsArea (bytes : List ℕ) (generation : ℕ) (image : List ℕ) (payl
 -- Bytes are an area.
 abbrev pub IsSomeArea : List ℕ → Type 0
 IsSomeArea bytes =
-    (generation : ℕ) × (image : List ℕ) × (payloads : List (List ℕ)) × IsArea bytes generation image payloads
+    (generation : ℕ) × (image : List ℕ) × (payloads : List (List ℕ)) ×
+    IsArea bytes generation image payloads
 
 -- Bytes are open, and no header and image begin them that leave room for a closed gate.
 pub record HasNoBase (bytes : List ℕ) : Type 0 where
   pub is_open : get_or bytes 0 0 ≡ 1
   pub none : (generation : ℕ) (image : List ℕ) → IsGeneration generation →
-      length (area_bytes generation image []) < area_limit → Begins (area_bytes generation image []) bytes → ⊥
+      length (area_bytes generation image []) < area_limit →
+      Begins (area_bytes generation image []) bytes → ⊥
 
--- Bytes begin with an area of this many records, then an open gate stands, and no record begins there that is whole and
+-- Bytes begin with an area of this many records, then an open gate stands, and no record begins
+-- there that is whole and
 -- leaves room for a closed gate.
 pub record BreaksAfter (count : ℕ) (bytes : List ℕ) : Type 0 where
   pub generation : ℕ
@@ -82,25 +87,31 @@ pub record BreaksAfter (count : ℕ) (bytes : List ℕ) : Type 0 where
   pub fits : length (area_bytes generation image payloads) < area_limit
   pub front : Begins (area_bytes generation image payloads) bytes
   pub is_open : get_or bytes (length (area_bytes generation image payloads)) 0 ≡ 1
-  pub none : (payload : List ℕ) → length (area_bytes generation image payloads ++ record_bytes payload) < area_limit →
+  pub none : (payload : List ℕ) →
+      length (area_bytes generation image payloads ++ record_bytes payload) < area_limit →
       Begins (area_bytes generation image payloads ++ record_bytes payload) bytes → ⊥
 
--- Bytes begin with an area of these records, and no record follows: it ends there, or an open gate stands before none that
+-- Bytes begin with an area of these records, and no record follows: it ends there, or an open gate
+-- stands before none that
 -- is whole and leaves room for a closed gate.
 pub record IsFront (bytes : List ℕ) (generation : ℕ) (image : List ℕ) (payloads : List (List ℕ)) : Type 0 where
   pub generated : IsGeneration generation
   pub fits : length (area_bytes generation image payloads) < area_limit
   pub front : Begins (area_bytes generation image payloads) bytes
-  pub last : get_or bytes (length (area_bytes generation image payloads)) 0 ≡ 1 → (payload : List ℕ) →
+  pub last : get_or bytes (length (area_bytes generation image payloads)) 0 ≡ 1 →
+      (payload : List ℕ) →
       length (area_bytes generation image payloads ++ record_bytes payload) < area_limit →
       Begins (area_bytes generation image payloads ++ record_bytes payload) bytes → ⊥
 
--- Bytes are open and no area: this is the number of the first record that is cut or past the limit, 0 for header and
+-- Bytes are open and no area: this is the number of the first record that is cut or past the limit,
+-- 0 for header and
 -- image.
 abbrev pub IsBroken : ℕ → List ℕ → Type 0
-IsBroken number bytes = ((number ≡ 0) × HasNoBase bytes) ⊎ ((count : ℕ) × (number ≡ count + 1) × BreaksAfter count bytes)
+IsBroken number bytes = ((number ≡ 0) × HasNoBase bytes) ⊎
+    ((count : ℕ) × (number ≡ count + 1) × BreaksAfter count bytes)
 
--- The generation of the area that bytes begin, whole or not: none if they are not open, 0 if they end before it.
+-- The generation of the area that bytes begin, whole or not: none if they are not open, 0 if they
+-- end before it.
 abbrev pub generation_of : List ℕ → Option ℕ
 generation_of bytes =
     if get_or bytes 0 0 == 1 then (if nat_lt (length bytes) 16 then Some 0 else Some (from_be_bytes w64 (take 8 (drop 8 bytes)))) else None

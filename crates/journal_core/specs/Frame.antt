@@ -1,4 +1,5 @@
--- A record's frame: what is written after its gate. The format is this project's own. Its numbers are big-endian.
+-- A record's frame: what is written after its gate. The format is this project's own. Its numbers
+-- are big-endian.
 use Rattle.std.specs.Prelude.{ℕ, ◌-◌, List, [], ◌∷◌, ◌++◌, length, take, drop}
 use Rattle.std.specs.Int.{w32, to_be_bytes}
 

@@ -21,7 +21,8 @@ pub record RecordEndsAt (bytes : List ℕ) (gate end : ℕ) : Type 0 where
 -- no record that is whole and leaves room for a closed gate begins here
 abbrev pub NoRecordAt : List ℕ → ℕ → Type 0
 NoRecordAt bytes gate =
-    (payload : List ℕ) → gate + 5 + length payload < area_limit → Begins (record_bytes payload) (drop gate bytes) → ⊥
+    (payload : List ℕ) → gate + 5 + length payload < area_limit →
+    Begins (record_bytes payload) (drop gate bytes) → ⊥
 
 -- these are the payloads of the records from a place on, which end there
 pub record RecordsEndAt (bytes : List ℕ) (from : ℕ) (payloads : List (List ℕ)) (end : ℕ) : Type 0 where

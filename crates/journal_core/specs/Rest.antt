@@ -3,7 +3,8 @@ use Rattle.std.specs.Prelude.{◌≡◌, ◌⊎◌, ℕ, List, ◌++◌, Option,
 use Rattle.pcfs_ports.specs.Disk.{IsPinned}
 use Rattle.journal_core.specs.Area.{IsShut, Closed, record_bytes}
 
--- A disk is at rest after a body: it tells that its image is this body and a closed gate, and nothing is pending.
+-- A disk is at rest after a body: it tells that its image is this body and a closed gate, and
+-- nothing is pending.
 pub record Rests {D : Type 0} (clock : D → ℕ) (left_since : D → ℕ → List ℕ → Type 0) (image : D → Option (List ℕ)) (disk : D) (body : List ℕ) : Type 0 where
   pub bytes : List ℕ
   pub told : image disk ≡ Some bytes

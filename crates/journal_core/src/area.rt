@@ -12,13 +12,11 @@ use crate::durable::{write_then_open, write_through};
 use crate::frames::Framed;
 use bl_syntax::NoMemory;
 use bl_syntax::fields::u64_bytes;
+use bl_syntax::limits::MOST_AREA_BYTES;
 use pcfs_ports::{Disk, Failed};
 use std::alloc::{AllocError, AllocFailed, Global};
 use std::marker::Model;
 use std::mem::swap;
-
-/// The greatest length of an area with its closed gate, in bytes.
-pub const AREA_LIMIT: u64 = 67_108_864;
 
 /// What stands in front of the generation: the name and the version of the format.
 pub const MAGIC: [u8; 7] = [80, 67, 70, 83, 0, 0, 1];
@@ -28,7 +26,7 @@ pub const MAGIC: [u8; 7] = [80, 67, 70, 83, 0, 0, 1];
 pub enum AreaFault {
     /// The disk failed.
     Disk,
-    /// With it, and with a closed gate after it, the area would pass `AREA_LIMIT`.
+    /// With it, and with a closed gate after it, the area would pass `MOST_AREA_BYTES`.
     AreaFull,
     /// A growth was refused.
     NoMemory,
@@ -59,7 +57,7 @@ impl<T: Drop> From<AllocFailed<T>> for AreaFault {
 }
 
 /// A disk whose bytes are an area. Contracts see the disk, and where the closed gate of the area stands,
-/// which is below `AREA_LIMIT`.
+/// which is below `MOST_AREA_BYTES`.
 #[derive(Debug, Drop)]
 pub struct Area<D: Disk> {
     pub(crate) disk: D,
@@ -97,7 +95,8 @@ fn base(alloc: Global, generation: u64, image: &[u8]) -> Result<Vec<u8>, AreaFau
 fn write_area<D: Disk>(disk: &mut D, base: &[u8]) -> Result<(), Failed>
     ensures image { OnOk result (D.image disk.new ≡ option_map (written 0 (1 ∷ base.now)) (D.image disk.old)) }
     ensures pinned { OnOk result (IsPinned D.clock D.left_since D.image disk.new) }
-    ensures any_moment { (bytes tail : List ℕ) → base.now ≡ tail ++ 0 ∷ [] → D.image disk.old ≡ Some bytes →
+    ensures any_moment { (bytes tail : List ℕ) → base.now ≡ tail ++ 0 ∷ [] →
+        D.image disk.old ≡ Some bytes →
         IsPinned D.clock D.left_since D.image disk.old →
         LeavesOnly D.clock D.left_since disk.old disk.new (IsOldOrShutOrNew bytes (1 ∷ tail)) }
     ensures told { is_some (D.image disk.new) ≡ is_some (D.image disk.old) }
@@ -125,15 +124,17 @@ fn format_disk<D: Disk>(
     ensures image { OnOk result (D.image disk.new ≡
         option_map (written 0 (area_bytes generation image.now [] ++ 0 ∷ [])) (D.image disk.old)) }
     ensures pinned { OnOk result (IsPinned D.clock D.left_since D.image disk.new) }
-    ensures any_moment { (bytes : List ℕ) → D.image disk.old ≡ Some bytes → IsPinned D.clock D.left_since D.image disk.old →
+    ensures any_moment { (bytes : List ℕ) → D.image disk.old ≡ Some bytes →
+        IsPinned D.clock D.left_since D.image disk.old →
         LeavesOnly D.clock D.left_since disk.old disk.new (IsOldOrShutOrNew bytes (area_bytes generation image.now [])) }
     ensures told { is_some (D.image disk.new) ≡ is_some (D.image disk.old) }
     ensures no_fault { OnOk result (D.faults disk.new ≡ D.faults disk.old) }
-    ensures risen { IsErrOf result AreaFault.Disk → HasRisen (D.faults disk.old) (D.faults disk.new) }
+    ensures risen { IsErrOf result AreaFault.Disk →
+        HasRisen (D.faults disk.old) (D.faults disk.new) }
     ensures never_falls { D.faults disk.old ≤ D.faults disk.new }
 {
     let end = (image.len() as u64).saturating_add(24);
-    if AREA_LIMIT <= end {
+    if MOST_AREA_BYTES <= end {
         return Err(AreaFault::AreaFull);
     }
     let base = base(alloc, generation, image)?;
@@ -163,7 +164,8 @@ impl<D: Disk> Area<D> {
         ensures pinned { IfOk result (λ area. IsPinned D.clock D.left_since D.image area.disk) }
 
         // A crash at any moment leaves the area as it was, or none that is open, or the new one.
-        ensures any_moment { (bytes : List ℕ) → D.image disk ≡ Some bytes → IsPinned D.clock D.left_since D.image disk →
+        ensures any_moment { (bytes : List ℕ) → D.image disk ≡ Some bytes →
+            IsPinned D.clock D.left_since D.image disk →
             MatchResult result
             (λ area. LeavesOnly D.clock D.left_since disk area.disk (IsOldOrShutOrNew bytes (area_bytes generation image.now [])))
             (λ e. LeavesOnly D.clock D.left_since disk e.1 (IsOldOrShutOrNew bytes (area_bytes generation image.now []))) }
@@ -213,18 +215,20 @@ impl<D: Disk> Area<D> {
             LeavesOnly D.clock D.left_since self.old.disk self.new.disk (IsWithOrWithout body framed.now) }
 
         // After a fault the disk may be read: what it gives is the records of before, with the new one or without.
-        ensures found { IsErrOf result AreaFault.Disk → (body bytes : List ℕ) → length body ≡ self.old.end →
+        ensures found { IsErrOf result AreaFault.Disk → (body bytes : List ℕ) →
+            length body ≡ self.old.end →
             Rests D.clock D.left_since D.image self.old.disk body →
             D.image self.new.disk ≡ Some bytes → IsWithOrWithout body framed.now bytes }
 
         ensures told { is_some (D.image self.new.disk) ≡ is_some (D.image self.old.disk) }
         ensures no_fault { OnOk result (D.faults self.new.disk ≡ D.faults self.old.disk) }
-        ensures risen { IsErrOf result AreaFault.Disk → HasRisen (D.faults self.old.disk) (D.faults self.new.disk) }
+        ensures risen { IsErrOf result AreaFault.Disk →
+            HasRisen (D.faults self.old.disk) (D.faults self.new.disk) }
         ensures never_falls { D.faults self.old.disk ≤ D.faults self.new.disk }
     {
         let frame = framed.bytes();
         let end = self.end.saturating_add(frame.len() as u64);
-        if AREA_LIMIT <= end {
+        if MOST_AREA_BYTES <= end {
             return Err(AreaFault::AreaFull);
         }
         write_then_open(&mut self.disk, self.end, frame)?;
@@ -268,7 +272,8 @@ impl<D: Disk> Area<D> {
             (λ _. is_some (D.image self.new.disk) ≡ is_some (D.image other.old))
             (λ _. is_some (D.image other.new) ≡ is_some (D.image other.old)) }
         ensures no_fault { OnOk result (D.faults self.new.disk ≡ D.faults other.old) }
-        ensures risen { IsErrOf result AreaFault.Disk → HasRisen (D.faults other.old) (D.faults other.new) }
+        ensures risen { IsErrOf result AreaFault.Disk →
+            HasRisen (D.faults other.old) (D.faults other.new) }
         ensures never_falls { MatchResult result
             (λ _. D.faults other.old ≤ D.faults self.new.disk)
             (λ _. D.faults other.old ≤ D.faults other.new) }

@@ -11,7 +11,8 @@ use pcfs_ports::{Disk, Failed};
 pub fn write_through<D: Disk>(disk: &mut D, at: u64, piece: &[u8]) -> Result<(), Failed>
     ensures image { OnOk result (D.image disk.new ≡ option_map (written at piece.now) (D.image disk.old)) }
     ensures pinned { OnOk result (IsPinned D.clock D.left_since D.image disk.new) }
-    ensures any_moment { (bytes : List ℕ) → D.image disk.old ≡ Some bytes → IsPinned D.clock D.left_since D.image disk.old →
+    ensures any_moment { (bytes : List ℕ) → D.image disk.old ≡ Some bytes →
+        IsPinned D.clock D.left_since D.image disk.old →
         LeavesOnly D.clock D.left_since disk.old disk.new (Torn at piece.now bytes) }
     ensures told { is_some (D.image disk.new) ≡ is_some (D.image disk.old) }
     ensures no_fault { OnOk result (D.faults disk.new ≡ D.faults disk.old) }
@@ -30,7 +31,8 @@ pub fn write_then_open<D: Disk>(disk: &mut D, gate: u64, piece: &[u8]) -> Result
     ensures image { OnOk result (D.image disk.new ≡
         option_map (λ bytes. written gate (1 ∷ []) (written (gate + 1) piece.now bytes)) (D.image disk.old)) }
     ensures pinned { OnOk result (IsPinned D.clock D.left_since D.image disk.new) }
-    ensures any_moment { (bytes : List ℕ) → D.image disk.old ≡ Some bytes → IsPinned D.clock D.left_since D.image disk.old →
+    ensures any_moment { (bytes : List ℕ) → D.image disk.old ≡ Some bytes →
+        IsPinned D.clock D.left_since D.image disk.old →
         LeavesOnly D.clock D.left_since disk.old disk.new
         (λ left. Torn (gate + 1) piece.now bytes left ⊎ Torn gate (1 ∷ []) (written (gate + 1) piece.now bytes) left) }
     ensures told { is_some (D.image disk.new) ≡ is_some (D.image disk.old) }

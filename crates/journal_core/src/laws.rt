@@ -5,7 +5,8 @@ ghost use Rattle.journal_core.specs.Area.{IsShut, IsArea, IsFront, IsSomeArea, H
 
 /// Bytes are shut, an area, or broken. The laws below say that they are only one of these.
 pub fn bytes_have_a_reading()
-    ensures { (bytes : List ℕ) → IsShut bytes ⊎ (IsSomeArea bytes ⊎ ((number : ℕ) × IsBroken number bytes)) }
+    ensures { (bytes : List ℕ) →
+        IsShut bytes ⊎ (IsSomeArea bytes ⊎ ((number : ℕ) × IsBroken number bytes)) }
 {}
 
 /// Bytes are at most one area.
@@ -16,7 +17,8 @@ pub fn an_area_has_one_reading()
 
 /// An area is not shut, and not broken.
 pub fn an_area_is_open_and_whole()
-    ensures is_open { (bytes : List ℕ) (g : ℕ) (i : List ℕ) (ps : List (List ℕ)) → IsArea bytes g i ps → IsShut bytes → ⊥ }
+    ensures is_open { (bytes : List ℕ) (g : ℕ) (i : List ℕ) (ps : List (List ℕ)) →
+        IsArea bytes g i ps → IsShut bytes → ⊥ }
     ensures whole { (bytes : List ℕ) (g : ℕ) (i : List ℕ) (ps : List (List ℕ)) (number : ℕ) →
         IsArea bytes g i ps → IsBroken number bytes → ⊥ }
 {}
@@ -31,6 +33,8 @@ pub fn a_break_has_one_number()
 pub fn a_front_has_one_reading()
     ensures one { (bytes : List ℕ) (g h : ℕ) (i j : List ℕ) (ps qs : List (List ℕ)) →
         IsFront bytes g i ps → IsFront bytes h j qs → (g ≡ h) × (i ≡ j) × (ps ≡ qs) }
-    ensures based { (bytes : List ℕ) (g : ℕ) (i : List ℕ) (ps : List (List ℕ)) → IsFront bytes g i ps → HasNoBase bytes → ⊥ }
-    ensures area { (bytes : List ℕ) (g : ℕ) (i : List ℕ) (ps : List (List ℕ)) → IsArea bytes g i ps → IsFront bytes g i ps }
+    ensures based { (bytes : List ℕ) (g : ℕ) (i : List ℕ) (ps : List (List ℕ)) →
+        IsFront bytes g i ps → HasNoBase bytes → ⊥ }
+    ensures area { (bytes : List ℕ) (g : ℕ) (i : List ℕ) (ps : List (List ℕ)) →
+        IsArea bytes g i ps → IsFront bytes g i ps }
 {}

@@ -13,7 +13,7 @@ pub mod laws;
 mod records;
 mod scan;
 
-pub use area::{AREA_LIMIT, Area, AreaFault};
+pub use area::{Area, AreaFault};
 pub use contents::Scan;
 pub use frames::{Framed, frame, frame_after_four};
 pub use generation::peek;

@@ -7,17 +7,15 @@ ghost use Rattle.journal_core.specs.ScanView.{all_bytes_at};
 ghost use Rattle.journal_core.specs.Reports.{BaseEndsAt, RecordEndsAt, NoRecordAt, RecordsEndAt};
 ghost use Rattle.journal_core.specs.Faults.{BrokeAt, IsReported, IsFrontReported};
 
-use crate::area::{AREA_LIMIT, MAGIC};
+use crate::area::MAGIC;
 use crate::contents::{Scan, Span};
 use crate::generation::{is_open, number_at};
 use crate::scan::ScanFault;
+use bl_syntax::limits::{MOST_AREA_BYTES, MOST_EVENTS};
 use bl_syntax::{Bytes, NoMemory, Sequence};
 use std::alloc::Global;
 
-// The greatest generation.
-const GENERATION_LIMIT: u64 = 0xffff_ffff_ffff;
-
-// AREA_LIMIT as a length.
+// MOST_AREA_BYTES as a length.
 const LIMIT: usize = 67_108_864;
 
 // The number of four bytes from `at` on.
@@ -38,11 +36,11 @@ fn find_base(bytes: &[u8]) -> Option<(u64, usize)>
         return None;
     }
     let generation = number_at(bytes, 8);
-    if generation == 0 || GENERATION_LIMIT < generation {
+    if generation == 0 || MOST_EVENTS < generation {
         return None;
     }
     let len = number_at(bytes, 16);
-    if AREA_LIMIT - 25 < len || ((bytes.len() - 24) as u64) < len {
+    if MOST_AREA_BYTES - 25 < len || ((bytes.len() - 24) as u64) < len {
         return None;
     }
     Some((generation, 24 + len as usize))

@@ -7,9 +7,10 @@ ghost use Rattle.journal_core.specs.Area.{area_limit, area_bytes, IsArea, IsFron
 ghost use Rattle.journal_core.specs.Faults.{IsReported, IsFrontReported};
 ghost use Rattle.journal_core.specs.declared.scan.ScanFault.TheVariants.{Disk as DiskFailed, NoMemory as OutOfMemory};
 
-use crate::area::{AREA_LIMIT, Area};
+use crate::area::Area;
 use crate::contents::Scan;
 use crate::records::{find_contents, find_front};
+use bl_syntax::limits::MOST_AREA_BYTES;
 use bl_syntax::{Bytes, NoMemory};
 use pcfs_ports::{Disk, Failed};
 use std::alloc::{AllocError, Global};
@@ -19,7 +20,7 @@ use std::alloc::{AllocError, Global};
 pub enum ScanFault {
     /// The area is not open.
     Closed,
-    /// The number of the first record that is cut or passes `AREA_LIMIT` with its closed gate; 0 for
+    /// The number of the first record that is cut or passes `MOST_AREA_BYTES` with its closed gate; 0 for
     /// header and image.
     Broken(u64),
     /// The disk failed.
@@ -63,7 +64,7 @@ fn find_length<D: Disk>(disk: &mut D) -> Result<u64, Failed>
     ensures never_falls { D.faults disk.old ≤ D.faults disk.new }
 {
     let len = disk.len()?;
-    Ok(len.min(AREA_LIMIT))
+    Ok(len.min(MOST_AREA_BYTES))
 }
 
 // The bytes of the disk, at most as many as an area may have. They are read by one call into memory of
@@ -74,7 +75,8 @@ fn read_area<D: Disk>(alloc: Global, disk: &mut D) -> Result<Bytes, ScanFault>
     ensures same { result ≢ Err ScanFault.Disk → D.image disk.new ≡ D.image disk.old }
     ensures told { is_some (D.image disk.new) ≡ is_some (D.image disk.old) }
     ensures time { Idles D.clock D.left_since disk.old disk.new }
-    ensures risen { IsErrOf result ScanFault.Disk → HasRisen (D.faults disk.old) (D.faults disk.new) }
+    ensures risen { IsErrOf result ScanFault.Disk →
+        HasRisen (D.faults disk.old) (D.faults disk.new) }
     ensures never_falls { D.faults disk.old ≤ D.faults disk.new }
 {
     let len = find_length(disk)?;
@@ -96,7 +98,8 @@ fn scan_disk<D: Disk>(alloc: Global, disk: &mut D) -> Result<(Scan, usize), Scan
     ensures pinned { result ≢ Err ScanFault.Disk → IsPinned D.clock D.left_since D.image disk.new }
     ensures told { is_some (D.image disk.new) ≡ is_some (D.image disk.old) }
     ensures time { Idles D.clock D.left_since disk.old disk.new }
-    ensures risen { IsErrOf result ScanFault.Disk → HasRisen (D.faults disk.old) (D.faults disk.new) }
+    ensures risen { IsErrOf result ScanFault.Disk →
+        HasRisen (D.faults disk.old) (D.faults disk.new) }
     ensures never_falls { D.faults disk.old ≤ D.faults disk.new }
 {
     disk.sync()?;
@@ -119,7 +122,8 @@ pub fn scan_front<D: Disk>(alloc: Global, disk: &mut D) -> Result<Scan, ScanFaul
     ensures pinned { result ≢ Err ScanFault.Disk → IsPinned D.clock D.left_since D.image disk.new }
     ensures told { is_some (D.image disk.new) ≡ is_some (D.image disk.old) }
     ensures time { Idles D.clock D.left_since disk.old disk.new }
-    ensures risen { IsErrOf result ScanFault.Disk → HasRisen (D.faults disk.old) (D.faults disk.new) }
+    ensures risen { IsErrOf result ScanFault.Disk →
+        HasRisen (D.faults disk.old) (D.faults disk.new) }
     ensures never_falls { D.faults disk.old ≤ D.faults disk.new }
 {
     disk.sync()?;

@@ -1,4 +1,5 @@
--- Reading an event from the payload of a journal's record, from the left: the event and the bytes after it, or the first fault. It is read with pass 0.
+-- Reading an event from the payload of a journal's record, from the left: the event and the bytes
+-- after it, or the first fault. It is read with pass 0.
 use Rattle.std.specs.Prelude.{◌≡◌, ℕ, List, [], ◌∷◌, ◌==◌, length, if◌then◌else◌, Result, Err, IfOk, IfErr}
 use Rattle.bl_syntax.specs.declared.codec_fault.CodecFault.{CodecFault}
 use Rattle.bl_syntax.specs.declared.codec_fault.CodecFault.TheVariants as faults
@@ -23,7 +24,8 @@ event_at input (tag ∷ rest) =
 unfoldable pub whole_event : List ℕ → Result Event CodecFault
 whole_event bytes = event_at (length bytes) bytes >>= at_end (length bytes)
 
--- what a call read of the whole bytes: the event of pass 0 of which they are the spelling, or a fault, which comes only if they spell no event, or because memory runs out
+-- what a call read of the whole bytes: the event of pass 0 of which they are the spelling, or a
+-- fault, which comes only if they spell no event, or because memory runs out
 pub record ReadsWholeEvent (bytes : List ℕ) (result : Result Event CodecFault) : Type 0 where
   pub found : IfOk result (λ e. IsReadEvent e × (bytes ≡ event_spelling e))
   pub refused : IfErr result (λ fault. (fault ≡ faults.NoMemory → ⊥) → (e : Event) → IsSpellableEvent e → bytes ≡ event_spelling e → ⊥)

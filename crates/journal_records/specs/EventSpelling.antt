@@ -1,4 +1,5 @@
--- The payload of a journal's record: the one spelling of an event, up to its pass, which is not written. The format is this project's own.
+-- The payload of a journal's record: the one spelling of an event, up to its pass, which is not
+-- written. The format is this project's own.
 use Rattle.std.specs.Prelude.{◌≡◌, ℕ, List, ◌∷◌, ◌≤◌, length}
 use Rattle.bl_syntax.specs.TimeOrder.{IsMoment}
 use Rattle.access_history.specs.declared.event.Event.{Event}
@@ -22,11 +23,13 @@ IsSpellableEvent (Issued pass cited proof grant) = IsSpellableIssued cited proof
 IsSpellableEvent (Acted pass caller op procaps moment) = IsSpellableActed caller op procaps moment
 IsSpellableEvent (Withdrawn pass number signature) = IsSpellableWithdrawn number signature
 
--- what is counted fits its field, and the moment lies in the range of moments; the rest of what a spelling asks for always holds
+-- what is counted fits its field, and the moment lies in the range of moments; the rest of what a
+-- spelling asks for always holds
 abbrev pub HasFittingFields : Event → Type 0
 HasFittingFields (Registered pass statement signature) = FitsFourBytes signature
 HasFittingFields (Issued pass cited proof grant) = length cited ≤ 255
-HasFittingFields (Acted pass caller op procaps moment) = HasFittingWords op × ((length procaps ≤ 255) × IsMoment moment)
+HasFittingFields (Acted pass caller op procaps moment) = HasFittingWords op ×
+    ((length procaps ≤ 255) × IsMoment moment)
 HasFittingFields (Withdrawn pass number signature) = FitsFourBytes signature
 
 -- an event that is read: it has a spelling, and pass 0

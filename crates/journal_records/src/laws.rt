@@ -17,7 +17,9 @@ pub fn events_are_a_codec()
 /// pass; no spelling begins another one, and events with one spelling differ in their passes alone.
 pub fn passes_are_not_written()
     ensures same { (e : Event) → event_spelling (erase e) ≡ event_spelling e }
-    ensures again { (e : Event) → IsSpellableEvent e → whole_event (event_spelling e) ≡ Ok (erase e) }
+    ensures again { (e : Event) → IsSpellableEvent e
+        → whole_event (event_spelling e) ≡ Ok (erase e) }
     ensures apart { (e d : Event) (rest others : List ℕ) → IsSpellableEvent e → IsSpellableEvent d
-        → event_spelling e ++ rest ≡ event_spelling d ++ others → (erase e ≡ erase d) × (rest ≡ others) }
+        → event_spelling e ++ rest ≡ event_spelling d ++ others → (erase e ≡ erase d)
+        × (rest ≡ others) }
 {}

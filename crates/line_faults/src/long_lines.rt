@@ -4,10 +4,8 @@ ghost use Rattle.std.specs.Prelude.{◌↔◌, IsTrue};
 ghost use Rattle.line_text.specs.Lines.{lines_of};
 ghost use Rattle.line_faults.specs.LongLines.{HasLongLine};
 
+use bl_syntax::limits::LONGEST_LINE;
 use line_text::first_line;
-
-/// The longest line.
-const LONGEST_LINE: usize = 262_144;
 
 /// Whether a line of the input is too long.
 pub fn has_long_line(input: &[u8]) -> bool

@@ -55,7 +55,8 @@ first_found None other = other
 abbrev pub operation_named : List ℕ → Option Operation
 operation_named word = first_found (tree_operation_named word) (attribute_operation_named word)
 
--- the kinds of the words after an operation's name: those of its arguments, and a procap for each place of its needs
+-- the kinds of the words after an operation's name: those of its arguments, and a procap for each
+-- place of its needs
 abbrev pub kinds_of_operation : Operation → List WordKind
 kinds_of_operation Read = kinds.Node ∷ kinds.Offset ∷ kinds.Most ∷ kinds.Procap ∷ []
 kinds_of_operation Write = kinds.Node ∷ kinds.Offset ∷ kinds.Data ∷ kinds.Procap ∷ []

@@ -1,4 +1,5 @@
--- The first words of a line, which name its form, and the number of the words after them (this project's own).
+-- The first words of a line, which name its form, and the number of the words after them (this
+-- project's own).
 use Rattle.std.specs.Prelude.{ℕ, ◌-◌, List, [], ◌∷◌, length, codes, Bool, true, false, Option, Some, None, Result, Ok, Err, if◌then◌else◌}
 use Rattle.std.specs.Str.{bytes_eq}
 use Rattle.line_words.specs.Cutting.{first_cut}
@@ -17,7 +18,8 @@ use Rattle.line_forms.specs.declared.mode.Mode.TheVariants.{Operator, Guest, Use
 abbrev pub Head : Type 0
 Head = Form × List ℕ
 
--- the operation that this word names, in a line of that length of which the second word and all after it are left
+-- the operation that this word names, in a line of that length of which the second word and all
+-- after it are left
 abbrev pub by_operation : ℕ → List ℕ → Option Operation → Result Head LineFault
 by_operation whole line None = Err (BadWord (whole - length line))
 by_operation whole line (Some operation) = Ok (Do operation, (first_cut line).behind)
@@ -53,7 +55,8 @@ may_end true (Some (space ∷ others)) = true
 may_end false (Some []) = true
 may_end false (Some (space ∷ others)) = false
 
--- whether the number of words is right, of which these stand after the name of the form; a text counts as one word
+-- whether the number of words is right, of which these stand after the name of the form; a text
+-- counts as one word
 abbrev pub is_counted : Form → List ℕ → Bool
 is_counted form behind = may_end (has_text form) (after_words (kinds_of form) behind)
 

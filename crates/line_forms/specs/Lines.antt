@@ -30,15 +30,20 @@ abbrev pub IsAsked : Form → Arguments → List ℕ → Line → Type 0
 IsAsked At a text asked = asked ≡ lines.Command (commands.At a.second)
 IsAsked As a text asked = asked ≡ lines.Command (commands.As a.who)
 IsAsked Login a text asked = asked ≡ lines.Login a.who (unwrap_or a.signature [])
-IsAsked Register a text asked = (statement : StatementView) × IsStatementText text statement × (asked ≡ lines.Command (commands.Register a.signature statement))
+IsAsked Register a text asked = (statement : StatementView) × IsStatementText text statement ×
+    (asked ≡ lines.Command (commands.Register a.signature statement))
 IsAsked Withdraw a text asked = asked ≡ lines.Command (commands.Withdraw a.number a.signature)
 IsAsked Procap a text asked = asked ≡ lines.Command (commands.Procap a.issue)
 IsAsked Checkpoint a text asked = asked ≡ lines.Command commands.Checkpoint
-IsAsked Verify a text asked = (proof : ProofView) × IsProofText text proof × (asked ≡ lines.Command (commands.Verify (written_goal a) a.cited proof))
-IsAsked Check a text asked = (proof : ProofView) × IsProofText text proof × (asked ≡ lines.Command (commands.Check (written_goal a) a.cited proof))
+IsAsked Verify a text asked = (proof : ProofView) × IsProofText text proof ×
+    (asked ≡ lines.Command (commands.Verify (written_goal a) a.cited proof))
+IsAsked Check a text asked = (proof : ProofView) × IsProofText text proof ×
+    (asked ≡ lines.Command (commands.Check (written_goal a) a.cited proof))
 IsAsked (Do operation) a text asked = asked ≡ lines.Command (commands.Do (op_of operation a) a.procaps)
-IsAsked Statement a text asked = (statement : StatementView) × IsStatementText text statement × (asked ≡ lines.Statement statement)
-IsAsked Goal a text asked = (proof : ProofView) × IsProofText text proof × (asked ≡ lines.Goal (written_goal a) proof)
+IsAsked Statement a text asked = (statement : StatementView) × IsStatementText text statement ×
+    (asked ≡ lines.Statement statement)
+IsAsked Goal a text asked = (proof : ProofView) × IsProofText text proof ×
+    (asked ≡ lines.Goal (written_goal a) proof)
 
 -- the text, which is none of what a line of the form has there, has this first fault
 abbrev pub HasTextFault : Form → List ℕ → TextFault → Type 0
@@ -59,7 +64,8 @@ HasTextFault Goal text fault = ProofTextFault text fault
 abbrev pub kinds_said : Mode → Form → List WordKind
 kinds_said mode form = kinds_in (is_session mode) (kinds_of form)
 
--- the line is of that form, and its words, of which there are as many as the form has, write these arguments; then comes the rest
+-- the line is of that form, and its words, of which there are as many as the form has, write these
+-- arguments; then comes the rest
 pub record HasWords (mode : Mode) (line : List ℕ) (form : Form) (arguments : Arguments) (rest : List ℕ) : Type 0 where
   pub behind : List ℕ
   pub head_is : head_in mode line ≡ Ok (form, behind)
@@ -74,14 +80,20 @@ pub record IsLineIn (mode : Mode) (line : List ℕ) (asked_for : Line) : Type 0 
   pub has_words : HasWords mode line form arguments rest
   pub asked : IsAsked form arguments (text_of rest) asked_for
 
--- the first fault of the line in the mode: the form is unknown, the number of words is wrong, a word is not of its kind, or the text is faulty
+-- the first fault of the line in the mode: the form is unknown, the number of words is wrong, a
+-- word is not of its kind, or the text is faulty
 pub data IsLineFaultIn (mode : Mode) (line : List ℕ) : LineFault → Type 0 where
   of_head : (fault : LineFault) → head_in mode line ≡ Err fault → IsLineFaultIn mode line fault
-  of_count : (form : Form) (behind : List ℕ) → head_in mode line ≡ Ok (form, behind) → is_counted form behind ≡ false → IsLineFaultIn mode line BadCount
-  of_word : (form : Form) (behind : List ℕ) (place : ℕ) → head_in mode line ≡ Ok (form, behind) → IsTrue (is_counted form behind) →
-      IsBadWord (length line) (kinds_said mode form) behind place → IsLineFaultIn mode line (BadWord place)
-  of_text : (form : Form) (arguments : Arguments) (rest : List ℕ) (fault : TextFault) → HasWords mode line form arguments rest →
-      HasTextFault form (text_of rest) fault → fault ≢ texts.NoMemory → IsLineFaultIn mode line (BadText fault)
+  of_count : (form : Form) (behind : List ℕ) → head_in mode line ≡ Ok (form, behind) →
+      is_counted form behind ≡ false → IsLineFaultIn mode line BadCount
+  of_word : (form : Form) (behind : List ℕ) (place : ℕ) → head_in mode line ≡ Ok (form, behind) →
+      IsTrue (is_counted form behind) →
+      IsBadWord (length line) (kinds_said mode form) behind place →
+      IsLineFaultIn mode line (BadWord place)
+  of_text : (form : Form) (arguments : Arguments) (rest : List ℕ) (fault : TextFault) →
+      HasWords mode line form arguments rest →
+      HasTextFault form (text_of rest) fault → fault ≢ texts.NoMemory →
+      IsLineFaultIn mode line (BadText fault)
 
 -- the line has this fault in the mode, or there was no memory to read it
 abbrev pub IsUnreadIn : Mode → List ℕ → LineFault → Type 0

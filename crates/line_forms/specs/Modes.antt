@@ -26,7 +26,8 @@ modes_of Goal = record { operator = false; session = false; of_admin_alone = fal
 abbrev pub is_admin : List ℕ → Bool
 is_admin who = bytes_eq who (codes "admin")
 
--- whether the mode is one of these: to somebody who is logged in, a form of `admin` alone is known only as `admin`
+-- whether the mode is one of these: to somebody who is logged in, a form of `admin` alone is known
+-- only as `admin`
 abbrev pub is_in : Mode → Modes → Bool
 is_in Operator modes = modes.operator
 is_in Guest modes = modes.session

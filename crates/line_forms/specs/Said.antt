@@ -1,4 +1,5 @@
--- What a line may ask for: what is known of what it brings, and in which modes it is said (this project's own).
+-- What a line may ask for: what is known of what it brings, and in which modes it is said (this
+-- project's own).
 use Rattle.std.specs.Prelude.{◌≡◌, ◌≤◌, ℕ, List, length, IsSome, IsTrue}
 use Rattle.std.specs.List.{AllByRecursion}
 use Rattle.bl_syntax.specs.declared.limits.TheConstants.{MOST_BYTES_AT_ONCE, LONGEST_SIGNATURE}
@@ -41,7 +42,8 @@ IsWithin (Do op procaps) = IsOperationAsked op procaps
 -- what is known of what a line brings
 abbrev pub IsLineWithin : Line → Type 0
 IsLineWithin (lines.Command command) = IsWithin command
-IsLineWithin (lines.Login who signature) = IsTrue (is_principal_name who) × (length signature ≤ LONGEST_SIGNATURE)
+IsLineWithin (lines.Login who signature) = IsTrue (is_principal_name who) ×
+    (length signature ≤ LONGEST_SIGNATURE)
 IsLineWithin (lines.Statement statement) = IsStatement statement
 IsLineWithin (lines.Goal goal proof) = HasTimesInRange proof
 

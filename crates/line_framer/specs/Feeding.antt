@@ -17,10 +17,13 @@ pub record IsFed (before : FramerState) (piece : List ℕ) (after : FramerState)
   pub short : AreShort (before.left ++ piece)
   pub after_is : after ≡ record { left = before.left ++ piece; is_long = false }
 
--- a line is too long: since an earlier piece, or with this one, and then the lines before it are left
+-- a line is too long: since an earlier piece, or with this one, and then the lines before it are
+-- left
 pub data IsTooLong (before : FramerState) (piece : List ℕ) : FramerState → Type 0 where
   already : before.is_long ≡ true → IsTooLong before piece before
-  with_piece : (lines : List (List ℕ)) → before.is_long ≡ false → HasLong (before.left ++ piece) lines → IsTooLong before piece (record { left = ended lines; is_long = true })
+  with_piece : (lines : List (List ℕ)) → before.is_long ≡ false →
+      HasLong (before.left ++ piece) lines →
+      IsTooLong before piece (record { left = ended lines; is_long = true })
 
 -- why the piece was not taken
 abbrev pub IsNotFed : FramerState → List ℕ → FeedFault → FramerState → Type 0

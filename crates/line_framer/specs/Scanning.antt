@@ -24,5 +24,7 @@ pub record IsLong (last piece : List ℕ) (whole : ℕ) : Type 0 where
 
 -- the piece after an open line with this many bytes
 abbrev pub IsScanned : ℕ → List ℕ → Scanned → Type 0
-IsScanned count piece (Short now) = (last : List ℕ) → length last ≡ count → IsLine last → IsOpen (last ++ piece) now
-IsScanned count piece (Long whole) = (last : List ℕ) → length last ≡ count → IsLine last → IsLong last piece whole
+IsScanned count piece (Short now) = (last : List ℕ) → length last ≡ count → IsLine last →
+    IsOpen (last ++ piece) now
+IsScanned count piece (Long whole) = (last : List ℕ) → length last ≡ count → IsLine last →
+    IsLong last piece whole

@@ -116,7 +116,8 @@ impl Framer {
 
     /// Takes the next line that has its end, and does nothing if there is none.
     pub fn take_line(&mut self)
-        ensures taken { (line rest : List ℕ) → IsFirst self.old.left line rest → self.new ≡ record self.old { left = rest } }
+        ensures taken { (line rest : List ℕ) → IsFirst self.old.left line rest →
+            self.new ≡ record self.old { left = rest } }
         ensures none { HasNo 10 self.old.left → self.new ≡ self.old }
     {
         if let Some(end) = end_of_line(self.queue.as_slice()) {

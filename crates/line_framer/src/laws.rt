@@ -8,7 +8,8 @@ ghost use Rattle.line_framer.specs.Framing.{ended, IsFirst};
 
 /// The line that a text begins with is the first of its lines, and the others are those of the rest.
 pub fn first_line_is_first()
-    ensures { (bytes line rest : List ℕ) → IsFirst bytes line rest → lines_of bytes ≡ line ∷ lines_of rest }
+    ensures { (bytes line rest : List ℕ) → IsFirst bytes line rest →
+        lines_of bytes ≡ line ∷ lines_of rest }
 {}
 
 /// A text without an end of a line is one line, if it is not empty.
@@ -18,10 +19,12 @@ pub fn last_line_is_last()
 
 /// The lines of what was taken, line by line, and of what is left are the lines of both together.
 pub fn lines_of_both()
-    ensures { (lines : List (List ℕ)) (left : List ℕ) → AllByRecursion (HasNo 10) lines → lines_of (ended lines ++ left) ≡ lines ++ lines_of left }
+    ensures { (lines : List (List ℕ)) (left : List ℕ) → AllByRecursion (HasNo 10) lines →
+        lines_of (ended lines ++ left) ≡ lines ++ lines_of left }
 {}
 
 /// What was taken, with one line more, and what is left then are the same bytes.
 pub fn one_line_more()
-    ensures { (lines : List (List ℕ)) (left line rest : List ℕ) → IsFirst left line rest → ended lines ++ left ≡ ended (lines ++ line ∷ []) ++ rest }
+    ensures { (lines : List (List ℕ)) (left line rest : List ℕ) → IsFirst left line rest →
+        ended lines ++ left ≡ ended (lines ++ line ∷ []) ++ rest }
 {}

@@ -5,8 +5,7 @@ ghost use Rattle.line_text.specs.Words.{HasNo};
 ghost use Rattle.line_framer.specs.Framing.{IsFirst};
 ghost use Rattle.line_framer.specs.Scanning.{IsScanned};
 
-/// The most bytes that a line has, without its end.
-pub const MOST_BYTES: usize = 262_144;
+use bl_syntax::limits::LONGEST_LINE;
 
 fn first_end(bytes: &[u8]) -> Option<usize>
     ensures { result ≡ position (λ byte. byte == 10) bytes.now }
@@ -38,13 +37,13 @@ pub fn scan(last_len: usize, piece: &[u8]) -> Scanned
     let mut last_len = last_len;
     let mut rest = piece;
     'lines: while let Some(end) = end_of_line(rest) {
-        if MOST_BYTES - last_len < end {
+        if LONGEST_LINE - last_len < end {
             return Scanned::Long(piece.len() - rest.len());
         }
         last_len = 0;
         rest = &rest[end + 1..];
     }
-    if MOST_BYTES - last_len < rest.len() {
+    if LONGEST_LINE - last_len < rest.len() {
         Scanned::Long(piece.len() - rest.len())
     } else {
         Scanned::Short(last_len + rest.len())

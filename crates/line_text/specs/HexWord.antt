@@ -1,4 +1,5 @@
--- Words of hexadecimal: two lower-case digits for each byte, the high four bits first. The word for no bytes is this project's own.
+-- Words of hexadecimal: two lower-case digits for each byte, the high four bits first. The word for
+-- no bytes is this project's own.
 use Rattle.std.specs.Prelude.{◌≡◌, ℕ, List, [], ◌∷◌, codes, Bool, not, nat_le, ◌&&◌}
 use Rattle.std.specs.List.{list_all}
 use Rattle.hex.specs.Hex.{IsBytes, encode_lower}

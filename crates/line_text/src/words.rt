@@ -27,7 +27,8 @@ pub fn rest_after<'a>(line: &'a [u8], literal: &[u8]) -> Option<&'a [u8]>
 pub fn split_word(line: &[u8], stop: u8) -> (&[u8], &[u8])
     ensures parts { line.now ≡ result.0.now ++ result.1.now }
     ensures one_word { HasNo stop result.0.now }
-    ensures only { (word behind : List ℕ) → HasNo stop word → IsTrue (is_word_end stop behind) → line.now ≡ word ++ behind
+    ensures only { (word behind : List ℕ) → HasNo stop word → IsTrue (is_word_end stop behind)
+        → line.now ≡ word ++ behind
         → (result.0.now ≡ word) × (result.1.now ≡ behind) }
 {
     line.split_at(word_len(line, stop))

@@ -14,4 +14,7 @@ abbrev pub conditions_of : GrantView → List (List ℕ)
 conditions_of g = map (constraint_text 0) g.times ++ map (state_text 0) g.states
 
 abbrev pub checked_text : GrantView → List ℕ
-checked_text g = codes "ok checked time " ++ (decimal (length g.times) ++ (codes " state " ++ (decimal (length g.states) ++ listed_text (codes " ") (conditions_of g))))
+checked_text g = codes "ok checked time "
+    ++ (decimal (length g.times)
+    ++ (codes " state " ++ (decimal (length g.states)
+    ++ listed_text (codes " ") (conditions_of g))))

@@ -1,4 +1,5 @@
--- The texts of faults of proofs and of lines: the number of the fault, and the node or the byte that has it, from 0 (this project's own).
+-- The texts of faults of proofs and of lines: the number of the fault, and the node or the byte
+-- that has it, from 0 (this project's own).
 use Rattle.std.specs.Prelude.{ℕ, List, ◌++◌, codes}
 use Rattle.std.specs.Fmt.{decimal}
 use Rattle.bl_tokens.specs.declared.faults.TextFault.{TextFault}
@@ -32,7 +33,8 @@ bad_text_text (texts.Sort at) = placed_text (codes "bad 4 ") 4 at
 bad_text_text (texts.TooLarge at) = placed_text (codes "bad 4 ") 5 at
 bad_text_text texts.NoMemory = codes "nomemory"
 
--- a bad word by its place, then a wrong number of words, then a bad text by its own fault; out of memory is no fault of the line
+-- a bad word by its place, then a wrong number of words, then a bad text by its own fault; out of
+-- memory is no fault of the line
 abbrev pub fault_text : LineFault → List ℕ
 fault_text (BadWord place) = codes "bad 1 " ++ decimal place
 fault_text BadCount = codes "bad 2"

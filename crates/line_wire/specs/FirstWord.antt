@@ -1,4 +1,5 @@
--- The word that each reply begins with, by which a client tells apart what was done, denied, refused and faulty (this project's own).
+-- The word that each reply begins with, by which a client tells apart what was done, denied,
+-- refused and faulty (this project's own).
 use Rattle.std.specs.Prelude.{ℕ, List, codes}
 use Rattle.bl_tokens.specs.declared.faults.TextFault.{TextFault}
 use Rattle.bl_tokens.specs.declared.faults.TextFault.TheVariants as texts

@@ -1,4 +1,5 @@
--- The texts of what the gate denies, refuses and rejects; the numbers of refusals and rejections (this project's own).
+-- The texts of what the gate denies, refuses and rejects; the numbers of refusals and rejections
+-- (this project's own).
 use Rattle.std.specs.Prelude.{ℕ, List, ◌++◌, codes}
 use Rattle.std.specs.Fmt.{decimal}
 use Rattle.bl_text.specs.Printed.{constraint_text, state_text}

@@ -13,9 +13,12 @@ use Rattle.line_wire.specs.declared.reply.LineReply.TheVariants as replies
 
 -- its fault comes first; then it logs in, or is rejected. Memory may run out instead
 pub data IsGuestLine (line : List ℕ) : GuestLine → Type 0 where
-  is_faulty : (fault : LineFault) → IsLineFaultIn Guest line fault → IsGuestLine line (Answered (replies.Faulty fault))
-  logs_in : (who signature : List ℕ) → IsLineIn Guest line (lines.Login who signature) → IsGuestLine line (Login who signature)
-  is_rejected : (command : Command) → IsLineIn Guest line (lines.Command command) → IsGuestLine line (Answered replies.NotLoggedIn)
+  is_faulty : (fault : LineFault) → IsLineFaultIn Guest line fault →
+      IsGuestLine line (Answered (replies.Faulty fault))
+  logs_in : (who signature : List ℕ) → IsLineIn Guest line (lines.Login who signature) →
+      IsGuestLine line (Login who signature)
+  is_rejected : (command : Command) → IsLineIn Guest line (lines.Command command) →
+      IsGuestLine line (Answered replies.NotLoggedIn)
   without_memory : IsGuestLine line (Answered replies.NoMemory)
 
 -- what becomes of a line that is not read: its fault is reported, or that memory ran out

@@ -41,11 +41,13 @@ IsUnbrokenConstraint c = IsUnbrokenTerm c.low × IsUnbrokenTerm c.high
 
 abbrev pub IsUnbrokenState : StatePred → Type 0
 IsUnbrokenState (Owner file owner) = IsUnbrokenTerm file × IsUnbrokenTerm owner
-IsUnbrokenState (HasXattr file name value) = IsUnbrokenTerm file × IsUnbrokenTerm name × IsUnbrokenTerm value
+IsUnbrokenState (HasXattr file name value) = IsUnbrokenTerm file × IsUnbrokenTerm name ×
+    IsUnbrokenTerm value
 IsUnbrokenState (InDir file directory) = IsUnbrokenTerm file × IsUnbrokenTerm directory
 
 abbrev pub IsUnbrokenGrant : GrantView → Type 0
-IsUnbrokenGrant g = AllByRecursion IsUnbrokenConstraint g.times × AllByRecursion IsUnbrokenState g.states
+IsUnbrokenGrant g = AllByRecursion IsUnbrokenConstraint g.times ×
+    AllByRecursion IsUnbrokenState g.states
 
 abbrev pub IsUnbrokenCause : DenialCause → Type 0
 IsUnbrokenCause causes.Seal = Unit {0}

@@ -22,5 +22,6 @@ pub fn reply_is_one_line()
 
 /// The lines of what is written are the replies, if each is one line.
 pub fn lines_are_replies()
-    ensures { (replies : List LineReply) → AllByRecursion IsUnbrokenReply replies → lines_of (output_of replies) ≡ map reply_text replies }
+    ensures { (replies : List LineReply) → AllByRecursion IsUnbrokenReply replies →
+        lines_of (output_of replies) ≡ map reply_text replies }
 {}

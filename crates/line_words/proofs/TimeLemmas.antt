@@ -1,5 +1,5 @@
 -- The text of a point in time is read as that point, and a point that was read is in range.
-use Rattle.std.proofs.Common.{◌≡◌, ℕ, ◌+◌, List, [], ◌++◌, length, Result, Ok, Err, refl, sym, ap, subst, ◌∙◌, append-nil, arith}
+use Rattle.std.proofs.Common.{◌≡◌, ℕ, ◌+◌, List, [], length, Result, Ok, Err, refl, sym, ap, subst, ◌∙◌, append-nil, arith}
 use Rattle.std.specs.Prelude.{drop}
 use Rattle.std.proofs.Math.Seq.{drop-append_seam}
 use Rattle.bl_syntax.specs.declared.terms.Term.TheVariants.{Prin, File, Perm, Time, Text, Ctime, Param, Bound}
@@ -14,7 +14,7 @@ use Rattle.bl_tokens.specs.Tokens.{sized_lexeme, first_lexeme, token_from}
 use Rattle.bl_tokens.specs.Times.{time_at, at_end, up_to_end, from_first, time_reading}
 use Rattle.bl_text.specs.Printed.{time_text}
 use Rattle.bl_text.proofs.LexedLemmas.{IsLexed, token_lexed}
-use Rattle.bl_text.proofs.PlaceLemmas.{Stands, here_at, token_stands}
+use Rattle.bl_text.proofs.PlaceLemmas.{here_at, token_stands}
 use Rattle.bl_text.proofs.PrintedTerms.{term_lexed}
 
 abbrev pub read : TimePoint → Result TimePoint TextFault

@@ -10,10 +10,10 @@ use Rattle.line_words.specs.Reading.{AreWords, IsBadWord, missing, outside, late
 use Rattle.line_words.proofs.DecisionLemmas.{number_decided, file_decided, issue_decided, second_decided, name_decided, principal_decided, quoted_decided, permission_decided, data_decided, signature_hex_decided, signed_decided, cited_decided, procap_hex_decided, procap_decided}
 
 -- the word sets the field, or it is of no such kind
-abbrev IsTold : WordKind → List ℕ → Arguments → Type 0
-IsTold kind word before = ((after : Arguments) × Sets kind word before after) ⊎ IsOutside kind word
+abbrev IsSetOrOutside : WordKind → List ℕ → Arguments → Type 0
+IsSetOrOutside kind word before = ((after : Arguments) × Sets kind word before after) ⊎ IsOutside kind word
 
-pub set_or_outside : (kind : WordKind) (word : List ℕ) (before : Arguments) → IsTold kind word before
+pub set_or_outside : (kind : WordKind) (word : List ℕ) (before : Arguments) → IsSetOrOutside kind word before
 set_or_outside Node word before = elim (file_decided word) [ inl one ↦ inl (record before { node = one.0 }, (one.1, refl)) | inr none ↦ inr (λ b a h. none a.node h.0) ]
 set_or_outside Target word before = elim (file_decided word) [ inl one ↦ inl (record before { target = one.0 }, (one.1, refl)) | inr none ↦ inr (λ b a h. none a.target h.0) ]
 set_or_outside Name word before = elim (name_decided word) [ inl one ↦ inl (record before { name = one.0 }, (one.1, refl)) | inr none ↦ inr (λ b a h. none a.name h.0) ]

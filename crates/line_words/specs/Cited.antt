@@ -6,7 +6,8 @@ use Rattle.line_words.specs.Numbers.{IsNumber}
 -- numbers with commas between them
 pub data AreJoined : List ℕ → List ℕ → Type 0 where
   one_number : (word : List ℕ) (number : ℕ) → IsNumber word number → AreJoined word (number ∷ [])
-  more_numbers : (word others : List ℕ) (number : ℕ) (numbers : List ℕ) → IsNumber word number → AreJoined others numbers → AreJoined (word ++ 44 ∷ others) (number ∷ numbers)
+  more_numbers : (word others : List ℕ) (number : ℕ) (numbers : List ℕ) → IsNumber word number →
+      AreJoined others numbers → AreJoined (word ++ 44 ∷ others) (number ∷ numbers)
 
 -- the numbers of statements that may be cited together
 pub record IsCited (word : List ℕ) (numbers : List ℕ) : Type 0 where

@@ -1,4 +1,5 @@
--- The words of a line (this project's own): a space ends a word, but not between quotes. A word that begins with a quote reaches to the next quote, and on to the next space.
+-- The words of a line (this project's own): a space ends a word, but not between quotes. A word
+-- that begins with a quote reaches to the next quote, and on to the next space.
 use Rattle.std.specs.Prelude.{ℕ, List, [], ◌∷◌, Bool, false, ◌==◌, if◌then◌else◌}
 
 -- where in a word a byte stands: first in it, between quotes, or elsewhere
@@ -31,7 +32,11 @@ with_byte byte cut = record { word = byte ∷ cut.word; behind = cut.behind }
 -- the rest of a word, from that position on, and what stands after it
 abbrev pub cut_from : Position → List ℕ → Cut
 cut_from position [] = record { word = []; behind = [] }
-cut_from position (byte ∷ bytes) = if ends position byte then record { word = []; behind = byte ∷ bytes } else with_byte byte (cut_from (next position byte) bytes)
+cut_from position (byte ∷ bytes) = if ends position byte then record {
+  word = [];
+  behind = byte
+      ∷ bytes;
+} else with_byte byte (cut_from (next position byte) bytes)
 
 -- the first word of a line
 abbrev pub first_cut : List ℕ → Cut

@@ -11,7 +11,8 @@ use Rattle.line_text.specs.HexWord.{IsHex}
 abbrev pub is_word_byte : ℕ → Bool
 is_word_byte byte = nat_le 33 byte && nat_le byte 126
 
--- whether the word can stand for the name of a node or of an attribute: 1 to 255 visible bytes, the first of them no quote. It need be no name that a node can have
+-- whether the word can stand for the name of a node or of an attribute: 1 to 255 visible bytes, the
+-- first of them no quote. It need be no name that a node can have
 abbrev pub is_name_word : List ℕ → Bool
 is_name_word [] = false
 is_name_word (first ∷ others) = not (first == 34) && list_all is_word_byte (first ∷ others) && nat_le (length others) 254

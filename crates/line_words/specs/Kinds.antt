@@ -36,30 +36,47 @@ blank = record {
 -- the word is of the kind, and what it writes goes to the kind's own field
 abbrev pub Sets : WordKind → List ℕ → Arguments → Arguments → Type 0
 Sets Node word before after = IsFile word after.node × (after ≡ record before { node = after.node })
-Sets Target word before after = IsFile word after.target × (after ≡ record before { target = after.target })
+Sets Target word before after = IsFile word after.target ×
+    (after ≡ record before { target = after.target })
 Sets Name word before after = IsName word after.name × (after ≡ record before { name = after.name })
-Sets NewName word before after = IsName word after.new_name × (after ≡ record before { new_name = after.new_name })
-Sets Offset word before after = IsLongNumber word after.offset × (after ≡ record before { offset = after.offset })
-Sets Len word before after = IsLongNumber word after.len × (after ≡ record before { len = after.len })
+Sets NewName word before after = IsName word after.new_name ×
+    (after ≡ record before { new_name = after.new_name })
+Sets Offset word before after = IsLongNumber word after.offset ×
+    (after ≡ record before { offset = after.offset })
+Sets Len word before after = IsLongNumber word after.len ×
+    (after ≡ record before { len = after.len })
 Sets Most word before after = IsCount word after.len × (after ≡ record before { len = after.len })
-Sets Data word before after = IsData word after.bytes × (after ≡ record before { bytes = after.bytes })
-Sets Value word before after = IsQuoted word after.value × (after ≡ record before { value = after.value })
-Sets Who word before after = IsPrincipal word after.who × (after ≡ record before { who = after.who })
-Sets Permission word before after = IsPermission word after.perm × (after ≡ record before { perm = after.perm })
-Sets Second word before after = IsSecond word after.second × (after ≡ record before { second = after.second })
-Sets Issue word before after = IsIssue word after.issue × (after ≡ record before { issue = after.issue })
-Sets Number word before after = IsNumber word after.number × (after ≡ record before { number = after.number })
-Sets Cited word before after = IsCited word after.cited × (after ≡ record before { cited = after.cited })
-Sets Signature word before after = IsSigned word after.signature × (after ≡ record before { signature = after.signature })
-Sets Procap word before after = (given : ProcapWord) × IsProcapWord word given × (after ≡ record before { procaps = before.procaps ++ given ∷ [] })
-Sets SignatureHex word before after = (bytes : List ℕ) × IsSignatureHex word bytes × (after ≡ record before { signature = Some bytes })
-Sets ProcapHex word before after = (p : Sealed) × IsProcapHex word p × (after ≡ record before { procaps = before.procaps ++ BySpelling p ∷ [] })
+Sets Data word before after = IsData word after.bytes ×
+    (after ≡ record before { bytes = after.bytes })
+Sets Value word before after = IsQuoted word after.value ×
+    (after ≡ record before { value = after.value })
+Sets Who word before after = IsPrincipal word after.who ×
+    (after ≡ record before { who = after.who })
+Sets Permission word before after = IsPermission word after.perm ×
+    (after ≡ record before { perm = after.perm })
+Sets Second word before after = IsSecond word after.second ×
+    (after ≡ record before { second = after.second })
+Sets Issue word before after = IsIssue word after.issue ×
+    (after ≡ record before { issue = after.issue })
+Sets Number word before after = IsNumber word after.number ×
+    (after ≡ record before { number = after.number })
+Sets Cited word before after = IsCited word after.cited ×
+    (after ≡ record before { cited = after.cited })
+Sets Signature word before after = IsSigned word after.signature ×
+    (after ≡ record before { signature = after.signature })
+Sets Procap word before after = (given : ProcapWord) × IsProcapWord word given ×
+    (after ≡ record before { procaps = before.procaps ++ given ∷ [] })
+Sets SignatureHex word before after = (bytes : List ℕ) × IsSignatureHex word bytes ×
+    (after ≡ record before { signature = Some bytes })
+Sets ProcapHex word before after = (p : Sealed) × IsProcapHex word p ×
+    (after ≡ record before { procaps = before.procaps ++ BySpelling p ∷ [] })
 
 -- the word is of no such kind
 abbrev pub IsOutside : WordKind → List ℕ → Type 0
 IsOutside kind word = (before after : Arguments) → Sets kind word before after → ⊥
 
--- the kind of a word in a line in which signatures and procaps have to be written out, or need not: then a signature is not left to the ring, nor a procap named by its issue
+-- the kind of a word in a line in which signatures and procaps have to be written out, or need not:
+-- then a signature is not left to the ring, nor a procap named by its issue
 abbrev pub kind_in : Bool → WordKind → WordKind
 kind_in out Node = Node
 kind_in out Target = Target

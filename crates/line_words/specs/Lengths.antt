@@ -6,7 +6,8 @@ use Rattle.std.specs.List.{position_or_len}
 abbrev pub place_of_byte : ℕ → List ℕ → ℕ
 place_of_byte stop line = position_or_len (λ byte. byte == stop) line
 
--- the place of the quote that ends the quoted part of the first word, or the length; 0 for a word that begins with no quote
+-- the place of the quote that ends the quoted part of the first word, or the length; 0 for a word
+-- that begins with no quote
 abbrev pub closing_place : List ℕ → ℕ
 closing_place [] = 0
 closing_place (first ∷ others) = if first == 34 then 1 + place_of_byte 34 others else 0

@@ -14,5 +14,6 @@ pub record IsProcapHex (word : List ℕ) (p : Procap) : Type 0 where
 
 -- for a procap: an `@` and the number of an issue, or the procap itself
 pub data IsProcapWord : List ℕ → ProcapWord → Type 0 where
-  by_number : (digits : List ℕ) (number : ℕ) → IsLongNumber digits number → IsProcapWord (64 ∷ digits) (Issue number)
+  by_number : (digits : List ℕ) (number : ℕ) → IsLongNumber digits number →
+      IsProcapWord (64 ∷ digits) (Issue number)
   by_spelling : (word : List ℕ) (p : Procap) → IsProcapHex word p → IsProcapWord word (BySpelling p)

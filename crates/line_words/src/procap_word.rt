@@ -26,7 +26,8 @@ pub type ProcapWords = Sequence<ProcapWord>;
 
 // The procap that has these bytes.
 fn procap_of(alloc: Global, bytes: &[u8]) -> Result<Option<Procap>, NoMemory>
-    ensures { IfOk result (λ r. MatchOption r ((p : Procap) → IsSpellableProcap p → bytes.now ≡ procap_spelling p → ⊥) (λ p. IsSpellableProcap p × (bytes.now ≡ procap_spelling p))) }
+    ensures { IfOk result (λ r. MatchOption r ((p : Procap) → IsSpellableProcap p → bytes.now
+        ≡ procap_spelling p → ⊥) (λ p. IsSpellableProcap p × (bytes.now ≡ procap_spelling p))) }
 {
     match read_procap(alloc, bytes) {
         Ok(p) => Ok(Some(p)),

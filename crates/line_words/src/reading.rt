@@ -38,7 +38,9 @@ pub fn read_words<'a>(
     arguments: &mut Arguments,
 ) -> Result<&'a [u8], WordFault>
     requires { length behind.now ≤ whole }
-    ensures { MatchResult result (λ rest. AreWords (kinds_in is_written_out kinds.now) behind.now arguments.old arguments.new rest.now) (AreUnread whole (kinds_in is_written_out kinds.now) behind.now) }
+    ensures { MatchResult result (λ rest. AreWords (kinds_in is_written_out kinds.now) behind.now
+        arguments.old arguments.new rest.now) (AreUnread whole (kinds_in is_written_out kinds.now)
+        behind.now) }
 {
     match kinds {
         [] => Ok(behind),

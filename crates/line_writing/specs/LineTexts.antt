@@ -26,7 +26,9 @@ value_text value rest = codes " \"" ++ (value ++ (codes "\"" ++ rest))
 -- the name of an operation and its words, before the rest of a line
 abbrev pub operation_text : Op → List ℕ → List ℕ
 operation_text (ops.Read node offset len) rest = codes "read #" ++ (decimal node.0 ++ (codes " " ++ (decimal offset ++ (codes " " ++ (decimal len ++ rest)))))
-operation_text (ops.Write node offset bytes) rest = codes "write #" ++ (decimal node.0 ++ (codes " " ++ (decimal offset ++ (codes " " ++ (hex_word bytes ++ rest)))))
+operation_text (ops.Write node offset bytes) rest = codes "write #"
+    ++ (decimal node.0 ++ (codes " "
+    ++ (decimal offset ++ (codes " " ++ (hex_word bytes ++ rest)))))
 operation_text (ops.Truncate node len) rest = codes "truncate #" ++ (decimal node.0 ++ (codes " " ++ (decimal len ++ rest)))
 operation_text (ops.List node) rest = codes "list #" ++ (decimal node.0 ++ rest)
 operation_text (ops.Lookup node name) rest = named_text (codes "lookup #") node name rest

@@ -8,5 +8,6 @@ ghost use Rattle.line_writing.specs.LineTexts.{asked_text};
 
 /// What is written of what a line asks for is a line that asks for the same in the same mode.
 pub fn line_round_trip()
-    ensures { (mode : Mode) (line : List ℕ) (asked : Line) → IsLineIn mode line asked → IsLineIn mode (asked_text asked) asked }
+    ensures { (mode : Mode) (line : List ℕ) (asked : Line) → IsLineIn mode line asked →
+        IsLineIn mode (asked_text asked) asked }
 {}

@@ -19,7 +19,8 @@ IsNewPass lock pass = (pass.lock ≡ lock) × (pass.own ≡ [])
 
 -- the pass is of this lock, and has counted, if there was memory
 abbrev pub HasCounted : TableId → ℕ → PassView ℕ × Bool → Type 0
-HasCounted lock count turned = (turned.0.lock ≡ lock) × (turned.1 ≡ true → turned.0.own ≡ count_so_far turned.0.number count)
+HasCounted lock count turned = (turned.0.lock ≡ lock) ×
+    (turned.1 ≡ true → turned.0.own ≡ count_so_far turned.0.number count)
 
 -- the passes that were taken in have counted
 abbrev pub HaveCounted : ℕ → List (Retired ℕ) → Type 0

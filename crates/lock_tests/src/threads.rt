@@ -55,7 +55,8 @@ fn retire_all(
 ) -> bool
     requires door { (door.old.lock ≡ lock.now) × (door.old.retired ≡ []) }
     requires turned { All (HasCounted lock.now count) turned.items }
-    ensures { result ≡ true → (door.new.lock ≡ lock.now) × (door.new.made ≡ door.old.made) × HaveCounted count door.new.retired × (length door.new.retired ≡ vec_len turned) }
+    ensures { result ≡ true →
+        (door.new.lock ≡ lock.now) × (door.new.made ≡ door.old.made) × HaveCounted count door.new.retired × (length door.new.retired ≡ vec_len turned) }
 {
     let _ = count;
     while let Some((pass, done)) = turned.pop() {
@@ -86,7 +87,8 @@ pub fn count_in_threads<R: Threads + Wait + Sync>(
         &|pass: Pass<Log>| -> (Pass<Log>, bool)
             requires { pass.lock ≡ shared.now }
             ensures pass { (result.0.lock ≡ pass.lock) × (result.0.number ≡ pass.number) }
-            ensures own { result.1 ≡ true → result.0.own ≡ pass.own ++ count_so_far pass.number count }
+            ensures own { result.1 ≡ true →
+                result.0.own ≡ pass.own ++ count_so_far pass.number count }
         { take_turns(rt, shared, pass, count) },
     )
     .ok()?;

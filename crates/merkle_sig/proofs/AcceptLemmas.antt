@@ -9,7 +9,7 @@ use Rattle.std.proofs.lemmas.Nat.{from_be_bytes-to_be_bytes_4, shr-shr}
 use Rattle.std.proofs.lemmas.Slice.Eq.{bytes_eq-Decides}
 use Rattle.merkle_sig.specs.HashTree.{leaf_over, node, parent, public_pair, public_pairs, public_value, root_of, secret}
 use Rattle.merkle_sig.specs.Laws.{RootAcceptsLeaves}
-use Rattle.merkle_sig.specs.Signature.{accepts_root, beside, bit_of, climb, digest_at, leaf_number, message_digest, over, pair_from, pairs_from, root_from, shown, shown_bits, shown_part, siblings, signature_length, signature_of, way_part}
+use Rattle.merkle_sig.specs.Signature.{accepts_root, beside, bit_of, climb, digest_at, leaf_number, message_digest, over, pair_from, pairs_from, shown, shown_bits, shown_part, siblings, signature_length, signature_of, way_part}
 use Rattle.merkle_sig.proofs.LengthLemmas.{digest_at-append, digest_at-next, length-node, length-public_value, length-secret, length-shown_bits, length-siblings, middle}
 use Rattle.merkle_sig.proofs.NodesLemmas.{beside-even, beside-odd}
 use Rattle.merkle_sig.proofs.StepLemmas.{above_none, decides_by_root, over-even, over-odd, reaches}

@@ -1,5 +1,5 @@
 -- The lengths of what is hashed and shown, and digests among others.
-use Rattle.std.proofs.Common.{◌≡◌, ℕ, zero, suc, ◌+◌, ◌-◌, ◌*◌, ◌/◌, ◌^◌, ◌<◌, ◌≤◌, List, ◌++◌, length, take, drop, refl, ap, ◌∙◌, arith, append_assoc, length-append}
+use Rattle.std.proofs.Common.{◌≡◌, ℕ, zero, suc, ◌+◌, ◌-◌, ◌*◌, ◌/◌, ◌^◌, ◌≤◌, List, ◌++◌, length, take, drop, refl, ap, ◌∙◌, arith, append_assoc, length-append}
 use Rattle.std.proofs.lemmas.List.{drop_at, drop-append-le, take_at, take-append-le, length-drop}
 use Rattle.sha2.proofs.Facts256.{length-sha256}
 use Rattle.merkle_sig.specs.HashTree.{leaf_over, node, parent, public_value, secret}

@@ -1,12 +1,12 @@
 -- Calls on a signer, and the leaves that they give.
-use Rattle.std.proofs.Common.{◌≡◌, ◌≢◌, ℕ, suc, ◌+◌, ◌^◌, ◌<◌, ◌≤◌, List, [], ◌∷◌, ◌++◌, length, get_or, Ok, Err, ◌⊎◌, inl, inr, refl, sym, ap, ap₂, subst, ◌∙◌, arith}
+use Rattle.std.proofs.Common.{◌≡◌, ◌≢◌, ℕ, suc, ◌+◌, ◌^◌, ◌<◌, ◌≤◌, List, [], ◌∷◌, length, get_or, Ok, Err, ◌⊎◌, inl, inr, refl, sym, ap₂, subst, arith}
 use Rattle.std.specs.List.{AllPairs, range_with_len}
 use Rattle.std.proofs.Math.Pow.{pow_mono}
 use Rattle.std.proofs.lemmas.Bool.{cases_lt}
 use Rattle.std.proofs.lemmas.List.FromFn.{get_or-range_with_len, length-range_with_len}
 use Rattle.merkle_sig.specs.Laws.{EachCallIsAnswered, IsSigner, LeavesRise, NoLeafTwice}
-use Rattle.merkle_sig.specs.Signature.{leaf_number, signature_of}
-use Rattle.merkle_sig.specs.Signer.{SignerView, Signing, Signs, signs, spent, without_memory, SignsAll, none, one_more, leaf_of, leaves_of}
+use Rattle.merkle_sig.specs.Signature.{signature_of}
+use Rattle.merkle_sig.specs.Signer.{SignerView, Signing, Signs, signs, spent, without_memory, SignsAll, none, one_more, leaves_of}
 use Rattle.merkle_sig.specs.declared.signer.SignFault.TheVariants.{Spent, NoMemory}
 use Rattle.merkle_sig.proofs.AcceptLemmas.{number_is}
 

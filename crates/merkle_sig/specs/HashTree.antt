@@ -1,5 +1,7 @@
--- A tree of hashes over leaves that sign once (Merkle's tree over Lamport's signatures of single bits), with SHA-256 as sha2 defines it for every length.
--- The bytes are this project's own: what is hashed begins with a byte that tells its kind, and numbers are big-endian. A seed, a message, a digest and a
+-- A tree of hashes over leaves that sign once (Merkle's tree over Lamport's signatures of single
+-- bits), with SHA-256 as sha2 defines it for every length.
+-- The bytes are this project's own: what is hashed begins with a byte that tells its kind, and
+-- numbers are big-endian. A seed, a message, a digest and a
 -- signature are lists of bytes.
 use Rattle.std.specs.Prelude.{ℕ, zero, suc, ◌+◌, ◌*◌, List, [], ◌∷◌, ◌++◌}
 use Rattle.std.specs.Int.{w16, w32, to_be_bytes}

@@ -1,4 +1,5 @@
--- Signatures by a leaf of a tree of hashes, and which of them a root accepts. A leaf shows the secret of each bit of the message's digest and the public
+-- Signatures by a leaf of a tree of hashes, and which of them a root accepts. A leaf shows the
+-- secret of each bit of the message's digest and the public
 -- value of the other one, and then the nodes beside its way to the root.
 use Rattle.std.specs.Prelude.{ℕ, zero, suc, ◌+◌, ◌-◌, ◌*◌, ◌/◌, ◌%◌, ◌^◌, List, [], ◌∷◌, ◌++◌, length, take, drop, slice_index, Bool, ◌&&◌, ◌==◌, nat_lt, if◌then◌else◌}
 use Rattle.std.specs.Int.{w32, to_be_bytes, from_be_bytes}
@@ -20,7 +21,8 @@ beside place = if place % 2 == 0 then place + 1 else place - 1
 
 -- ---- what a leaf signs
 
--- what is shown of a bit with a value: the secret of the value, and what is public of the other one's
+-- what is shown of a bit with a value: the secret of the value, and what is public of the other
+-- one's
 unfoldable pub shown : List ℕ → ℕ → ℕ → ℕ → List ℕ
 shown seed leaf bit value = secret seed leaf bit value ++ public_value (secret seed leaf bit (1 - value))
 
@@ -45,7 +47,8 @@ signature_of seed height leaf message =
 abbrev pub digest_at : List ℕ → ℕ → List ℕ
 digest_at digests place = take 32 (drop (32 * place) digests)
 
--- the public values of a bit, of the value 0 first, that are made of a secret of its value and of the public value of the other one
+-- the public values of a bit, of the value 0 first, that are made of a secret of its value and of
+-- the public value of the other one
 abbrev pub pair_from : ℕ → List ℕ → List ℕ → List ℕ
 pair_from value hidden other = if value == 0 then public_value hidden ++ other else other ++ public_value hidden
 

@@ -14,7 +14,8 @@ pub record SignerView : Type 0 where
 abbrev pub Signing : Type 0
 Signing = Result (List ℕ) SignFault
 
--- A call on a signer. It gives the signature of the message by the next leaf, which is spent from then on; without one the signer stays as it is.
+-- A call on a signer. It gives the signature of the message by the next leaf, which is spent from
+-- then on; without one the signer stays as it is.
 pub data Signs (s : SignerView) (message : List ℕ) : Signing → SignerView → Type 0 where
   signs : s.next < 2 ^ s.height → Signs s message (Ok (signature_of s.seed s.height s.next message)) (record s { next = s.next + 1 })
   spent : s.next ≡ 2 ^ s.height → Signs s message (Err Spent) s
@@ -24,7 +25,8 @@ pub data Signs (s : SignerView) (message : List ℕ) : Signing → SignerView �
 pub data SignsAll : SignerView → List (List ℕ × Signing) → SignerView → Type 0 where
   none : (s : SignerView) → SignsAll s [] s
   one_more : (s between after : SignerView) (message : List ℕ) (given : Signing) (others : List (List ℕ × Signing)) →
-      Signs s message given between → SignsAll between others after → SignsAll s ((message, given) ∷ others) after
+      Signs s message given between → SignsAll between others after →
+      SignsAll s ((message, given) ∷ others) after
 
 -- the leaf of a signature, if there is one
 abbrev pub leaf_of : Signing → List ℕ

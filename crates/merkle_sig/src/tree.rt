@@ -52,7 +52,8 @@ fn add_leaves(nodes: &mut [Hash], seed: &Hash, width: u32)
 fn add_parents(nodes: &mut [Hash], width: usize)
     requires { 2 * width ≤ length nodes.old }
     ensures parents { AreParents width 0 nodes.new }
-    ensures leaves { (n : ℕ) → width ≤ n → slice_index_or nodes.new n [] ≡ slice_index_or nodes.old n [] }
+    ensures leaves { (n : ℕ) → width ≤ n →
+        slice_index_or nodes.new n [] ≡ slice_index_or nodes.old n [] }
 {
     for step in 1..width {
         let place = width - step;

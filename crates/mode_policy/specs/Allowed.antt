@@ -1,4 +1,5 @@
--- What a table of modes allows: the digit of one class alone counts, that of the owner before that of the group before
+-- What a table of modes allows: the digit of one class alone counts, that of the owner before that
+-- of the group before
 -- that of the others (after the file access permissions of POSIX).
 use Rattle.std.specs.Prelude.{◌≡◌, ℕ, List, Contains, IsTrue, Bool, if◌then◌else◌, ◌&&◌}
 use Rattle.std.specs.List.{list_any}
@@ -15,13 +16,17 @@ use Rattle.mode_policy.specs.Table.{TableView}
 abbrev pub membership : List ℕ → List ℕ → Membership
 membership who group = record { who = who; group = group }
 
--- the class of a principal for a file: it owns the file; or it does not, and is a member of the file's group; or neither
+-- the class of a principal for a file: it owns the file; or it does not, and is a member of the
+-- file's group; or neither
 pub data IsOfClass (t : TableView) (f : FileModes) (who : List ℕ) : Class → Type 0 where
   as_owner : who ≡ f.owner → IsOfClass t f who Owner
-  as_member : (who ≡ f.owner → ⊥) → Contains t.members (membership who f.group) → IsOfClass t f who Group
-  as_other : (who ≡ f.owner → ⊥) → (Contains t.members (membership who f.group) → ⊥) → IsOfClass t f who Other
+  as_member : (who ≡ f.owner → ⊥) → Contains t.members (membership who f.group) →
+      IsOfClass t f who Group
+  as_other : (who ≡ f.owner → ⊥) → (Contains t.members (membership who f.group) → ⊥) →
+      IsOfClass t f who Other
 
--- the principal and the file are in the table, and the digit of the principal's class has the permission
+-- the principal and the file are in the table, and the digit of the principal's class has the
+-- permission
 pub record ModeAllows (t : TableView) (who : List ℕ) (node : NodeId) (permission : Permission) : Type 0 where
   pub known : Contains t.who who
   pub file : FileModes

@@ -72,7 +72,8 @@ AddUpTo t (line ∷ lines) after = (e : Entry) × Adds t line e × AddUpTo (with
 abbrev pub IsFirstAt : (TableView → List ℕ → Type 0) → TableView → List (List ℕ) → ℕ → Type 0
 IsFirstAt IsSo t [] place = ⊥
 IsFirstAt IsSo t (line ∷ lines) zero = IsSo t line
-IsFirstAt IsSo t (line ∷ lines) (suc place) = (e : Entry) × Adds t line e × IsFirstAt IsSo (with_entry t e) lines place
+IsFirstAt IsSo t (line ∷ lines) (suc place) = (e : Entry) × Adds t line e ×
+    IsFirstAt IsSo (with_entry t e) lines place
 
 -- the line of this number, from 1, is the first that adds nothing, and is so
 abbrev pub IsFirst : (TableView → List ℕ → Type 0) → List (List ℕ) → ℕ → Type 0

@@ -1,4 +1,5 @@
--- The modes of a file: an octal digit for each class of principals (after the modes of files in POSIX).
+-- The modes of a file: an octal digit for each class of principals (after the modes of files in
+-- POSIX).
 use Rattle.std.specs.Prelude.{◌/◌, ◌%◌, ℕ, List, [], ◌∷◌, codes, Bool, false, ◌==◌}
 use Rattle.std.specs.List.{filter}
 use Rattle.bl_syntax.specs.declared.terms.Perm.{Perm as Permission}
@@ -19,7 +20,8 @@ digit_of modes Owner = modes.owner
 digit_of modes Group = modes.group
 digit_of modes Other = modes.other
 
--- whether the digit has the bit of the permission: 4 is for reading, 2 for writing, 1 for executing. No digit lets anybody say who a file is or govern it
+-- whether the digit has the bit of the permission: 4 is for reading, 2 for writing, 1 for
+-- executing. No digit lets anybody say who a file is or govern it
 abbrev pub permits : ℕ → Permission → Bool
 permits digit Read = digit / 4 % 2 == 1
 permits digit Write = digit / 2 % 2 == 1

@@ -13,7 +13,8 @@ pub record IsPlaceOf {X : Type 0} (things : List X) (x : X) (place : ℕ) : Type
 
 -- the map has the places of these things, by this order, and of no others
 abbrev pub ArePlacesOf : {X : Type 0} → (X → X → Ordering) → List (X × ℕ) → List X → Type 0
-ArePlacesOf {X} cmp entries things = (x : X) → MatchOption (lookup (is_at (cmp x)) entries) (Contains things x → ⊥) (IsPlaceOf things x)
+ArePlacesOf {X} cmp entries things = (x : X) →
+    MatchOption (lookup (is_at (cmp x)) entries) (Contains things x → ⊥) (IsPlaceOf things x)
 
 -- the order of pairs of numbers
 abbrev pub pair_cmp : ℕ × ℕ → ℕ × ℕ → Ordering

@@ -23,7 +23,8 @@ use Rattle.mode_policy.specs.declared.proving.ModeProof.{ModeProof}
 abbrev pub goal_of : List ℕ → NodeId → Permission → Goal
 goal_of who node permission = record { who = who; file = node; perm = permission }
 
--- `admin` says it, since it claims the class of the principal and the rule for that class: the rule's instance at the
+-- `admin` says it, since it claims the class of the principal and the rule for that class: the
+-- rule's instance at the
 -- principal asks for the class and for the owner
 abbrev pub mode_proof : List ℕ → ProofView
 mode_proof who = says_r (claim 0 (claim 1 (forall_l 3 (Prin who) (imp_l 4 Ctime Ctime (and_r (init 2) inter_r) (init 5)))))
@@ -40,7 +41,8 @@ abbrev pub granted : List ℕ → NodeId → Permission → List ℕ → ℤ →
 granted who node permission owner from to =
     record (without_conditions (goal_of who node permission)) { times = not_before from ∷ not_after to ∷ []; states = is_owned node owner ∷ [] }
 
--- the table allows it; and the two statements of these numbers, whenever they begin and end, are there, and prove it by
+-- the table allows it; and the two statements of these numbers, whenever they begin and end, are
+-- there, and prove it by
 -- this proof while the file is its owner's
 pub record IsModeProof (t : TableView) (who : List ℕ) (node : NodeId) (permission : Permission) (p : ModeProof) : Type 0 where
   pub allows : ModeAllows t who node permission
@@ -48,14 +50,17 @@ pub record IsModeProof (t : TableView) (who : List ℕ) (node : NodeId) (permiss
   pub rising : p.class_number < p.rule_number
   pub within : p.rule_number ≤ length (said_of_all t t.files)
   pub few : length (said_of_all t t.files) ≤ 4096
-  pub proves : (from to : ℤ) (class_said rule_said : StatementView) → slice_get (statements_of t (At from) (At to)) (p.class_number - 1) ≡ Some class_said
+  pub proves : (from to : ℤ) (class_said rule_said : StatementView)
+      → slice_get (statements_of t (At from) (At to)) (p.class_number - 1) ≡ Some class_said
       → slice_get (statements_of t (At from) (At to)) (p.rule_number - 1) ≡ Some rule_said
       → verdict (class_said ∷ rule_said ∷ []) (goal_of who node permission) p.proof ≡ Ok (granted who node permission allows.file.owner from to)
 
--- the rule of the class for the permission, if the digit has it, stands at that place among those for the file
+-- the rule of the class for the permission, if the digit has it, stands at that place among those
+-- for the file
 abbrev pub StandsAt : FileModes → Class → Permission → ℕ → Type 0
 StandsAt f class permission place =
-    permits (digit_of f.modes class) permission ≡ true → slice_get (rules_of f) place ≡ Some (rule_said f.node f.owner class permission)
+    permits (digit_of f.modes class) permission ≡ true
+    → slice_get (rules_of f) place ≡ Some (rule_said f.node f.owner class permission)
 
 -- there are more statements than are given
 abbrev pub IsOver : TableView → Type 0

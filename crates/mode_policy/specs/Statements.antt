@@ -1,5 +1,7 @@
--- A table of modes as statements of `admin`: for each file the class of each principal, and then for each class and each
--- permission of its digit that who is of the class may have it while the file is its owner's (this project's own).
+-- A table of modes as statements of `admin`: for each file the class of each principal, and then
+-- for each class and each
+-- permission of its digit that who is of the class may have it while the file is its owner's (this
+-- project's own).
 use Rattle.std.specs.Prelude.{ℕ, List, [], ◌∷◌, ◌++◌, map, codes, Contains, if◌then◌else◌}
 use Rattle.bl_syntax.specs.declared.terms.NodeId.{NodeId}
 use Rattle.bl_syntax.specs.declared.terms.Perm.{Perm as Permission}
@@ -34,7 +36,8 @@ is_owned node owner = states.Owner (File node) (Prin owner)
 abbrev pub class_said : NodeId → List ℕ → Class → FormulaView
 class_said node who class = atom class_predicate (File node ∷ Prin who ∷ Text (class_name class) ∷ [])
 
--- that each principal of the class may have the permission on the file while the file is its owner's
+-- that each principal of the class may have the permission on the file while the file is its
+-- owner's
 abbrev pub rule_said : NodeId → List ℕ → Class → Permission → FormulaView
 rule_said node owner class permission = forall_ sorts.Principal (implies
     (both (atom class_predicate (File node ∷ Bound 0 ∷ Text (class_name class) ∷ [])) (state (is_owned node owner)))

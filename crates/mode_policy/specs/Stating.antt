@@ -8,8 +8,10 @@ use Rattle.mode_policy.specs.declared.fault.ModeFault.TheVariants.{BadLine, Twic
 use Rattle.mode_policy.specs.Statements.{stated, statements_of}
 use Rattle.mode_policy.specs.Table.{TableView}
 
--- these formulas are stated after the others; together they would be more than 4,096; or there was no memory
-abbrev pub Appends : TimePoint → TimePoint → List FormulaView → List StatementView → Result (Unit {0}) ModeFault → List StatementView → Type 0
+-- these formulas are stated after the others; together they would be more than 4,096; or there was
+-- no memory
+abbrev pub Appends : TimePoint → TimePoint → List FormulaView → List StatementView →
+    Result (Unit {0}) ModeFault → List StatementView → Type 0
 Appends from to said old (Ok u) new = new ≡ old ++ map (stated from to) said
 Appends from to said old (Err TooMany) new = 4096 < length old + length said
 Appends from to said old (Err NoMemory) new = Unit {0}
@@ -17,7 +19,8 @@ Appends from to said old (Err (BadLine number)) new = ⊥
 Appends from to said old (Err (Twice number)) new = ⊥
 
 -- the statements of the table are given; they would be more than 4,096; or there was no memory
-abbrev pub GivesStatements : TableView → TimePoint → TimePoint → Result (List StatementView) ModeFault → Type 0
+abbrev pub GivesStatements : TableView → TimePoint → TimePoint →
+    Result (List StatementView) ModeFault → Type 0
 GivesStatements t from to (Ok statements) = statements ≡ statements_of t from to
 GivesStatements t from to (Err TooMany) = 4096 < length (statements_of t from to)
 GivesStatements t from to (Err NoMemory) = Unit {0}

@@ -1,4 +1,5 @@
--- Tables of modes: the principals, their groups, and files with their owner, their group and their modes (after users,
+-- Tables of modes: the principals, their groups, and files with their owner, their group and their
+-- modes (after users,
 -- groups and modes in POSIX; the form is this project's own).
 use Rattle.std.specs.Prelude.{ℕ, List, [], ◌∷◌, ◌++◌, map, Contains}
 use Rattle.bl_syntax.specs.declared.terms.NodeId.{NodeId}

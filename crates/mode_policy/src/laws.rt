@@ -20,12 +20,14 @@ ghost use Rattle.mode_policy.specs.Table.{TableView};
 pub fn what_a_table_allows_is_derivable()
     ensures { (t : TableView) (from to : Point) (moment : ℤ) (facts : List Fact) (who : List ℕ) (node : Node) (permission : Permission)
         → IsUpTo from (At moment) → IsUpTo (At moment) to → AreOwned t facts
-        → ModeAllows t who node permission → Allows (statements_of t from to) facts moment who node permission }
+        → ModeAllows t who node permission
+        → Allows (statements_of t from to) facts moment who node permission }
 {}
 
 /// A principal has one class for a file, and it is the one that is computed.
 pub fn a_principal_has_one_class()
-    ensures { (t : TableView) (f : File) (who : List ℕ) (class : Class) → IsOfClass t f who class ↔ (class ≡ class_of t f who) }
+    ensures { (t : TableView) (f : File) (who : List ℕ) (class : Class)
+        → IsOfClass t f who class ↔ (class ≡ class_of t f who) }
 {}
 
 /// Lines are those of one table at most.

@@ -10,8 +10,8 @@ ghost use Rattle.mode_policy.specs.declared.entry.FileModes.{FileModes as File};
 
 use crate::entry::FileModes;
 use crate::modes::{Class, permits};
-use crate::statements::MOST_STATEMENTS;
 use crate::table::ModeTable;
+use bl_syntax::limits::MOST_STATEMENTS;
 use bl_syntax::{NoMemory, NodeId, Perm, Principal, Term};
 use proof_term::{Proof, ProofTree};
 use std::alloc::Global;

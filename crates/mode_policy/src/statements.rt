@@ -7,12 +7,10 @@ ghost use Rattle.bl_syntax.specs.TimeOrder.{IsInRange};
 ghost use Rattle.mode_policy.specs.Stating.{Appends};
 
 use crate::fault::ModeFault;
+use bl_syntax::limits::MOST_STATEMENTS;
 use bl_syntax::{Formula, Principal, Statement, TimePoint};
 use std::alloc::Global;
 use std::marker::Model;
-
-/// The most statements.
-pub const MOST_STATEMENTS: usize = 4096;
 
 /// At most 4,096 statements, in order. Contracts see the list.
 #[derive(Debug, Drop)]
@@ -53,7 +51,7 @@ impl Statements {
     }
 
     /// Adds that `admin` says the formula on the interval.
-    pub(crate) fn say(
+    pub(crate) fn add_statement(
         &mut self,
         body: Formula,
         from: TimePoint,

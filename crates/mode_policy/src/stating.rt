@@ -23,7 +23,7 @@ pub struct Interval {
 }
 
 // States the rule of the class, if its digit has the permission.
-fn say_rule(
+fn state_rule(
     alloc: Global,
     f: &FileModes,
     class: Class,
@@ -37,13 +37,13 @@ fn say_rule(
 {
     if permits(f.modes.digit(class), perm) {
         let rule = rule_formula(alloc, f.node, f.owner, class, perm)?;
-        return out.say(rule, on.from, on.to);
+        return out.add_statement(rule, on.from, on.to);
     }
     Ok(())
 }
 
 // States the rules of the class.
-fn say_rules_for(
+fn state_rules_for(
     alloc: Global,
     f: &FileModes,
     class: Class,
@@ -54,13 +54,13 @@ fn say_rules_for(
     requires to { IsInRange on.to }
     ensures { Appends on.from on.to (rules_for f.now class) out.old result out.new }
 {
-    say_rule(alloc, f, class, Perm::Read, on, out)?;
-    say_rule(alloc, f, class, Perm::Write, on, out)?;
-    say_rule(alloc, f, class, Perm::Execute, on, out)
+    state_rule(alloc, f, class, Perm::Read, on, out)?;
+    state_rule(alloc, f, class, Perm::Write, on, out)?;
+    state_rule(alloc, f, class, Perm::Execute, on, out)
 }
 
 // States the rules of the three classes.
-fn say_rules(
+fn state_rules(
     alloc: Global,
     f: &FileModes,
     on: Interval,
@@ -70,14 +70,14 @@ fn say_rules(
     requires to { IsInRange on.to }
     ensures { Appends on.from on.to (rules_of f.now) out.old result out.new }
 {
-    say_rules_for(alloc, f, Class::Owner, on, out)?;
-    say_rules_for(alloc, f, Class::Group, on, out)?;
-    say_rules_for(alloc, f, Class::Other, on, out)
+    state_rules_for(alloc, f, Class::Owner, on, out)?;
+    state_rules_for(alloc, f, Class::Group, on, out)?;
+    state_rules_for(alloc, f, Class::Other, on, out)
 }
 
 impl ModeTable {
     // States the class of the principal for the file.
-    fn say_class(
+    fn state_class(
         &self,
         alloc: Global,
         f: &FileModes,
@@ -90,11 +90,11 @@ impl ModeTable {
         ensures { Appends on.from on.to (class_said f.now.node who.now (class_of self.now f.now who.now) ∷ []) out.old result out.new }
     {
         let said = class_formula(alloc, f.node, *who, self.class_of(f, who))?;
-        out.say(said, on.from, on.to)
+        out.add_statement(said, on.from, on.to)
     }
 
     // States the class of each principal for the file.
-    fn say_classes(
+    fn state_classes(
         &self,
         alloc: Global,
         f: &FileModes,
@@ -106,13 +106,13 @@ impl ModeTable {
         ensures { Appends on.from on.to (classes_of self.now f.now) out.old result out.new }
     {
         for who in self.principals() {
-            self.say_class(alloc, f, who, on, out)?;
+            self.state_class(alloc, f, who, on, out)?;
         }
         Ok(())
     }
 
     // States what is said of the file.
-    fn say_file(
+    fn state_file(
         &self,
         alloc: Global,
         f: &FileModes,
@@ -123,8 +123,8 @@ impl ModeTable {
         requires to { IsInRange on.to }
         ensures { Appends on.from on.to (said_of self.now f.now) out.old result out.new }
     {
-        self.say_classes(alloc, f, on, out)?;
-        say_rules(alloc, f, on, out)
+        self.state_classes(alloc, f, on, out)?;
+        state_rules(alloc, f, on, out)
     }
 
     /// The statements of `admin` that stand for the table from one time to another: for each file the class of each principal, and
@@ -142,7 +142,7 @@ impl ModeTable {
         let on = Interval { from, to };
         let mut out = Statements::new(alloc);
         for place in 0..self.file_count() {
-            self.say_file(alloc, &self.file(place), on, &mut out)?;
+            self.state_file(alloc, &self.file(place), on, &mut out)?;
         }
         Ok(out)
     }

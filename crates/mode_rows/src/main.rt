@@ -12,7 +12,7 @@ use std::io::{self, ErrorKind};
 use std::process::ExitCode;
 use std::rt::Files;
 use std::{env, fs};
-use tables::tell_tables;
+use tables::write_tables;
 
 /// Why the files were not all read.
 #[derive(Debug, Drop)]
@@ -39,7 +39,7 @@ impl From<NoMemory> for Stop {
 }
 
 // Writes to the standard output.
-fn tell<R: Print>(rt: &R, text: &[u8]) -> Result<(), Stop> {
+fn write_out<R: Print>(rt: &R, text: &[u8]) -> Result<(), Stop> {
     match write_all(&mut StdSink::new(io::writer(rt)), text) {
         Ok(()) => Ok(()),
         Err(_) => Err(Stop::Failed),
@@ -47,18 +47,18 @@ fn tell<R: Print>(rt: &R, text: &[u8]) -> Result<(), Stop> {
 }
 
 // Tells what the tables of the files that the words name come to.
-fn tell_files<R: env::Env + Files + Print + AllocGlobal>(rt: &R) -> Result<(), Stop> {
+fn run_files<R: env::Env + Files + Print + AllocGlobal>(rt: &R) -> Result<(), Stop> {
     for name in env::args(rt)?.skip(1) {
         let text = fs::read_to_string(rt, name.as_str())?;
         let mut out = Bytes::new(rt.alloc());
-        tell_tables(rt.alloc(), text.as_bytes(), &mut out)?;
-        tell(rt, out.as_slice())?;
+        write_tables(rt.alloc(), text.as_bytes(), &mut out)?;
+        write_out(rt, out.as_slice())?;
     }
     Ok(())
 }
 
 fn main(rt: HostRuntime) -> ExitCode {
-    match tell_files(&rt) {
+    match run_files(&rt) {
         Ok(()) => ExitCode::from(0),
         Err(Stop::Failed) => ExitCode::from(2),
         Err(Stop::NoMemory) => ExitCode::from(9),

@@ -26,7 +26,7 @@ const PERMISSIONS: [Perm; 5] = [
 ];
 
 // Tells why there is no table, or why it has no statements.
-fn tell_fault(out: &mut Bytes, fault: ModeFault) -> Result<(), NoMemory> {
+fn write_fault(out: &mut Bytes, fault: ModeFault) -> Result<(), NoMemory> {
     match fault {
         ModeFault::BadLine(number) => {
             put_counted(out, "line ", number as u64)?;
@@ -42,7 +42,7 @@ fn tell_fault(out: &mut Bytes, fault: ModeFault) -> Result<(), NoMemory> {
 }
 
 // Tells the statements, each in a line that registers it.
-fn tell_statements(out: &mut Bytes, statements: &Statements) -> Result<(), NoMemory> {
+fn write_statements(out: &mut Bytes, statements: &Statements) -> Result<(), NoMemory> {
     for statement in statements.as_slice() {
         put_text(out, "register - ")?;
         print_statement(statement, out)?;
@@ -83,7 +83,7 @@ fn cite(
 }
 
 // Tells which statements the proof cites, and how many conditions it leaves, or that it is not accepted.
-fn tell_proof(
+fn write_proof(
     alloc: Global,
     out: &mut Bytes,
     statements: &Statements,
@@ -110,7 +110,7 @@ fn tell_proof(
 }
 
 // Tells that the goal is allowed, or proved, if it is one of both.
-fn tell_goal(
+fn write_goal(
     alloc: Global,
     out: &mut Bytes,
     table: &ModeTable,
@@ -127,13 +127,13 @@ fn tell_goal(
     put_counted(out, " #", goal.file.0)?;
     put_text(out, name_of(goal.perm))?;
     match proof {
-        Some(proof) => tell_proof(alloc, out, statements, goal, &proof),
+        Some(proof) => write_proof(alloc, out, statements, goal, &proof),
         None => put_text(out, " without a proof\n"),
     }
 }
 
 // Tells what is allowed of the file of that number.
-fn tell_file(
+fn write_file(
     alloc: Global,
     out: &mut Bytes,
     table: &ModeTable,
@@ -147,43 +147,43 @@ fn tell_file(
                 file,
                 perm,
             };
-            tell_goal(alloc, out, table, statements, &goal)?;
+            write_goal(alloc, out, table, statements, &goal)?;
         }
     }
     Ok(())
 }
 
 // Tells the statements of the table, and what it allows.
-fn tell_table(alloc: Global, out: &mut Bytes, table: &ModeTable) -> Result<(), NoMemory> {
+fn write_table(alloc: Global, out: &mut Bytes, table: &ModeTable) -> Result<(), NoMemory> {
     match table.statements(alloc, FROM, TO) {
         Ok(statements) => {
-            tell_statements(out, &statements)?;
+            write_statements(out, &statements)?;
             for place in 0..table.file_count() {
                 let file = table.file(place).node;
-                tell_file(alloc, out, table, &statements, file)?;
+                write_file(alloc, out, table, &statements, file)?;
             }
             Ok(())
         }
-        Err(fault) => tell_fault(out, fault),
+        Err(fault) => write_fault(out, fault),
     }
 }
 
 // Tells what the lines come to.
-fn tell_lines(alloc: Global, out: &mut Bytes, lines: &[u8]) -> Result<(), NoMemory> {
+fn write_lines(alloc: Global, out: &mut Bytes, lines: &[u8]) -> Result<(), NoMemory> {
     match ModeTable::parse(alloc, lines) {
-        Ok(table) => tell_table(alloc, out, &table)?,
-        Err(fault) => tell_fault(out, fault)?,
+        Ok(table) => write_table(alloc, out, &table)?,
+        Err(fault) => write_fault(out, fault)?,
     }
     put_text(out, "=\n")
 }
 
 /// Tells what each table of the text comes to.
-pub fn tell_tables(alloc: Global, text: &[u8], out: &mut Bytes) -> Result<(), NoMemory> {
+pub fn write_tables(alloc: Global, text: &[u8], out: &mut Bytes) -> Result<(), NoMemory> {
     let mut lines = Bytes::new(alloc);
     let mut rest = text;
     while let Some((line, others)) = first_line(rest) {
         if line == END.as_slice() {
-            tell_lines(alloc, out, lines.as_slice())?;
+            write_lines(alloc, out, lines.as_slice())?;
             lines.clear();
         } else {
             lines.extend(line)?;

@@ -1,4 +1,5 @@
--- Rows as nodes of a world: each node has a row of the tree and one of owners and attributes (this project's own).
+-- Rows as nodes of a world: each node has a row of the tree and one of owners and attributes (this
+-- project's own).
 use Rattle.std.specs.Prelude.{◌≡◌, ℕ, List, [], ◌∷◌}
 use Rattle.node_rows.specs.declared.rows.TreeRow.{TreeRow}
 use Rattle.node_rows.specs.declared.rows.MetaRow.{MetaRow}
@@ -16,8 +17,16 @@ meta_row row = (row.number.0, record { owner = row.owner; parent = row.parent; a
 
 -- all that is kept of a node, under its number
 abbrev pub item_row : TreeRow → MetaRow → ℕ × Item
-item_row tree meta =
-    (tree.number.0, record { kind = tree.kind; owner = meta.owner; attributes = meta.attributes; place = record { directory = tree.parent; name = tree.name }; contents = tree.contents })
+item_row tree meta = (
+  tree.number.0,
+  record {
+    kind = tree.kind;
+    owner = meta.owner;
+    attributes = meta.attributes;
+    place = record { directory = tree.parent; name = tree.name };
+    contents = tree.contents;
+  },
+)
 
 -- the same of all nodes, whose rows are in the same order
 abbrev pub item_rows : List TreeRow → List MetaRow → List (ℕ × Item)
@@ -25,9 +34,11 @@ item_rows [] metas = []
 item_rows (tree ∷ trees) [] = []
 item_rows (tree ∷ trees) (meta ∷ metas) = item_row tree meta ∷ item_rows trees metas
 
--- the rows are of the same nodes: as many in both lists, and the numbers and directories are the same in each pair
+-- the rows are of the same nodes: as many in both lists, and the numbers and directories are the
+-- same in each pair
 abbrev pub AreOfSameNodes : List TreeRow → List MetaRow → Type 0
 AreOfSameNodes [] [] = Unit {0}
 AreOfSameNodes [] (meta ∷ metas) = ⊥
 AreOfSameNodes (tree ∷ trees) [] = ⊥
-AreOfSameNodes (tree ∷ trees) (meta ∷ metas) = (tree.number ≡ meta.number) × ((tree.parent ≡ meta.parent) × AreOfSameNodes trees metas)
+AreOfSameNodes (tree ∷ trees) (meta ∷ metas) = (tree.number ≡ meta.number) ×
+    ((tree.parent ≡ meta.parent) × AreOfSameNodes trees metas)

@@ -23,7 +23,7 @@ use Rattle.access_history.specs.Authority.{Authority}
 use Rattle.access_history.specs.Admission.{IsAdmitted}
 use Rattle.access_history.specs.Answer.{Answers, moment_of, denied, refused, acted}
 use Rattle.access_history.specs.History.{HistoryView, authority_of, state_of, world_of}
-use Rattle.op_gate.specs.declared.planned.Planned.TheVariants.{Answer, Keep}
+use Rattle.op_gate.specs.declared.planned.DecisionPlan.TheVariants.{Answer, Keep}
 use Rattle.op_gate.specs.declared.planned.Pending.{Pending}
 use Rattle.op_gate.specs.Decision.{IsPlanned, IsDenial, plan_of_fault}
 use Rattle.op_gate.proofs.DecisionLemmas.{kept_decided}

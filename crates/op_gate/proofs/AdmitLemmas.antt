@@ -52,7 +52,7 @@ use Rattle.op_gate.specs.declared.damage.Damage.TheVariants.{Shape, Unsigned, Un
 use Rattle.op_gate.specs.declared.damage.AdmitFault.{AdmitFault}
 use Rattle.op_gate.specs.declared.damage.AdmitFault.TheVariants.{Damaged, NoMemory}
 use Rattle.op_gate.specs.declared.planned.Pending.{Pending}
-use Rattle.op_gate.specs.declared.planned.Planned.TheVariants.{Answer, Keep}
+use Rattle.op_gate.specs.declared.planned.DecisionPlan.TheVariants.{Answer, Keep}
 use Rattle.op_gate.specs.Admits.{FindsCited, IsPendingAs, GivesPending, IsTimely, IsCheckedAs, GivesChecked, GivesIssue, LacksNext, pending_issue, pending_statement, pending_withdrawal, proof_damage, register_damage, withdraw_damage}
 use Rattle.op_gate.specs.Damage.{HasShape, IsWithdrawalSigned, TakesEffect, IsFreeOf, IsDamagedBy, MayComeNext, TellsDamage, event_damages}
 use Rattle.op_gate.specs.DamageLaws.{IsTypedEvent}

@@ -16,14 +16,14 @@ use Rattle.access_history.specs.Authority.{MayBeRegistered}
 use Rattle.access_history.specs.Books.{book_of}
 use Rattle.access_history.specs.History.{HistoryView, authority_of, state_of, addition_of, IsReadyFor}
 use Rattle.access_history.specs.Answer.{Answers, registered, withdrawn, issued}
-use Rattle.op_gate.specs.declared.planned.Planned.{Planned}
-use Rattle.op_gate.specs.declared.planned.Planned.TheVariants.{Answer, Keep, NoMemory}
+use Rattle.op_gate.specs.declared.planned.DecisionPlan.{DecisionPlan}
+use Rattle.op_gate.specs.declared.planned.DecisionPlan.TheVariants.{Answer, Keep, NoMemory}
 use Rattle.op_gate.specs.declared.planned.Pending.{Pending}
 use Rattle.op_gate.specs.Admits.{pending_withdrawal}
 use Rattle.op_gate.specs.Decision.{IsPlanned, Keeps}
 
 -- what keeps the event of the answer is decided so
-pub kept_decided : (before after : HistoryView) (pass : ℕ) (clock : ℤ) (request : StepRequest) (reply : StepReply) (event : Event) (planned : Planned) →
+pub kept_decided : (before after : HistoryView) (pass : ℕ) (clock : ℤ) (request : StepRequest) (reply : StepReply) (event : Event) (planned : DecisionPlan) →
     Answers (authority_of before) (state_of before) pass clock request reply (Some event) → IsReadyFor after event → Keeps reply event planned → IsPlanned before pass clock request planned after
 kept_decided before after pass clock request reply event (Answer told) answers ready keeps = absurd keeps
 kept_decided before after pass clock request reply event (Keep told pending) answers ready keeps =
@@ -36,7 +36,7 @@ kept_decided before after pass clock request reply event (Keep told pending) ans
 kept_decided before after pass clock request reply event NoMemory answers ready keeps = tt
 
 -- a statement is registered
-pub registered_decided : (h : HistoryView) (pass : ℕ) (clock : ℤ) (statement : StatementView) (signature : List ℕ) (number : ℕ) (planned : Planned) → MayBeRegistered (authority_of h) (state_of h).statements statement signature → number ≡ length (state_of h).statements →
+pub registered_decided : (h : HistoryView) (pass : ℕ) (clock : ℤ) (statement : StatementView) (signature : List ℕ) (number : ℕ) (planned : DecisionPlan) → MayBeRegistered (authority_of h) (state_of h).statements statement signature → number ≡ length (state_of h).statements →
     Keeps (replies.Statement (number + 1)) (Registered pass statement signature) planned → IsPlanned h pass clock (requests.Register statement signature) planned h
 registered_decided h pass clock statement signature number planned may number_is keeps =
     kept_decided h h pass clock (requests.Register statement signature) (replies.Statement (number + 1)) (Registered pass statement signature) planned
@@ -50,7 +50,7 @@ withdrawn_decided h pass clock number signature pending may pending_is =
     kept_decided h h pass clock (requests.Withdraw number signature) replies.Withdrawn (Withdrawn pass number signature) (Keep replies.Withdrawn pending) (withdrawn number signature may) tt (refl, pending_is)
 
 -- a grant is issued
-pub issued_decided : (h : HistoryView) (pass : ℕ) (clock : ℤ) (checked : CheckedView) (issues : ℕ) (planned : Planned) → AreCited checked.cited → IsChecked checked → AllByRecursion (StandsUnderNumber (book_of (state_of h))) checked.cited →
+pub issued_decided : (h : HistoryView) (pass : ℕ) (clock : ℤ) (checked : CheckedView) (issues : ℕ) (planned : DecisionPlan) → AreCited checked.cited → IsChecked checked → AllByRecursion (StandsUnderNumber (book_of (state_of h))) checked.cited →
     issues ≡ length (state_of h).issues → Keeps (replies.Issue (issues + 1) (length checked.grant.times) (length checked.grant.states)) (Issued pass (numbers_of checked.cited) checked.proof (issued_grant checked.grant (numbers_of checked.cited))) planned →
     IsPlanned h pass clock (requests.Issue checked) planned h
 issued_decided h pass clock checked issues planned rising granted stand issues_is keeps =

@@ -6,12 +6,14 @@ use Rattle.bl_syntax.specs.TimeOrder.{IsMoment}
 use Rattle.access_history.specs.declared.request.StepRequest.{StepRequest}
 use Rattle.access_history.specs.declared.reply.StepReply.{StepReply}
 use Rattle.access_history.specs.WellFormed.{IsWellFormed}
-use Rattle.access_history.specs.History.{HistoryView, authority_of, state_of}
+use Rattle.access_history.specs.declared.event.Event.{Event}
+use Rattle.access_history.specs.History.{HistoryView, authority_of, state_of, addition_of, IsReadyFor}
 use Rattle.access_history.specs.Lawful.{IsLawfulBase, MayFollow}
 use Rattle.access_history.proofs.MayFollowLemmas.{MayFollow-answered}
-use Rattle.op_gate.specs.declared.planned.Planned.TheVariants.{Keep}
+use Rattle.op_gate.specs.declared.planned.DecisionPlan.TheVariants.{Keep}
 use Rattle.op_gate.specs.declared.planned.Pending.{Pending}
 use Rattle.op_gate.specs.Decision.{IsPlanned, CanKeep}
+use Rattle.op_gate.specs.Admits.{IsPendingAs}
 
 -- an event that was decided can be kept
 pub CanKeep-planned : (before after : HistoryView) (pass : ℕ) (clock : ℤ) (request : StepRequest) (reply : StepReply) (pending : Pending) → after ≡ record before { ready = after.ready } → 1 ≤ before.room → IsLawfulBase (authority_of before) (state_of before) → IsMoment clock → IsWellFormed request →
@@ -24,6 +26,17 @@ CanKeep-planned before after pass clock request reply pending same room base at 
       addition = planned.1;
       ready = planned.2;
     }
+
+-- an event that was tested can be kept
+pub CanKeep-pending : (before after : HistoryView) (event : Event) (pending : Pending) → after ≡ record before { ready = after.ready } → 1 ≤ before.room → IsPendingAs before after event pending → CanKeep after pending
+CanKeep-pending before after event pending same room is = record {
+  room = subst (λ (h : HistoryView). 1 ≤ h.room) (sym same) room;
+  lawful =
+      subst (λ (e : Event). MayFollow (authority_of after) (state_of after) e) (sym is.event_is)
+      (subst (λ (h : HistoryView). MayFollow (authority_of h) (state_of h) event) (sym same) is.follows);
+  addition = subst (λ (e : Event). pending.addition ≡ addition_of e) (sym is.event_is) is.addition_is;
+  ready = subst (λ (e : Event). IsReadyFor after e) (sym is.event_is) is.ready;
+}
 
 -- what holds where there is no error
 pub on_no_err : {A E : Type 0} (P : Type 0) (r : Result A E) → is_err r ≡ false → OnOk r P → P

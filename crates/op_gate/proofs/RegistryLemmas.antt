@@ -22,8 +22,8 @@ use Rattle.access_history.specs.Books.{Book, live_book}
 use Rattle.access_history.specs.History.{HistoryView, authority_with, state_of}
 use Rattle.op_gate.specs.Rejection.{rejection_of}
 use Rattle.op_gate.specs.Decision.{IsPlanned, plan_of_withdrawal}
-use Rattle.op_gate.specs.declared.planned.Planned.{Planned}
-use Rattle.op_gate.specs.declared.planned.Planned.TheVariants.{Answer, NoMemory}
+use Rattle.op_gate.specs.declared.planned.DecisionPlan.{DecisionPlan}
+use Rattle.op_gate.specs.declared.planned.DecisionPlan.TheVariants.{Answer, NoMemory}
 use Rattle.std.proofs.lemmas.Bool.{false≢true}
 use Rattle.access_history.specs.Numbered.{IsNumbered}
 use Rattle.access_history.specs.Citing.{IsHeld, MayBeWithdrawn, StandsUnderNumber}
@@ -73,20 +73,20 @@ pub may_register : (key : List ℕ) (ring : List KeyView) (entries : List Regist
 may_register key ring entries statement signature told is may = record { statement = is; signed = may.0; can = can_register entries statement may.1.0 may.1.1 }
 
 -- a statement that the registry does not take is rejected
-pub rejected_decided : (h : HistoryView) (pass : ℕ) (clock : ℤ) (statement : StatementView) (signature : List ℕ) (fault : Fault) (planned : Planned) →
+pub rejected_decided : (h : HistoryView) (pass : ℕ) (clock : ℤ) (statement : StatementView) (signature : List ℕ) (fault : Fault) (planned : DecisionPlan) →
     MayRegister (is_accepted h.ring statement.who (statement_message statement) signature) (state_of h).statements statement (Err fault) →
     MatchOption (rejection_of fault) (planned ≡ NoMemory) (λ rejection. planned ≡ Answer (replies.Rejected rejection)) →
     IsPlanned h pass clock (requests.Register statement signature) planned h
 rejected_decided h pass clock statement signature faults.BadSignature planned may told =
-    subst (λ (d : Planned). IsPlanned h pass clock (requests.Register statement signature) d h) (sym told) (unsigned statement signature (λ signed. false≢true (sym may ∙ signed)))
+    subst (λ (d : DecisionPlan). IsPlanned h pass clock (requests.Register statement signature) d h) (sym told) (unsigned statement signature (λ signed. false≢true (sym may ∙ signed)))
 rejected_decided h pass clock statement signature faults.RegistryFull planned may told =
-    subst (λ (d : Planned). IsPlanned h pass clock (requests.Register statement signature) d h) (sym told)
+    subst (λ (d : DecisionPlan). IsPlanned h pass clock (requests.Register statement signature) d h) (sym told)
     (registry_full statement signature may.0 (new_to_registry (state_of h).statements statement may.1.0) may.1.1)
 rejected_decided h pass clock statement signature (faults.Duplicate number) planned may told =
-    subst (λ (d : Planned). IsPlanned h pass clock (requests.Register statement signature) d h) (sym told)
+    subst (λ (d : DecisionPlan). IsPlanned h pass clock (requests.Register statement signature) d h) (sym told)
     (duplicate statement signature number may.0 (said_from_registry (state_of h).statements number statement may.1))
 rejected_decided h pass clock statement signature faults.NoMemory planned may told =
-    subst (λ (d : Planned). IsPlanned h pass clock (requests.Register statement signature) d h) (sym told) tt
+    subst (λ (d : DecisionPlan). IsPlanned h pass clock (requests.Register statement signature) d h) (sym told) tt
 
 -- ---- withdrawals
 

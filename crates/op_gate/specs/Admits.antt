@@ -72,7 +72,8 @@ pending_parts pass checked parts =
 abbrev pub pending_issue : ℕ → List ℕ → ProofView → GrantView → Pending
 pending_issue pass cited proof g = record { event = Issued pass cited proof g; addition = additions.Issue (record { cited = cited; proof = proof; grant = g }) }
 
--- the checked proof is this one from what is cited, and the grant is the verdict on it, with what it names
+-- the checked proof is this one from what is cited, and the grant is the verdict on it, with what
+-- it names
 pub record IsCheckedAs (cites : List Cite) (proof : ProofView) (g : GrantView) (checked : CheckedView) : Type 0 where
   pub cited_is : checked.cited ≡ cites
   pub proof_is : checked.proof ≡ proof
@@ -82,19 +83,25 @@ pub record IsCheckedAs (cites : List Cite) (proof : ProofView) (g : GrantView) (
 -- the proof is checked, or the grant is not the verdict on it, or there was no memory
 abbrev pub GivesChecked : List Cite → ProofView → GrantView → Result CheckedView AdmitFault → Type 0
 GivesChecked cites proof g (Ok checked) = IsCheckedAs cites proof g checked
-GivesChecked cites proof g (Err (Damaged damage)) = (damage ≡ Unproved) × (IsGrantedFrom cites proof g → ⊥)
+GivesChecked cites proof g (Err (Damaged damage)) = (damage ≡ Unproved) ×
+    (IsGrantedFrom cites proof g → ⊥)
 GivesChecked cites proof g (Err NoMemory) = Unit {0}
 
--- the grant is the verdict on the proof from what is cited and is pending, or it is not, or there was no memory
+-- the grant is the verdict on the proof from what is cited and is pending, or it is not, or there
+-- was no memory
 abbrev pub GivesIssue : ℕ → List Cite → ProofView → GrantView → Result Pending AdmitFault → Type 0
-GivesIssue pass cites proof g (Ok pending) = IsGrantedFrom cites proof g × (pending ≡ pending_issue pass (numbers_of cites) proof g)
-GivesIssue pass cites proof g (Err (Damaged damage)) = (damage ≡ Unproved) × (IsGrantedFrom cites proof g → ⊥)
+GivesIssue pass cites proof g (Ok pending) = IsGrantedFrom cites proof g ×
+    (pending ≡ pending_issue pass (numbers_of cites) proof g)
+GivesIssue pass cites proof g (Err (Damaged damage)) = (damage ≡ Unproved) ×
+    (IsGrantedFrom cites proof g → ⊥)
 GivesIssue pass cites proof g (Err NoMemory) = Unit {0}
 
--- the statements of these numbers, which can be cited; or they cannot be cited, or are not all found; or there was no memory
+-- the statements of these numbers, which can be cited; or they cannot be cited, or are not all
+-- found; or there was no memory
 abbrev pub FindsCited : Book → List ℕ → Result (List Cite) AdmitFault → Type 0
 FindsCited book numbers (Ok cites) = AreCitable numbers × AreFound book numbers cites
-FindsCited book numbers (Err (Damaged damage)) = (damage ≡ Unproved) × ((cites : List Cite) → AreCitable numbers → AreFound book numbers cites → ⊥)
+FindsCited book numbers (Err (Damaged damage)) = (damage ≡ Unproved) ×
+    ((cites : List Cite) → AreCitable numbers → AreFound book numbers cites → ⊥)
 FindsCited book numbers (Err NoMemory) = Unit {0}
 
 -- there is no number for one more event, or there was no memory

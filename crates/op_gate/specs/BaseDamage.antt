@@ -1,4 +1,5 @@
--- The damage of a state with which a history is to begin: the tests that it has to pass, in their order over the whole of it, and the first that it does not pass (this project's own).
+-- The damage of a state with which a history is to begin: the tests that it has to pass, in their
+-- order over the whole of it, and the first that it does not pass (this project's own).
 use Rattle.std.specs.Prelude.{◌≤◌, ◌-◌, ◌^◌, ℕ, List, [], ◌∷◌, length, Result, Ok, Err}
 use Rattle.std.specs.List.{AllByRecursion}
 use Rattle.bl_syntax.specs.FirstFailing.{IsFirstFailing}
@@ -24,7 +25,8 @@ pub record AreNew (entries : List RegisteredView) : Type 0 where
   pub differ : AreDistinct (sayings entries)
   pub fit : length entries ≤ 4096
 
--- the state does not have this damage: it passes the test of that name over the whole of it. What stands before the state is no part of it, and it has no operations
+-- the state does not have this damage: it passes the test of that name over the whole of it. What
+-- stands before the state is no part of it, and it has no operations
 abbrev pub IsBaseFreeOf : Authority → BaseView → Damage → Type 0
 IsBaseFreeOf authority base Header = Unit {0}
 IsBaseFreeOf authority base Shape = IsBaseShaped base
@@ -43,7 +45,8 @@ pub record IsDamagedBase (authority : Authority) (base : BaseView) (damage : Dam
   pub place : ℕ
   pub first : IsFirstFailing (IsBaseFreeOf authority base) base_damages place damage
 
--- what is answered to a state that was read: a history may begin with it, or it has this first damage, or there was no memory
+-- what is answered to a state that was read: a history may begin with it, or it has this first
+-- damage, or there was no memory
 abbrev pub TellsBase : {A : Type 0} → Authority → BaseView → Result A AdmitFault → Type 0
 TellsBase authority base (Ok value) = IsLawfulBase authority base
 TellsBase authority base (Err (Damaged damage)) = IsDamagedBase authority base damage

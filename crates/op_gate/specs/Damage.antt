@@ -1,4 +1,5 @@
--- The damage of an event that was read from an area: the tests that it has to pass to come next, in their order, and the first that it does not pass (this project's own).
+-- The damage of an event that was read from an area: the tests that it has to pass to come next, in
+-- their order, and the first that it does not pass (this project's own).
 use Rattle.std.specs.Prelude.{◌≡◌, ◌<◌, ◌-◌, ◌^◌, ◌≤ℤ◌, ℕ, ℤ, List, [], ◌∷◌, Some, None, Result, Ok, Err}
 use Rattle.bl_syntax.specs.FirstFailing.{IsFirstFailing}
 use Rattle.procap.specs.declared.procap.Procap.{Procap}
@@ -28,23 +29,28 @@ abbrev pub NamesLive : BaseView → Event → Type 0
 NamesLive state (Withdrawn pass number signature) = IsHeld (book_of state) number
 NamesLive state _ = Unit {0}
 
--- there is a number for one more event, at most 2^48 - 1, the event's moment lies in the range of moments, and the statement that it withdraws stands
+-- there is a number for one more event, at most 2^48 - 1, the event's moment lies in the range of
+-- moments, and the statement that it withdraws stands
 pub record HasShape (state : BaseView) (event : Event) : Type 0 where
   pub counted : state.count < 2 ^ 48 - 1
   pub in_range : HasMomentInRange event
   pub live : NamesLive state event
 
--- the signature is accepted from who said the statement that stands under the number, under the message of its withdrawal
+-- the signature is accepted from who said the statement that stands under the number, under the
+-- message of its withdrawal
 abbrev pub IsWithdrawalSigned : Authority → Book → ℕ → List ℕ → Type 0
-IsWithdrawalSigned authority book number signature = (statement : StatementView) → IsNumbered book number (Some statement) → IsSignedWithdrawal authority statement signature
+IsWithdrawalSigned authority book number signature = (statement : StatementView) →
+    IsNumbered book number (Some statement) → IsSignedWithdrawal authority statement signature
 
--- the signature of a statement is accepted from who says it, and that of a withdrawal from who said the statement
+-- the signature of a statement is accepted from who says it, and that of a withdrawal from who said
+-- the statement
 abbrev pub IsSigned : Authority → BaseView → Event → Type 0
 IsSigned authority state (Registered pass statement signature) = IsSignedStatement authority statement signature
 IsSigned authority state (Withdrawn pass number signature) = IsWithdrawalSigned authority (book_of state) number signature
 IsSigned authority state _ = Unit {0}
 
--- an issue cites 1 to 64 statements that stand, by strictly rising numbers, and its grant is granted by its proof from them
+-- an issue cites 1 to 64 statements that stand, by strictly rising numbers, and its grant is
+-- granted by its proof from them
 abbrev pub IsProved : BaseView → Event → Type 0
 IsProved state (Issued pass cited proof g) = MayBeIssued state (record { cited = cited; proof = proof; grant = g })
 IsProved state _ = Unit {0}
@@ -71,7 +77,8 @@ IsNew state _ = Unit {0}
 
 -- ---- the first that fails
 
--- the event does not have this damage: it passes the test of that name. What stands before the records is no part of an event
+-- the event does not have this damage: it passes the test of that name. What stands before the
+-- records is no part of an event
 abbrev pub IsFreeOf : Authority → BaseView → Event → Damage → Type 0
 IsFreeOf authority state event Header = Unit {0}
 IsFreeOf authority state event Shape = HasShape state event
@@ -81,7 +88,8 @@ IsFreeOf authority state event NotAdmitted = IsEffective authority state event
 IsFreeOf authority state event MomentFalls = IsNotBefore state event
 IsFreeOf authority state event Duplicate = IsNew state event
 
--- the damages that an event can have, in the order in which they count: a moment that falls counts before an operation that is not admitted
+-- the damages that an event can have, in the order in which they count: a moment that falls counts
+-- before an operation that is not admitted
 abbrev pub event_damages : List Damage
 event_damages = Shape ∷ Unsigned ∷ Unproved ∷ MomentFalls ∷ NotAdmitted ∷ Duplicate ∷ []
 
@@ -95,7 +103,8 @@ pub record MayComeNext (authority : Authority) (state : BaseView) (event : Event
   pub counted : state.count < 2 ^ 48 - 1
   pub follows : MayFollow authority state event
 
--- what is answered to an event that was read: it may come next, or it has this first damage, or there was no memory
+-- what is answered to an event that was read: it may come next, or it has this first damage, or
+-- there was no memory
 abbrev pub TellsDamage : Authority → BaseView → Event → Result (Unit {0}) AdmitFault → Type 0
 TellsDamage authority state event (Ok done) = MayComeNext authority state event
 TellsDamage authority state event (Err (Damaged damage)) = IsDamagedBy authority state event damage

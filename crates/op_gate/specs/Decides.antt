@@ -11,5 +11,6 @@ use Rattle.access_history.specs.Authority.{Authority}
 -- the decision is the answer to the request, and the event that the answer keeps is pending
 abbrev pub Decides : Authority → BaseView → ℕ → ℤ → StepRequest → Decision → Option Event → Type 0
 Decides authority state pass clock request (Answer reply) pending = Answers authority state pass clock request reply None × (pending ≡ None)
-Decides authority state pass clock request (Keep reply) pending = (event : Event) × Answers authority state pass clock request reply (Some event) × (pending ≡ Some event)
+Decides authority state pass clock request (Keep reply) pending = (event : Event) ×
+    Answers authority state pass clock request reply (Some event) × (pending ≡ Some event)
 Decides authority state pass clock request NoMemory pending = pending ≡ None

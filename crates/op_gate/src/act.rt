@@ -9,7 +9,7 @@ ghost use Rattle.access_history.specs.History.{state_of};
 ghost use Rattle.op_gate.specs.Decision.{IsPlanned, IsDenial, plan_of_fault};
 
 use crate::cause::denial_cause;
-use crate::planned::{Pending, Planned};
+use crate::planned::{DecisionPlan, Pending};
 use access_history::{Addition, Denial, Event, History, Procaps, StepReply};
 use bl_syntax::{Goal, Principal};
 use file_world::{Op, OpFault};
@@ -33,7 +33,9 @@ fn first_denial(
     moment: i64,
 ) -> Option<Denial>
     requires { length procaps.now ≡ slots op.now }
-    ensures { MatchOption result (IsAdmitted history.now.key (state_of history.now) caller.now op.now procaps.now moment) (IsDenial history.now.key (state_of history.now) caller.now op.now procaps.now moment) }
+    ensures { MatchOption result (IsAdmitted history.now.key (state_of history.now) caller.now
+        op.now procaps.now moment) (IsDenial history.now.key (state_of history.now) caller.now
+        op.now procaps.now moment) }
 {
     let needs = history.world().needs(op);
     let pairs = needs.as_slice();
@@ -66,7 +68,10 @@ pub fn deny(
     clock: i64,
 ) -> Option<Denial>
     requires { length procaps.now ≡ slots op.now }
-    ensures { MatchOption result (IsAdmitted history.now.key (state_of history.now) caller.now op.now procaps.now (moment_of (state_of history.now) clock)) (IsDenial history.now.key (state_of history.now) caller.now op.now procaps.now (moment_of (state_of history.now) clock)) }
+    ensures { MatchOption result (IsAdmitted history.now.key (state_of history.now) caller.now
+        op.now procaps.now (moment_of (state_of history.now) clock))
+        (IsDenial history.now.key (state_of history.now) caller.now op.now procaps.now
+        (moment_of (state_of history.now) clock)) }
 {
     let moment = step_moment(history, clock);
     first_denial(history, caller, op, procaps.as_slice(), moment)
@@ -89,12 +94,12 @@ fn pend_act(pass: u64, caller: Principal, op: Op, procaps: Procaps, moment: i64)
 }
 
 // What is reported of an operation without effect, after that many events.
-fn plan_of_refusal(fault: OpFault, count: u64) -> Planned
+fn plan_of_refusal(fault: OpFault, count: u64) -> DecisionPlan
     ensures { result ≡ plan_of_fault count fault }
 {
     match fault {
-        OpFault::Refused(refusal) => Planned::Answer(StepReply::Refused(refusal, count)),
-        OpFault::NoMemory => Planned::NoMemory,
+        OpFault::Refused(refusal) => DecisionPlan::Answer(StepReply::Refused(refusal, count)),
+        OpFault::NoMemory => DecisionPlan::NoMemory,
     }
 }
 
@@ -107,7 +112,7 @@ pub fn act(
     op: Op,
     procaps: Procaps,
     clock: i64,
-) -> Planned
+) -> DecisionPlan
     requires { IsAdmitted history.old.key (state_of history.old) caller op procaps (moment_of (state_of history.old) clock) }
     ensures same { history.new ≡ record history.old { ready = history.new.ready } }
     ensures planned { IsPlanned history.old pass clock (Act caller op procaps) result history.new }
@@ -116,7 +121,7 @@ pub fn act(
     let count = history.count();
     let (op, answer) = history.prepare(alloc, &caller, op);
     match answer {
-        Ok(reply) => Planned::Keep(
+        Ok(reply) => DecisionPlan::Keep(
             StepReply::Operation(reply),
             pend_act(pass, caller, op, procaps, moment),
         ),
@@ -133,13 +138,13 @@ pub fn decide_act(
     op: Op,
     procaps: Procaps,
     clock: i64,
-) -> Planned
+) -> DecisionPlan
     requires { length procaps ≡ slots op }
     ensures same { history.new ≡ record history.old { ready = history.new.ready } }
     ensures planned { IsPlanned history.old pass clock (Act caller op procaps) result history.new }
 {
     match deny(history, &caller, &op, &procaps, clock) {
-        Some(denial) => Planned::Answer(StepReply::Denied(denial)),
+        Some(denial) => DecisionPlan::Answer(StepReply::Denied(denial)),
         None => act(alloc, history, pass, caller, op, procaps, clock),
     }
 }

@@ -15,7 +15,7 @@ use crate::brings::{brings_enough, is_formed};
 use crate::cite::{Among, Citation, cite};
 use crate::damage::{AdmitFault, Damage};
 use crate::decide::{issue_parts, pend_issue, registered, withdrawn};
-use crate::planned::{Pending, Planned};
+use crate::planned::{DecisionPlan, Pending};
 use access_history::{Event, History, Procaps, is_grant_of};
 use bl_syntax::limits::MOST_EVENTS;
 use bl_syntax::{
@@ -221,7 +221,10 @@ fn admit_issued(
 // bring what it has to.
 fn early_damage(history: &History, op: &Op, procaps: &[Procap], moment: i64) -> Option<Damage>
     requires { (state_of history.now).count < 2 ^ 48 - 1 }
-    ensures { (pass : ℕ) (caller : List ℕ) → MatchOption result (IsTimely (state_of history.now) op.now procaps.now moment) (IsDamagedBy (authority_of history.now) (state_of history.now) (events.Acted pass caller op.now procaps.now moment)) }
+    ensures { (pass : ℕ) (caller : List ℕ) →
+        MatchOption result (IsTimely (state_of history.now) op.now procaps.now moment)
+        (IsDamagedBy (authority_of history.now) (state_of history.now)
+        (events.Acted pass caller op.now procaps.now moment)) }
 {
     if !is_moment(moment) {
         return Some(Damage::Shape);
@@ -250,12 +253,12 @@ fn admit_timely(
     ensures same { history.new ≡ record history.old { ready = history.new.ready } }
     ensures pending { GivesPending history.old history.new (events.Acted pass caller op procaps moment) result }
 {
-    history.lawful();
+    history.lemma_is_lawful();
     is_formed(&caller, &op);
     match decide_act(alloc, history, pass, caller, op, procaps, moment) {
-        Planned::Keep(_, pending) => Ok(pending),
-        Planned::Answer(_) => Err(AdmitFault::Damaged(Damage::NotAdmitted)),
-        Planned::NoMemory => Err(AdmitFault::NoMemory),
+        DecisionPlan::Keep(_, pending) => Ok(pending),
+        DecisionPlan::Answer(_) => Err(AdmitFault::Damaged(Damage::NotAdmitted)),
+        DecisionPlan::NoMemory => Err(AdmitFault::NoMemory),
     }
 }
 

@@ -22,7 +22,8 @@ pub fn denial_cause(
     wanted: &Goal,
     moment: i64,
 ) -> Option<DenialCause>
-    ensures { MatchOption result (Admits history.now.key (state_of history.now) moment wanted.now procap.now) (Denies history.now.key (state_of history.now) moment wanted.now procap.now) }
+    ensures { MatchOption result (Admits history.now.key (state_of history.now) moment wanted.now
+        procap.now) (Denies history.now.key (state_of history.now) moment wanted.now procap.now) }
 {
     if !history.key().is_genuine(procap) {
         return Some(DenialCause::Seal);
@@ -41,7 +42,9 @@ pub fn denial_cause(
 
 // The first name that the procap does not have as it is wanted.
 fn other_name(procap: &Procap, wanted: &Goal) -> Option<DenialCause>
-    ensures { (key : List ℕ) (state : BaseView) (moment : ℤ) → MatchOption result (AllByRecursion (Passes key state moment wanted.now procap.now) name_checks) (FailsAt (Passes key state moment wanted.now procap.now) name_checks) }
+    ensures { (key : List ℕ) (state : BaseView) (moment : ℤ) →
+        MatchOption result (AllByRecursion (Passes key state moment wanted.now procap.now)
+        name_checks) (FailsAt (Passes key state moment wanted.now procap.now) name_checks) }
 {
     let goal = procap.grant.goal();
     if !goal.who.is_same(&wanted.who) {
@@ -57,7 +60,11 @@ fn other_name(procap: &Procap, wanted: &Goal) -> Option<DenialCause>
 
 // The first condition of the procap that does not hold in the history's state at the moment.
 fn failing_condition(history: &History, procap: &Procap, moment: i64) -> Option<DenialCause>
-    ensures { (wanted : GoalView) → MatchOption result (AllByRecursion (Passes history.now.key (state_of history.now) moment wanted procap.now) (condition_causes procap.now.grant)) (FailsAt (Passes history.now.key (state_of history.now) moment wanted procap.now) (condition_causes procap.now.grant)) }
+    ensures { (wanted : GoalView) →
+        MatchOption result (AllByRecursion (Passes history.now.key (state_of history.now) moment
+        wanted procap.now) (condition_causes procap.now.grant))
+        (FailsAt (Passes history.now.key (state_of history.now) moment wanted procap.now)
+        (condition_causes procap.now.grant)) }
 {
     let grant = &procap.grant;
     let times = grant.times();

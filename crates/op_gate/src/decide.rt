@@ -15,7 +15,7 @@ ghost use Rattle.op_gate.specs.Issued.{IsProcapOf};
 ghost use Rattle.op_gate.specs.Rejection.{rejection_of};
 
 use crate::cite::{cited_numbers, first_moved};
-use crate::planned::{Pending, Planned};
+use crate::planned::{DecisionPlan, Pending};
 use access_history::{Addition, Event, History, Issue, Rejection, StepReply};
 use bl_syntax::{Bytes, Grant, NoMemory, Numbers, Principal, Statement};
 use policy_statement::{RegisterFault as RegistryFault, WithdrawFault};
@@ -24,20 +24,20 @@ use proof_verifier::Checked;
 use std::alloc::Global;
 
 // The answer to a statement that may not be registered, or out of memory.
-fn rejection(fault: RegistryFault) -> Planned
-    ensures { MatchOption (rejection_of fault) (result ≡ Planned.NoMemory) (λ rejection. result ≡ Planned.Answer (StepReply.Rejected rejection)) }
+fn rejection(fault: RegistryFault) -> DecisionPlan
+    ensures { MatchOption (rejection_of fault) (result ≡ DecisionPlan.NoMemory) (λ rejection. result ≡ DecisionPlan.Answer (StepReply.Rejected rejection)) }
 {
     match fault {
         RegistryFault::BadSignature => {
-            Planned::Answer(StepReply::Rejected(Rejection::BadSignature))
+            DecisionPlan::Answer(StepReply::Rejected(Rejection::BadSignature))
         }
         RegistryFault::RegistryFull => {
-            Planned::Answer(StepReply::Rejected(Rejection::RegistryFull))
+            DecisionPlan::Answer(StepReply::Rejected(Rejection::RegistryFull))
         }
         RegistryFault::Duplicate(number) => {
-            Planned::Answer(StepReply::Rejected(Rejection::Duplicate(number)))
+            DecisionPlan::Answer(StepReply::Rejected(Rejection::Duplicate(number)))
         }
-        RegistryFault::NoMemory => Planned::NoMemory,
+        RegistryFault::NoMemory => DecisionPlan::NoMemory,
     }
 }
 
@@ -61,7 +61,12 @@ pub fn registered(
     statement: Statement,
     signature: Bytes,
 ) -> Result<Pending, NoMemory>
-    ensures { IfOk result (λ pending. pending ≡ record { event = Event.Registered pass statement signature; addition = Addition.Statement statement signature }) }
+    ensures { IfOk result (λ pending. pending
+        ≡ record {
+          event = Event.Registered pass statement signature;
+          addition =
+              Addition.Statement statement signature;
+        }) }
 {
     match statement_addition(alloc, &statement, &signature) {
         Ok(addition) => {
@@ -83,12 +88,12 @@ fn keep_statement(
     number: u32,
     statement: Statement,
     signature: Bytes,
-) -> Planned
+) -> DecisionPlan
     ensures { Keeps (StepReply.Statement number) (Event.Registered pass statement signature) result }
 {
     match registered(alloc, pass, statement, signature) {
-        Ok(pending) => Planned::Keep(StepReply::Statement(number), pending),
-        Err(_) => Planned::NoMemory,
+        Ok(pending) => DecisionPlan::Keep(StepReply::Statement(number), pending),
+        Err(_) => DecisionPlan::NoMemory,
     }
 }
 
@@ -99,7 +104,7 @@ pub fn decide_register(
     pass: u64,
     statement: Statement,
     signature: Bytes,
-) -> Planned
+) -> DecisionPlan
     requires { IsStatement statement }
     ensures { (clock : ℤ) → IsPlanned history.now pass clock (requests.Register statement signature) result history.now }
 {
@@ -128,15 +133,15 @@ pub fn withdrawn(pass: u64, number: u32, signature: Bytes) -> Pending
 }
 
 // The answer to a withdrawal that the registry does not take, or out of memory.
-fn refused_withdrawal(number: u32, fault: WithdrawFault) -> Planned
+fn refused_withdrawal(number: u32, fault: WithdrawFault) -> DecisionPlan
     ensures { result ≡ plan_of_withdrawal number fault }
 {
     match fault {
-        WithdrawFault::Absent => Planned::Answer(StepReply::Absent(number as u64)),
+        WithdrawFault::Absent => DecisionPlan::Answer(StepReply::Absent(number as u64)),
         WithdrawFault::BadSignature => {
-            Planned::Answer(StepReply::Rejected(Rejection::BadSignature))
+            DecisionPlan::Answer(StepReply::Rejected(Rejection::BadSignature))
         }
-        WithdrawFault::NoMemory => Planned::NoMemory,
+        WithdrawFault::NoMemory => DecisionPlan::NoMemory,
     }
 }
 
@@ -147,12 +152,13 @@ pub fn decide_withdraw(
     pass: u64,
     number: u32,
     signature: Bytes,
-) -> Planned
-    ensures { (clock : ℤ) → IsPlanned history.now pass clock (requests.Withdraw number signature) result history.now }
+) -> DecisionPlan
+    ensures { (clock : ℤ) →
+        IsPlanned history.now pass clock (requests.Withdraw number signature) result history.now }
 {
     let registry = history.registry();
     match registry.test_withdrawal(alloc, history.ring(), number, signature.as_slice()) {
-        Ok(()) => Planned::Keep(StepReply::Withdrawn, withdrawn(pass, number, signature)),
+        Ok(()) => DecisionPlan::Keep(StepReply::Withdrawn, withdrawn(pass, number, signature)),
         Err(fault) => refused_withdrawal(number, fault),
     }
 }
@@ -163,7 +169,8 @@ pub fn issued_procap(
     history: &History,
     number: u64,
 ) -> Result<Option<Procap>, NoMemory>
-    ensures { IfOk result (λ found. MatchOption found (HasNone (state_of history.now).issues number) (IsProcapOf history.now.key (state_of history.now).issues number)) }
+    ensures { IfOk result (λ found. MatchOption found (HasNone (state_of history.now).issues number)
+        (IsProcapOf history.now.key (state_of history.now).issues number)) }
 {
     match history.issue(number) {
         Some(grant) => Ok(Some(history.key().seal(grant.copy(alloc)?))),
@@ -188,7 +195,8 @@ pub fn decide_show(
     number: u64,
     who: &Option<Principal>,
 ) -> Result<StepReply, NoMemory>
-    ensures { IfOk result (λ reply. (pass : ℕ) (clock : ℤ) → Answers (authority_of history.now) (state_of history.now) pass clock (requests.ShowProcap number who.now) reply None) }
+    ensures { IfOk result (λ reply. (pass : ℕ) (clock : ℤ) → Answers (authority_of history.now)
+        (state_of history.now) pass clock (requests.ShowProcap number who.now) reply None) }
 {
     match issued_procap(alloc, history, number)? {
         Some(procap) => {
@@ -277,27 +285,30 @@ fn parts_naming_cited(alloc: Global, checked: &Checked) -> Result<IssueParts, No
 }
 
 // Has the grant of the checked proof to be kept under that number. It names what the proof cites.
-fn keep_issue(alloc: Global, pass: u64, number: u64, checked: Checked) -> Planned
+fn keep_issue(alloc: Global, pass: u64, number: u64, checked: Checked) -> DecisionPlan
     requires { AreNamed (numbers_of checked.cited) }
-    ensures { Keeps (StepReply.Issue number (length checked.grant.times) (length checked.grant.states)) (Event.Issued pass (numbers_of checked.cited) checked.proof (issued_grant checked.grant (numbers_of checked.cited))) result }
+    ensures { Keeps (StepReply.Issue number (length checked.grant.times)
+        (length checked.grant.states)) (Event.Issued pass (numbers_of checked.cited) checked.proof
+        (issued_grant checked.grant (numbers_of checked.cited))) result }
 {
     let times = checked.grant().times().len() as u32;
     let states = checked.grant().states().len() as u32;
     match parts_naming_cited(alloc, &checked) {
-        Ok(parts) => Planned::Keep(
+        Ok(parts) => DecisionPlan::Keep(
             StepReply::Issue(number, times, states),
             pend_issue(pass, checked, parts),
         ),
-        Err(_) => Planned::NoMemory,
+        Err(_) => DecisionPlan::NoMemory,
     }
 }
 
 /// Whether and as what the grant of a checked proof is issued.
-pub fn decide_issue(alloc: Global, history: &History, pass: u64, checked: Checked) -> Planned
-    ensures { (clock : ℤ) → IsPlanned history.now pass clock (requests.Issue checked) result history.now }
+pub fn decide_issue(alloc: Global, history: &History, pass: u64, checked: Checked) -> DecisionPlan
+    ensures { (clock : ℤ) →
+        IsPlanned history.now pass clock (requests.Issue checked) result history.now }
 {
     match first_moved(history.statements(), checked.cited().as_slice()) {
-        Some(number) => Planned::Answer(StepReply::Absent(number as u64)),
+        Some(number) => DecisionPlan::Answer(StepReply::Absent(number as u64)),
         None => {
             let number = history.issues().len() as u64 + 1;
             keep_issue(alloc, pass, number, checked)

@@ -10,7 +10,7 @@ use crate::base::test_base;
 use crate::cite::{Among, Citation, cite};
 use crate::damage::AdmitFault;
 use crate::decide::{decide_issue, decide_register, decide_show, decide_withdraw, issued_procap};
-use crate::planned::{Pending, Planned};
+use crate::planned::{DecisionPlan, Pending};
 use access_history::{Base, Denial, Event, History, Procaps, StepReply, StepRequest};
 use bl_syntax::{NoMemory, Principal};
 use file_world::Op;
@@ -60,12 +60,12 @@ fn put(place: &mut Option<Pending>, pending: Pending)
 }
 
 // The answer, or out of memory.
-fn plan_of_answer(reply: Result<StepReply, NoMemory>) -> Planned
-    ensures { MatchResult reply (λ told. result ≡ Planned.Answer told) (λ _. result ≡ Planned.NoMemory) }
+fn plan_of_answer(reply: Result<StepReply, NoMemory>) -> DecisionPlan
+    ensures { MatchResult reply (λ told. result ≡ DecisionPlan.Answer told) (λ _. result ≡ DecisionPlan.NoMemory) }
 {
     match reply {
-        Ok(reply) => Planned::Answer(reply),
-        Err(_) => Planned::NoMemory,
+        Ok(reply) => DecisionPlan::Answer(reply),
+        Err(_) => DecisionPlan::NoMemory,
     }
 }
 
@@ -76,7 +76,7 @@ fn decide_request(
     pass: u64,
     request: StepRequest,
     clock: i64,
-) -> Planned
+) -> DecisionPlan
     requires { IsWellFormed request }
     ensures same { history.new ≡ record history.old { ready = history.new.ready } }
     ensures planned { IsPlanned history.old pass clock request result history.new }
@@ -170,7 +170,9 @@ impl Gate {
 
     /// The procap of the issue of that number; none exactly if there is no such issue.
     pub fn procap(&self, alloc: Global, number: u64) -> Result<Option<Procap>, NoMemory>
-        ensures { IfOk result (λ found. MatchOption found (HasNone (replay self.now.base self.now.events).issues number) (IsProcapOf self.now.key (replay self.now.base self.now.events).issues number)) }
+        ensures { IfOk result (λ found.
+            MatchOption found (HasNone (replay self.now.base self.now.events).issues number)
+            (IsProcapOf self.now.key (replay self.now.base self.now.events).issues number)) }
     {
         issued_procap(alloc, &self.history, number)
     }
@@ -187,7 +189,10 @@ impl Gate {
     /// one procap for each place of its needs. It takes no memory.
     pub fn deny(&self, caller: &Principal, op: &Op, procaps: &Procaps, clock: i64) -> Option<Denial>
         requires { length procaps.now ≡ slots op.now }
-        ensures { let state = replay self.now.base self.now.events in MatchOption result (IsAdmitted self.now.key state caller.now op.now procaps.now (moment_of state clock)) (IsDenial self.now.key state caller.now op.now procaps.now (moment_of state clock)) }
+        ensures { let state = replay self.now.base self.now.events
+            in MatchOption result (IsAdmitted self.now.key state caller.now op.now procaps.now
+            (moment_of state clock)) (IsDenial self.now.key state caller.now op.now procaps.now
+            (moment_of state clock)) }
     {
         deny(&self.history, caller, op, procaps, clock)
     }
@@ -207,14 +212,40 @@ impl Gate {
         if self.history.reserve().is_err() {
             return Decision::NoMemory;
         }
-        self.history.lawful();
+        self.history.lemma_is_lawful();
         match decide_request(alloc, &mut self.history, pass, request, clock) {
-            Planned::Answer(reply) => Decision::Answer(reply),
-            Planned::Keep(reply, pending) => {
+            DecisionPlan::Answer(reply) => Decision::Answer(reply),
+            DecisionPlan::Keep(reply, pending) => {
                 put(&mut self.pending, pending);
                 Decision::Keep(reply)
             }
-            Planned::NoMemory => Decision::NoMemory,
+            DecisionPlan::NoMemory => Decision::NoMemory,
+        }
+    }
+
+    /// Tests an event that came from outside, as if it came now. It is pending then exactly if it may come next; otherwise its
+    /// first damage is reported, and nothing is pending. Its signature, its proof, its procaps with their seals and
+    /// conditions, its effect, and which statements stand are tested again. What was pending is dropped; nothing that is
+    /// kept changes.
+    pub fn prepare(&mut self, alloc: Global, event: Event) -> Result<(), AdmitFault>
+        ensures key { self.new.key ≡ self.old.key }
+        ensures ring { self.new.ring ≡ self.old.ring }
+        ensures base { self.new.base ≡ self.old.base }
+        ensures events { self.new.events ≡ self.old.events }
+        ensures answer { TellsDamage (authority_with self.old.key self.old.ring) (replay self.old.base self.old.events) event result }
+        ensures pending { OnOk result (self.new.pending ≡ Some event) }
+        ensures none_pending { OnErr result (self.new.pending ≡ None) }
+    {
+        self.forget();
+        match reserve_next(&mut self.history) {
+            Ok(()) => match admit(alloc, &mut self.history, event) {
+                Ok(pending) => {
+                    put(&mut self.pending, pending);
+                    Ok(())
+                }
+                Err(fault) => Err(fault),
+            },
+            Err(fault) => Err(fault),
         }
     }
 
@@ -230,16 +261,11 @@ impl Gate {
         ensures kept { OnOk result (self.new.events ≡ self.old.events ++ event ∷ []) }
         ensures left_out { OnErr result (self.new.events ≡ self.old.events) }
     {
-        self.forget();
-        match reserve_next(&mut self.history) {
-            Ok(()) => match admit(alloc, &mut self.history, event) {
-                Ok(pending) => {
-                    let Pending { event, addition } = pending;
-                    self.history.keep(event, addition);
-                    Ok(())
-                }
-                Err(fault) => Err(fault),
-            },
+        match self.prepare(alloc, event) {
+            Ok(()) => {
+                self.commit();
+                Ok(())
+            }
             Err(fault) => Err(fault),
         }
     }

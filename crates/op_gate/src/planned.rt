@@ -11,7 +11,7 @@ pub struct Pending {
 
 /// What is to be done on a request.
 #[derive(Debug, Drop)]
-pub enum Planned {
+pub enum DecisionPlan {
     /// The answer, with nothing to keep.
     Answer(StepReply),
     /// The answer, and the event to keep.

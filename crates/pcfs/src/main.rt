@@ -127,7 +127,7 @@ fn found_at<R: Files>(rt: &R, path: &str) -> &'static str {
 }
 
 // Says that there is no store, and what there is. A line that cannot be written is dropped.
-fn say_no_store<R: Files + Eprint>(rt: &R) {
+fn write_no_store<R: Files + Eprint>(rt: &R) {
     let first = found_at(rt, FIRST_FILE);
     let second = found_at(rt, SECOND_FILE);
     let _ = eprintln!(rt; "no store: {FIRST_FILE} {first}, {SECOND_FILE} {second}");
@@ -194,7 +194,7 @@ fn main(rt: HostRuntime) -> ExitCode {
         unmark(&rt);
     }
     if ended.status == NO_STORE {
-        say_no_store(&rt);
+        write_no_store(&rt);
     }
     report(&rt, ended.status);
     ExitCode::from(ended.status)

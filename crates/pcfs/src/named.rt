@@ -18,7 +18,7 @@ impl<'a, R, S> Named<'a, R, S> {
 }
 
 // Says an error, if there was one, under a name. A line that cannot be written is dropped.
-fn say<R: Eprint, T>(rt: &R, name: &str, done: &io::Result<T>) {
+fn write_error<R: Eprint, T>(rt: &R, name: &str, done: &io::Result<T>) {
     if let Err(error) = done {
         let _ = eprintln!(rt; "{name}: {error}");
     }
@@ -27,7 +27,7 @@ fn say<R: Eprint, T>(rt: &R, name: &str, done: &io::Result<T>) {
 impl<'a, R: Eprint, S: Read> Read for Named<'a, R, S> {
     fn read(&mut self, buf: &mut [u8]) -> io::Result<usize> {
         let done = self.stream.read(buf);
-        say(self.rt, self.name, &done);
+        write_error(self.rt, self.name, &done);
         done
     }
 }
@@ -35,7 +35,7 @@ impl<'a, R: Eprint, S: Read> Read for Named<'a, R, S> {
 impl<'a, R: Eprint, S: Write> Write for Named<'a, R, S> {
     fn write(&mut self, buf: &[u8]) -> io::Result<usize> {
         let done = self.stream.write(buf);
-        say(self.rt, self.name, &done);
+        write_error(self.rt, self.name, &done);
         done
     }
 

@@ -9,10 +9,10 @@ use Rattle.bl_syntax.specs.Equality.{grant_eq}
 use Rattle.bl_syntax.specs.Grant.{GrantView}
 use Rattle.bl_syntax.proofs.EqualityLemmas.{Decides-grant_eq}
 use Rattle.policy_statement.specs.Withdrawal.{is_withdrawn}
-use Rattle.issue_standings.specs.declared.standing.Standing.{Standing}
-use Rattle.issue_standings.specs.declared.standing.Standing.TheVariants as standings
+use Rattle.issue_standings.specs.declared.standing.GrantStanding.{GrantStanding}
+use Rattle.issue_standings.specs.declared.standing.GrantStanding.TheVariants as standings
 use Rattle.issue_standings.specs.Bearing.{BearingView, IsUnissued}
-use Rattle.issue_standings.specs.Standing.{after, after_issue, gone_by, standing_of}
+use Rattle.issue_standings.specs.GrantStanding.{after, after_issue, gone_by, standing_of}
 use Rattle.issue_standings.proofs.StandingLemmas.{find_nothing, find_same, not_gone, standing-unissued, standing_of-same}
 use Rattle.access_history.specs.declared.event.Event.{Event}
 use Rattle.access_history.specs.declared.event.Issue.{Issue}
@@ -36,7 +36,7 @@ use Rattle.pcfs_audit.proofs.PapersLemmas.{TellsBefore}
 -- ---- a grant's support, and how it stands before the event at a place
 
 -- the standing is what the support makes of it there
-abbrev Matches : ℕ → Standing → Support → Type 0
+abbrev Matches : ℕ → GrantStanding → Support → Type 0
 Matches place standings.Unissued kinds.Unissued = Unit {0}
 Matches place standings.Stands kinds.Always = Unit {0}
 Matches place standings.Stands (kinds.Until end) = place < end
@@ -44,7 +44,7 @@ Matches place (standings.GoneBy number) (kinds.Until end) = end ≤ place
 Matches place _ _ = ⊥
 
 -- one more issue, of whose statements the first ends there
-matches_after : (place : ℕ) (standing : Standing) (support : Support) (found end : Option ℕ) → Matches place standing support → is_past end place ≡ is_some found → Matches place (after standing found) (supported support end)
+matches_after : (place : ℕ) (standing : GrantStanding) (support : Support) (found end : Option ℕ) → Matches place standing support → is_past end place ≡ is_some found → Matches place (after standing found) (supported support end)
 matches_after place standings.Unissued kinds.Unissued None None h is = tt
 matches_after place standings.Unissued kinds.Unissued None (Some end) h is = leb-false end place is
 matches_after place standings.Unissued kinds.Unissued (Some number) None h is = absurd (false≢true is)
@@ -62,11 +62,11 @@ matches_after place (standings.GoneBy number) (kinds.Until before) None (Some en
 matches_after place (standings.GoneBy number) (kinds.Until before) (Some other) None h is = absurd (false≢true is)
 matches_after place (standings.GoneBy number) (kinds.Until before) (Some other) (Some end) h is = omega (arith, h, leb-true end place is)
 
-matches_if : (same : Bool) (place : ℕ) (standing : Standing) (support : Support) (found end : Option ℕ) → Matches place standing support → is_past end place ≡ is_some found → Matches place (cond same (after standing found) standing) (cond same (supported support end) support)
+matches_if : (same : Bool) (place : ℕ) (standing : GrantStanding) (support : Support) (found end : Option ℕ) → Matches place standing support → is_past end place ≡ is_some found → Matches place (cond same (after standing found) standing) (cond same (supported support end) support)
 matches_if true place standing support found end h is = matches_after place standing support found end h is
 matches_if false place standing support found end h is = h
 
-matches_all : (ends : List (Option ℕ)) (g : GrantView) (place : ℕ) (standing : Standing) (support : Support) (issues : List BearingView) → Matches place standing support →
+matches_all : (ends : List (Option ℕ)) (g : GrantView) (place : ℕ) (standing : GrantStanding) (support : Support) (issues : List BearingView) → Matches place standing support →
     Matches place (fold (after_issue (λ (number : ℕ). is_ended ends number place) g) standing issues) (fold (supported_by ends g) support issues)
 matches_all ends g place standing support [] h = h
 matches_all ends g place standing support (b ∷ issues) h =
@@ -74,7 +74,7 @@ matches_all ends g place standing support (b ∷ issues) h =
     matches_all ends g place (after_issue withdrawn g standing b) (supported_by ends g support b) issues
     (matches_if (grant_eq b.grant g) place standing support (find withdrawn b.cited) (first_end ends b.cited) h (first_end_tells ends b.cited place))
 
-gone_matches : (place : ℕ) (standing : Standing) (support : Support) → Matches place standing support → is_some (gone_by standing) ≡ has_lost support place
+gone_matches : (place : ℕ) (standing : GrantStanding) (support : Support) → Matches place standing support → is_some (gone_by standing) ≡ has_lost support place
 gone_matches place standings.Unissued kinds.Unissued h = refl
 gone_matches place standings.Unissued (kinds.Until end) h = absurd h
 gone_matches place standings.Unissued kinds.Always h = absurd h
@@ -90,7 +90,7 @@ gone_told : (ends : List (Option ℕ)) (g : GrantView) (place : ℕ) (state : Ba
 gone_told ends g place state same =
     let withdrawn : ℕ → Bool = λ (number : ℕ). is_ended ends number place in
     let issues = bearings state.issues in
-    ap (λ (standing : Standing). is_some (gone_by standing)) (standing_of-same (is_withdrawn state.statements) withdrawn same g issues)
+    ap (λ (standing : GrantStanding). is_some (gone_by standing)) (standing_of-same (is_withdrawn state.statements) withdrawn same g issues)
     ∙ gone_matches place (standing_of withdrawn g issues) (support_of ends g issues) (matches_all ends g place standings.Unissued kinds.Unissued issues tt)
 
 none_if : (found : Option ℕ) (lost : Bool) → is_some found ≡ lost → IsTrue (not lost) ↔ (found ≡ None)

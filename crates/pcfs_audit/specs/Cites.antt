@@ -15,4 +15,5 @@ pub record AreTheirs (statements : List StatementView) (numbers : List ℕ) (cit
 
 -- no good issue cites these numbers
 abbrev pub HasNoIssue : List StatementView → List ℕ → Type 0
-HasNoIssue statements numbers = (proof : ProofView) (g : GrantView) → IsGoodIssue statements (record { cited = numbers; proof = proof; grant = g }) → ⊥
+HasNoIssue statements numbers = (proof : ProofView) (g : GrantView) →
+    IsGoodIssue statements (record { cited = numbers; proof = proof; grant = g }) → ⊥

@@ -1,4 +1,5 @@
--- What of an event rests on papers alone, and on no world: its signature, its proof, its seals, and whether its grants were issued (this project's own).
+-- What of an event rests on papers alone, and on no world: its signature, its proof, its seals, and
+-- whether its grants were issued (this project's own).
 use Rattle.std.specs.Prelude.{◌≡◌, ◌↔◌, ℕ, List, Bool, length, take, Some, IsTrue, Contains}
 use Rattle.std.specs.List.{AllByRecursion, slice_get}
 use Rattle.bl_syntax.specs.Grant.{GrantView}
@@ -20,9 +21,12 @@ use Rattle.pcfs_audit.specs.Ends.{is_ended}
 use Rattle.pcfs_audit.specs.Finding.{IsByIssues}
 use Rattle.pcfs_audit.specs.Papers.{grants_in, shown}
 
--- a statement is signed, new, and has room; a statement that is withdrawn stands, and its withdrawal is signed; an issue may be issued; the procaps of an operation are sealed under the key
+-- a statement is signed, new, and has room; a statement that is withdrawn stands, and its
+-- withdrawal is signed; an issue may be issued; the procaps of an operation are sealed under the
+-- key
 abbrev pub IsGenuineEvent : Authority → BaseView → Event → Type 0
-IsGenuineEvent authority state (Registered pass statement signature) = IsSignedStatement authority statement signature × CanRegister (sayings state.statements) statement
+IsGenuineEvent authority state (Registered pass statement signature) = IsSignedStatement authority statement signature ×
+    CanRegister (sayings state.statements) statement
 IsGenuineEvent authority state (Withdrawn pass number signature) = MayBeWithdrawn authority (book_of state) number signature
 IsGenuineEvent authority state (Issued pass cited proof g) = MayBeIssued state (record { cited = cited; proof = proof; grant = g })
 IsGenuineEvent authority state (Acted pass caller op procaps moment) = AllByRecursion (IsGenuine authority.key) procaps
@@ -38,31 +42,39 @@ pub record HasCredentials (authority : Authority) (state : BaseView) (event : Ev
 
 -- they are those of the event at that place, from 0
 abbrev pub HasCredentialsAt : Authority → BaseView → List Event → ℕ → Credentials → Type 0
-HasCredentialsAt authority base events place credentials = (event : Event) → slice_get events place ≡ Some event → HasCredentials authority (replay base (take place events)) event credentials
+HasCredentialsAt authority base events place credentials = (event : Event) →
+    slice_get events place ≡ Some event →
+    HasCredentials authority (replay base (take place events)) event credentials
 
 -- they are those of all events, in order
 pub record AreCredentials (authority : Authority) (base : BaseView) (events : List Event) (all : List Credentials) : Type 0 where
   pub counted : length all ≡ length events
-  pub each : (place : ℕ) (credentials : Credentials) → slice_get all place ≡ Some credentials → HasCredentialsAt authority base events place credentials
+  pub each : (place : ℕ) (credentials : Credentials) → slice_get all place ≡ Some credentials →
+      HasCredentialsAt authority base events place credentials
 
 -- these were found of so many events, in order
 pub record AreFound (Finds : ℕ → Credentials → Type 0) (count : ℕ) (all : List Credentials) : Type 0 where
   pub counted : length all ≡ count
-  pub each : (place : ℕ) (credentials : Credentials) → slice_get all place ≡ Some credentials → Finds place credentials
+  pub each : (place : ℕ) (credentials : Credentials) → slice_get all place ≡ Some credentials →
+      Finds place credentials
 
 -- ---- what the papers tell of a state
 
--- before the event at that place the papers have so many statements and issues, which are those of the state, and tell which of its statements were withdrawn
+-- before the event at that place the papers have so many statements and issues, which are those of
+-- the state, and tell which of its statements were withdrawn
 pub record IsToldBy (papers : Papers) (before : Before) (place : ℕ) (state : BaseView) : Type 0 where
   pub said : sayings state.statements ≡ take before.statements (shown papers.statements.items)
   pub granted : grants_in state.issues ≡ take before.issues (shown papers.grants.items)
-  pub ended : (number : ℕ) → is_withdrawn state.statements number ≡ is_ended papers.ends.items number place
+  pub ended : (number : ℕ) →
+      is_withdrawn state.statements number ≡ is_ended papers.ends.items number place
 
 -- whether the issue may come in such a state
 abbrev pub TellsIssue : Papers → Before → ℕ → Issue → Bool → Type 0
-TellsIssue papers before place issue may = (state : BaseView) → IsToldBy papers before place state → IsTrue may ↔ MayBeIssued state issue
+TellsIssue papers before place issue may = (state : BaseView) → IsToldBy papers before place state →
+    IsTrue may ↔ MayBeIssued state issue
 
 -- the credentials of the event over such a state
 abbrev pub TellsCredentials : Authority → Papers → Before → ℕ → Event → Credentials → Type 0
 TellsCredentials authority papers before place event credentials =
-    (state : BaseView) → IsToldBy papers before place state → HasCredentials authority state event credentials
+    (state : BaseView) → IsToldBy papers before place state →
+    HasCredentials authority state event credentials

@@ -5,7 +5,8 @@ use Rattle.pcfs_audit.specs.declared.dossier.Dossier.{Dossier}
 use Rattle.pcfs_audit.specs.Firsts.{AreFirsts, grant_digests}
 use Rattle.pcfs_audit.specs.Papers.{ArePapers, shown}
 
--- its papers are those of its base and events, and of each statement and each grant the first equal one is found
+-- its papers are those of its base and events, and of each statement and each grant the first equal
+-- one is found
 pub record IsDossier (dossier : Dossier) : Type 0 where
   pub papers_are : ArePapers dossier.base.now dossier.events.now dossier.papers
   pub statements_found : AreFirsts (map digest_of (shown dossier.papers.statements.items)) dossier.statement_firsts.entries

@@ -1,4 +1,5 @@
--- The credentials of the events of a history under audit, under the key of its seal (this project's own).
+-- The credentials of the events of a history under audit, under the key of its seal (this project's
+-- own).
 use Rattle.std.specs.Prelude.{ℕ, List, Bool}
 use Rattle.pcfs_audit.specs.Credentials.{AreCredentials, HasCredentialsAt}
 use Rattle.pcfs_audit.specs.Report.{authority_by}
@@ -10,5 +11,6 @@ abbrev pub HasCredentialsIn : Dossier → (List ℕ → List ℕ → List ℕ �
 HasCredentialsIn dossier accepts = HasCredentialsAt (authority_by dossier.key accepts) dossier.base.now dossier.events.now
 
 -- they are those of all its events, in order, if these signatures are accepted
-abbrev pub AreCredentialsIn : Dossier → (List ℕ → List ℕ → List ℕ → Bool) → List Credentials → Type 0
+abbrev pub AreCredentialsIn : Dossier → (List ℕ → List ℕ → List ℕ → Bool) → List Credentials →
+    Type 0
 AreCredentialsIn dossier accepts = AreCredentials (authority_by dossier.key accepts) dossier.base.now dossier.events.now

@@ -10,7 +10,8 @@ use Rattle.access_history.specs.Base.{BaseView}
 use Rattle.access_history.specs.Numbered.{IsNumbered}
 use Rattle.access_history.specs.Replay.{replay}
 
--- An end is the place, from 0, of the first event before which a statement was withdrawn; none if it never was.
+-- An end is the place, from 0, of the first event before which a statement was withdrawn; none if
+-- it never was.
 
 -- the end of a statement of a base
 abbrev pub base_end : RegisteredView → Option ℕ
@@ -37,7 +38,8 @@ abbrev pub first_of_both : Option ℕ → ℕ → Option ℕ
 first_of_both None place = Some place
 first_of_both (Some end) place = Some end
 
--- the ends after the statement of that number was withdrawn before the event at that place; as they were if nothing has that number
+-- the ends after the statement of that number was withdrawn before the event at that place; as they
+-- were if nothing has that number
 abbrev pub ended_at : List (Option ℕ) → ℕ → ℕ → List (Option ℕ)
 ended_at [] number place = []
 ended_at (end ∷ ends) zero place = end ∷ ends
@@ -75,7 +77,8 @@ abbrev pub first_end : List (Option ℕ) → List ℕ → Option ℕ
 first_end ends [] = None
 first_end ends (number ∷ numbers) = earlier_end (end_of ends number) (first_end ends numbers)
 
--- the statement of the number is one of these, it was not withdrawn before the event at that place, and who said it signed its withdrawal
+-- the statement of the number is one of these, it was not withdrawn before the event at that place,
+-- and who said it signed its withdrawal
 pub record CouldBeWithdrawn (accepts : List ℕ → List ℕ → List ℕ → Bool) (statements : List StatementView) (ends : List (Option ℕ)) (place number : ℕ)
     (signature : List ℕ) : Type 0 where
   pub statement : StatementView

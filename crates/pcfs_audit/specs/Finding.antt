@@ -23,12 +23,17 @@ abbrev pub IsByIssues : BaseView → Event → Type 0
 IsByIssues state (Acted pass caller op procaps moment) = WereIssued state.issues procaps
 IsByIssues state _ = Unit {0}
 
--- The event passes the test whose failure is found under that name; it passes each test that does not concern it. A statement is signed, new, and has room; a withdrawal is signed, of a statement that stands; an issue is good and
--- cites statements that stand; an operation is not before the last one; its moment lies in the range, it brings what it has to, was admitted and not refused; and its grants were issued.
+-- The event passes the test whose failure is found under that name; it passes each test that does
+-- not concern it. A statement is signed, new, and has room; a withdrawal is signed, of a statement
+-- that stands; an issue is good and
+-- cites statements that stand; an operation is not before the last one; its moment lies in the
+-- range, it brings what it has to, was admitted and not refused; and its grants were issued.
 abbrev pub IsClearOf : Authority → BaseView → Event → Finding → Type 0
-IsClearOf authority state event Unsigned = IsSigned authority state event × (IsNew state event × NamesLive state event)
+IsClearOf authority state event Unsigned = IsSigned authority state event ×
+    (IsNew state event × NamesLive state event)
 IsClearOf authority state event Unproved = IsProved state event
-IsClearOf authority state event NotAdmitted = HasMomentInRange event × IsEffective authority state event
+IsClearOf authority state event NotAdmitted = HasMomentInRange event ×
+    IsEffective authority state event
 IsClearOf authority state event MomentFalls = IsNotBefore state event
 IsClearOf authority state event Unissued = IsByIssues state event
 

@@ -1,4 +1,5 @@
--- The first place of each digest, by which an equal item is found without going over all (this project's own; nothing but speed depends on it).
+-- The first place of each digest, by which an equal item is found without going over all (this
+-- project's own; nothing but speed depends on it).
 use Rattle.std.specs.Prelude.{◌≡◌, ◌≤◌, ◌<◌, ℕ, List, Option, Some, map, take}
 use Rattle.std.specs.BTreeMap.{is_at}
 use Rattle.std.specs.Int.{w64, from_be_bytes}
@@ -20,7 +21,8 @@ pub record HasFirst (entries : List (ℕ × ℕ)) (digest place : ℕ) : Type 0 
 
 -- for each of the digests a place is entered that is not after its own
 abbrev pub AreFirsts : List ℕ → List (ℕ × ℕ) → Type 0
-AreFirsts digests entries = (place digest : ℕ) → slice_get digests place ≡ Some digest → HasFirst entries digest place
+AreFirsts digests entries = (place digest : ℕ) → slice_get digests place ≡ Some digest →
+    HasFirst entries digest place
 
 -- all places that are entered are below this one
 abbrev pub AreBelow : List (ℕ × ℕ) → ℕ → Type 0

@@ -1,4 +1,5 @@
--- Laws of reports: a history has at most one; on a lawful history it has no wrong row; and a history whose report has none is lawful.
+-- Laws of reports: a history has at most one; on a lawful history it has no wrong row; and a
+-- history whose report has none is lawful.
 use Rattle.std.specs.Prelude.{◌≡◌, ◌↔◌, ◌≤◌, ◌+◌, ◌-◌, ◌^◌, List, length, Contains, Ok}
 use Rattle.std.specs.List.{AllByRecursion}
 use Rattle.bl_syntax.specs.Grant.{GrantView}
@@ -22,7 +23,8 @@ use Rattle.pcfs_audit.specs.Report.{IsReport}
 
 -- a history has at most one report
 abbrev pub ReportsAreDetermined : Type 0
-ReportsAreDetermined = (authority : Authority) (base : BaseView) (events : List Event) (first second : Report) → IsReport authority base events first → IsReport authority base events second → first ≡ second
+ReportsAreDetermined = (authority : Authority) (base : BaseView) (events : List Event) (first second : Report)
+    → IsReport authority base events first → IsReport authority base events second → first ≡ second
 
 -- no row is of a wrong event
 abbrev pub HasUnissuedRowsOnly : Report → Type 0
@@ -30,14 +32,20 @@ HasUnissuedRowsOnly report = (row : ReportRow) → Contains report.rows row → 
 
 -- the report on a lawful history has no wrong row
 abbrev pub LawfulHaveUnissuedRowsOnly : Type 0
-LawfulHaveUnissuedRowsOnly = (authority : Authority) (base : BaseView) (events : List Event) (report : Report) → IsLawful authority base events → IsReport authority base events report → HasUnissuedRowsOnly report
+LawfulHaveUnissuedRowsOnly = (authority : Authority) (base : BaseView) (events : List Event) (report : Report)
+    → IsLawful authority base events → IsReport authority base events report
+    → HasUnissuedRowsOnly report
 
 -- over a lawful base, a history whose report has no wrong row is lawful
 abbrev pub RightHistoriesAreLawful : Type 0
-RightHistoriesAreLawful = (authority : Authority) (base : BaseView) (events : List Event) (report : Report) → IsLawfulBase authority base → base.count + length events ≤ 2 ^ 48 - 1 → AllByRecursion IsTypedEvent events
-    → IsReport authority base events report → HasUnissuedRowsOnly report → IsLawful authority base events
+RightHistoriesAreLawful = (authority : Authority) (base : BaseView) (events : List Event) (report : Report)
+    → IsLawfulBase authority base → base.count + length events ≤ 2 ^ 48 - 1
+    → AllByRecursion IsTypedEvent events
+    → IsReport authority base events report → HasUnissuedRowsOnly report
+    → IsLawful authority base events
 
--- its numbers may be cited and have statements, and its grant is the verdict on its proof from these, in a form in which it is issued
+-- its numbers may be cited and have statements, and its grant is the verdict on its proof from
+-- these, in a form in which it is issued
 pub record HasVerdict (statements : List StatementView) (issue : Issue) : Type 0 where
   pub cites : List Cite
   pub cited : issue.cited ≡ numbers_of cites
@@ -47,6 +55,9 @@ pub record HasVerdict (statements : List StatementView) (issue : Issue) : Type 0
   pub verdict_is : verdict (statements_of cites) issue.grant.goal issue.proof ≡ Ok proved
   pub form : IsGrantOf proved (numbers_of cites) issue.grant
 
--- an issue by a proof that is kept, from statements that may be said, is good exactly if its numbers and its verdict are right
+-- an issue by a proof that is kept, from statements that may be said, is good exactly if its
+-- numbers and its verdict are right
 abbrev pub IssuesAreGoodByVerdict : Type 0
-IssuesAreGoodByVerdict = (statements : List StatementView) (issue : Issue) → AllByRecursion IsStatement statements → IsKeptProof issue.proof → IsGoodIssue statements issue ↔ HasVerdict statements issue
+IssuesAreGoodByVerdict = (statements : List StatementView) (issue : Issue)
+    → AllByRecursion IsStatement statements → IsKeptProof issue.proof → IsGoodIssue statements issue
+    ↔ HasVerdict statements issue

@@ -1,4 +1,6 @@
--- The papers of a history: its statements, before which event each was withdrawn, the grants that were issued, and how many statements and issues there were before each event (this project's own).
+-- The papers of a history: its statements, before which event each was withdrawn, the grants that
+-- were issued, and how many statements and issues there were before each event (this project's
+-- own).
 use Rattle.std.specs.Prelude.{◌≡◌, List, [], ◌∷◌, false, map, length}
 use Rattle.std.specs.Borrow.{Bor}
 use Rattle.std.specs.List.{AllByRecursion}

@@ -1,4 +1,5 @@
--- The report of an audit on a history: what is found with its events, up to the first with which something is wrong (this project's own).
+-- The report of an audit on a history: what is found with its events, up to the first with which
+-- something is wrong (this project's own).
 use Rattle.std.specs.Prelude.{◌≡◌, ◌<◌, ◌+◌, ◌⊎◌, ℕ, List, [], ◌∷◌, ◌++◌, length, count_by, Bool, Contains}
 use Rattle.access_history.specs.declared.event.Event.{Event}
 use Rattle.access_history.specs.Authority.{Authority}
@@ -15,7 +16,8 @@ authority_by key accepts = record { key = key; accepts = accepts }
 
 -- nothing is wrong with any of the events, each over the state to which those before it lead
 abbrev pub AreSound : Authority → BaseView → List Event → Type 0
-AreSound authority base events = (earlier later : List Event) (event : Event) → events ≡ earlier ++ event ∷ later → IsSound authority (replay base earlier) event
+AreSound authority base events = (earlier later : List Event) (event : Event) →
+    events ≡ earlier ++ event ∷ later → IsSound authority (replay base earlier) event
 
 -- the number of the event after these
 abbrev pub number_after : BaseView → List Event → ℕ
@@ -42,14 +44,19 @@ DoRowsRise [] = Unit {0}
 DoRowsRise (first ∷ []) = Unit {0}
 DoRowsRise (first ∷ second ∷ others) = (first.event < second.event) × DoRowsRise (second ∷ others)
 
--- These are the rows of the events. Each is right; and each event before which nothing is wrong has its row, if anything is found with it. So the rows end with the first event with which something is wrong.
+-- These are the rows of the events. Each is right; and each event before which nothing is wrong has
+-- its row, if anything is found with it. So the rows end with the first event with which something
+-- is wrong.
 pub record AreRows (authority : Authority) (base : BaseView) (events : List Event) (rows : List ReportRow) : Type 0 where
   pub rising : DoRowsRise rows
   pub right : (row : ReportRow) → Contains rows row → IsRow authority base events row
-  pub none_missing : (earlier later : List Event) (event : Event) → events ≡ earlier ++ event ∷ later → AreSound authority base earlier →
+  pub none_missing : (earlier later : List Event) (event : Event) →
+      events ≡ earlier ++ event ∷ later → AreSound authority base earlier →
       IsClean authority (replay base earlier) event ⊎ HasRowOf rows (number_after base earlier)
 
--- The report on the history of these events over this base, which is taken as it is. The rows end with the first wrong event. How many events, statements and issues there are is told of the state to which all events
+-- The report on the history of these events over this base, which is taken as it is. The rows end
+-- with the first wrong event. How many events, statements and issues there are is told of the state
+-- to which all events
 -- lead, also those after a wrong one.
 pub record IsReport (authority : Authority) (base : BaseView) (events : List Event) (report : Report) : Type 0 where
   pub events_are : report.events ≡ (replay base events).count

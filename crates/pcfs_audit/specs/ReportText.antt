@@ -1,4 +1,5 @@
--- The text of a report: a line with its numbers, and then a line for each row, all but the end of the last line (this project's own).
+-- The text of a report: a line with its numbers, and then a line for each row, all but the end of
+-- the last line (this project's own).
 use Rattle.std.specs.Prelude.{ℕ, List, ◌∷◌, ◌++◌, codes}
 use Rattle.std.specs.Fmt.{decimal}
 use Rattle.std.specs.List.{flat_map}
@@ -7,10 +8,15 @@ use Rattle.pcfs_audit.specs.declared.report.Finding.TheVariants.{Unsigned, Unpro
 use Rattle.pcfs_audit.specs.declared.report.Report.{Report}
 use Rattle.pcfs_audit.specs.declared.report.ReportRow.{ReportRow}
 
--- the number of the last event, of statements, of issues, and of rows of grants that were not issued before
+-- the number of the last event, of statements, of issues, and of rows of grants that were not
+-- issued before
 abbrev pub summary_text : Report → List ℕ
 summary_text report =
-    codes "events " ++ (decimal report.events ++ (codes " statements " ++ (decimal report.statements ++ (codes " issues " ++ (decimal report.issues ++ (codes " unissued " ++ decimal report.unissued))))))
+    codes "events " ++ (decimal report.events
+    ++ (codes " statements "
+    ++ (decimal report.statements
+    ++ (codes " issues " ++ (decimal report.issues
+    ++ (codes " unissued " ++ decimal report.unissued))))))
 
 -- the word for a finding, and a space
 abbrev pub finding_text : Finding → List ℕ

@@ -1,4 +1,5 @@
--- Until when grants that were issued have support: an issue of whose statements none was withdrawn (this project's own).
+-- Until when grants that were issued have support: an issue of whose statements none was withdrawn
+-- (this project's own).
 use Rattle.std.specs.Prelude.{◌≡◌, ◌≤◌, ◌↔◌, ℕ, List, [], ◌∷◌, ◌++◌, Bool, true, false, IsTrue, if◌then◌else◌, nat_le, max, Option, Some, None, MatchOption, Contains, fold, length}
 use Rattle.std.specs.List.{AllByRecursion, slice_get}
 use Rattle.bl_syntax.specs.Equality.{grant_eq}
@@ -48,23 +49,28 @@ pub record IsFirstOf (grants : List GrantView) (g : GrantView) (row : ℕ) : Typ
 
 -- in the row of each grant's first place stands its support by these issues
 abbrev pub AreSupports : List GrantView → List (Option ℕ) → List Issue → List Support → Type 0
-AreSupports grants ends issues rows = (g : GrantView) (row : ℕ) → IsFirstOf grants g row → slice_get rows row ≡ Some (support_of ends g (bearings issues))
+AreSupports grants ends issues rows = (g : GrantView) (row : ℕ) → IsFirstOf grants g row
+    → slice_get rows row ≡ Some (support_of ends g (bearings issues))
 
 abbrev pub AreSupportsOf : Dossier → List Issue → List Support → Type 0
 AreSupportsOf dossier issues rows = AreSupports (shown dossier.papers.grants.items) dossier.papers.ends.items issues rows
 
--- if the digest is the grant's, this is the place of the first grant that is this one, of all that are ever issued; none if none is
+-- if the digest is the grant's, this is the place of the first grant that is this one, of all that
+-- are ever issued; none if none is
 abbrev pub IsRowFor : Dossier → ℕ → GrantView → Option ℕ → Type 0
 IsRowFor dossier digest g row =
     let grants = shown dossier.papers.grants.items in
-    digest ≡ grant_digest dossier.key g → MatchOption row (Contains grants g → ⊥) (IsFirstOf grants g)
+    digest ≡ grant_digest dossier.key g
+    → MatchOption row (Contains grants g → ⊥) (IsFirstOf grants g)
 
--- there is a row for each grant; if some statement is ever withdrawn, they are the supports by these issues
+-- there is a row for each grant; if some statement is ever withdrawn, they are the supports by
+-- these issues
 pub record FollowIssues (dossier : Dossier) (issues : List Issue) (supports : Supports) : Type 0 where
   pub sized : length supports.rows.items ≡ length dossier.papers.grants.items
   pub rows_are : dossier.papers.has_ended ≡ true → AreSupportsOf dossier issues supports.rows.items
 
--- they tell which grants are gone in a state: they follow its issues, whose grants are all among the papers, and the ends tell which of its statements were withdrawn
+-- they tell which grants are gone in a state: they follow its issues, whose grants are all among
+-- the papers, and the ends tell which of its statements were withdrawn
 pub record TellsGone (dossier : Dossier) (supports : Supports) (state : BaseView) : Type 0 where
   pub follow : FollowIssues dossier state.issues supports
   pub known : AllByRecursion (λ (issue : Issue). Contains (shown dossier.papers.grants.items) issue.grant) state.issues
@@ -75,25 +81,30 @@ pub record TellsGone (dossier : Dossier) (supports : Supports) (state : BaseView
 -- the rows count one more issue with this grant and these numbers
 abbrev pub CountsIssue : Dossier → GrantView → List ℕ → List Support → List Support → Type 0
 CountsIssue dossier g cited old new =
-    (issues : List Issue) (issue : Issue) → issue.grant ≡ g → issue.cited ≡ cited → AreSupportsOf dossier issues old
+    (issues : List Issue) (issue : Issue) → issue.grant ≡ g → issue.cited ≡ cited
+    → AreSupportsOf dossier issues old
     → AreSupportsOf dossier (issues ++ issue ∷ []) new
 
 -- they follow one more issue with this grant and these numbers
 abbrev pub FollowsIssue : Dossier → GrantView → List ℕ → Supports → Supports → Type 0
 FollowsIssue dossier g cited old new =
-    (issues : List Issue) (issue : Issue) → issue.grant ≡ g → issue.cited ≡ cited → FollowIssues dossier issues old
+    (issues : List Issue) (issue : Issue) → issue.grant ≡ g → issue.cited ≡ cited
+    → FollowIssues dossier issues old
     → FollowIssues dossier (issues ++ issue ∷ []) new
 
 -- they follow the issues after the event
 abbrev pub FollowsEvent : Dossier → Event → Supports → Supports → Type 0
-FollowsEvent dossier event old new = (state : BaseView) → FollowIssues dossier state.issues old → FollowIssues dossier (next_state state event).issues new
+FollowsEvent dossier event old new = (state : BaseView) → FollowIssues dossier state.issues old
+    → FollowIssues dossier (next_state state event).issues new
 
 -- whether the grant of the procap is not gone, if its seal is right
 abbrev pub TellsStanding : Dossier → Supports → Procap → Bool → Type 0
 TellsStanding dossier supports p stands =
-    (state : BaseView) → TellsGone dossier supports state → IsGenuine dossier.key p → IsTrue stands ↔ (gone state p.grant ≡ None)
+    (state : BaseView) → TellsGone dossier supports state → IsGenuine dossier.key p → IsTrue stands
+    ↔ (gone state p.grant ≡ None)
 
 -- whether the grant of the procap is not gone by its issues, if its seal is right
 abbrev pub TellsStandingByIssues : Dossier → Supports → Procap → Bool → Type 0
 TellsStandingByIssues dossier supports p stands =
-    (state : BaseView) → TellsGone dossier supports state → IsGenuine dossier.key p → IsTrue stands ↔ (gone_by_issues state p.grant ≡ None)
+    (state : BaseView) → TellsGone dossier supports state → IsGenuine dossier.key p → IsTrue stands
+    ↔ (gone_by_issues state p.grant ≡ None)

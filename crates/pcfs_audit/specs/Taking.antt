@@ -22,19 +22,24 @@ pub record IsBrought (op : Op) (procaps : List Procap) (moment : ℤ) : Type 0 w
 
 -- the operation is not refused, and its change was made; or it is, and the world is as it was
 abbrev pub TakesPlace : List ℕ → Op → World → Bool → World → Type 0
-TakesPlace caller op before true after = (refusal before op ≡ None) × (after ≡ world_after caller before op)
+TakesPlace caller op before true after = (refusal before op ≡ None)
+    × (after ≡ world_after caller before op)
 TakesPlace caller op before false after = (refusal before op ≢ None) × (after ≡ before)
 
--- ---- what tests tell, by the world of the state, what is gone in it, and whether seals are known to be right
+-- ---- what tests tell, by the world of the state, what is gone in it, and whether seals are known
+-- to be right
 
 -- whether the procap passes all tests
 abbrev pub TellsAdmits : World → Dossier → Supports → Bool → Procap → Goal → ℤ → Bool → Type 0
 TellsAdmits world dossier supports is_sealed p wanted moment passes =
-    (state : BaseView) → state.world ≡ world → TellsGone dossier supports state → (IsTrue is_sealed → IsGenuine dossier.key p)
+    (state : BaseView) → state.world ≡ world → TellsGone dossier supports state
+    → (IsTrue is_sealed → IsGenuine dossier.key p)
     → IsTrue passes ↔ Admits dossier.key state moment wanted p
 
 -- whether the operation is admitted
-abbrev pub TellsAdmitted : World → Dossier → Supports → Bool → List ℕ → Op → List Procap → ℤ → Bool → Type 0
+abbrev pub TellsAdmitted : World → Dossier → Supports → Bool → List ℕ → Op → List Procap → ℤ → Bool
+    → Type 0
 TellsAdmitted world dossier supports are_sealed caller op procaps moment admitted =
-    (state : BaseView) → state.world ≡ world → TellsGone dossier supports state → (IsTrue are_sealed → AllByRecursion (IsGenuine dossier.key) procaps)
+    (state : BaseView) → state.world ≡ world → TellsGone dossier supports state
+    → (IsTrue are_sealed → AllByRecursion (IsGenuine dossier.key) procaps)
     → IsTrue admitted ↔ IsAdmitted dossier.key state caller op procaps moment

@@ -21,7 +21,8 @@ use world_state::World;
 
 // Whether the seal of the procap is right. It is not tested if that is known.
 fn is_right(key: &SealKey, is_sealed: bool, procap: &Procap) -> bool
-    ensures { (IsTrue is_sealed → IsGenuine key.now procap.now) → IsTrue result ↔ IsGenuine key.now procap.now }
+    ensures { (IsTrue is_sealed → IsGenuine key.now procap.now) →
+        IsTrue result ↔ IsGenuine key.now procap.now }
 {
     if is_sealed {
         return true;

@@ -28,7 +28,9 @@ fn report_rows(
     requires dossier { IsDossier dossier.now }
     requires counted { dossier.now.base.now.count + length dossier.now.events.now ≤ 2 ^ 48 - 1 }
     requires all { length all.now ≡ length dossier.now.events.now }
-    ensures { IfOk result (λ rows. (accepts : List ℕ → List ℕ → List ℕ → Bool) → AreCredentials (authority_by dossier.now.key accepts) dossier.now.base.now dossier.now.events.now all.now
+    ensures { IfOk result (λ rows. (accepts : List ℕ → List ℕ → List ℕ → Bool) →
+        AreCredentials (authority_by dossier.now.key accepts) dossier.now.base.now
+        dossier.now.events.now all.now
         → AreRows (authority_by dossier.now.key accepts) dossier.now.base.now dossier.now.events.now rows) }
 {
     let mut auditor = auditor_at(alloc, dossier.base)?;
@@ -50,7 +52,9 @@ fn report_on(alloc: Global, dossier: &Dossier, all: &[Credentials]) -> Result<Re
     requires dossier { IsDossier dossier.now }
     requires counted { dossier.now.base.now.count + length dossier.now.events.now ≤ 2 ^ 48 - 1 }
     requires all { length all.now ≡ length dossier.now.events.now }
-    ensures { IfOk result (λ report. (accepts : List ℕ → List ℕ → List ℕ → Bool) → AreCredentials (authority_by dossier.now.key accepts) dossier.now.base.now dossier.now.events.now all.now
+    ensures { IfOk result (λ report. (accepts : List ℕ → List ℕ → List ℕ → Bool) →
+        AreCredentials (authority_by dossier.now.key accepts) dossier.now.base.now
+        dossier.now.events.now all.now
         → IsReport (authority_by dossier.now.key accepts) dossier.now.base.now dossier.now.events.now report) }
 {
     let rows = report_rows(alloc, dossier, all)?;

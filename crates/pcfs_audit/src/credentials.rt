@@ -203,7 +203,9 @@ pub fn credentials_in_order<S: Signatures>(
     ring: &S,
 ) -> Result<Vec<Credentials>, NoMemory>
     requires { IsDossier dossier.now }
-    ensures { IfOk result (λ all. AreCredentials (authority_by dossier.now.key (S.Signatures.accepted ring.now)) dossier.now.base.now dossier.now.events.now all.items) }
+    ensures { IfOk result (λ all.
+        AreCredentials (authority_by dossier.now.key (S.Signatures.accepted ring.now))
+        dossier.now.base.now dossier.now.events.now all.items) }
 {
     let mut all = Vec::new(alloc);
     for place in 0..dossier.events.len() {

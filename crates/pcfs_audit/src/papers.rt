@@ -73,7 +73,8 @@ fn base_papers<'a>(alloc: Global, base: &'a Base) -> Result<Papers<'a>, NoMemory
 
 // The papers with those of one more event.
 fn with_event<'a>(papers: Papers<'a>, event: &'a Event) -> Result<Papers<'a>, NoMemory>
-    ensures { IfOk result (λ after. (base : BaseView) (events : List EventView) → ArePapers base events papers.entry → ArePapers base (events ++ event.now ∷ []) after) }
+    ensures { IfOk result (λ after. (base : BaseView) (events : List EventView) →
+        ArePapers base events papers.entry → ArePapers base (events ++ event.now ∷ []) after) }
 {
     let mut papers = papers;
     let before = Before {

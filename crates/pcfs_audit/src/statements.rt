@@ -62,7 +62,10 @@ pub fn could_be_registered<S: Signatures>(
 ) -> Result<bool, NoMemory>
     requires dossier { IsDossier dossier.now }
     requires within { earlier ≤ length dossier.now.papers.statements.items }
-    ensures { IfOk result (λ could. IsTrue could ↔ (IsTrue (S.Signatures.accepted ring.now statement.now.who (statement_message statement.now) signature.now) × CanRegister (take earlier (shown dossier.now.papers.statements.items)) statement.now)) }
+    ensures { IfOk result (λ could.
+        IsTrue could ↔ (IsTrue (S.Signatures.accepted ring.now statement.now.who
+        (statement_message statement.now) signature.now)
+        × CanRegister (take earlier (shown dossier.now.papers.statements.items)) statement.now)) }
 {
     let message = statement_message(alloc, statement)?;
     if !ring.accepts(statement.who().bytes(), message.as_slice(), signature) {

@@ -93,7 +93,8 @@ fn count_issue(rows: &mut Vec<Support>, dossier: &Dossier, grant: &Grant, cited:
 fn count_base(rows: &mut Vec<Support>, dossier: &Dossier)
     requires dossier { IsDossier dossier.now }
     requires sized { length rows.old.items ≡ length dossier.now.papers.grants.items }
-    ensures rows { AreSupportsOf dossier.now [] rows.old.items → AreSupportsOf dossier.now dossier.now.base.now.issues rows.new.items }
+    ensures rows { AreSupportsOf dossier.now [] rows.old.items
+        → AreSupportsOf dossier.now dossier.now.base.now.issues rows.new.items }
     ensures sized { length rows.new.items ≡ length rows.old.items }
 {
     let issues = dossier.base.issues();
@@ -196,7 +197,8 @@ impl Supports {
 
     // Whether the support in that row is not lost.
     fn has_support(&self, row: usize) -> bool
-        ensures { (support : Support) → slice_get self.now.rows.items row ≡ Some support → result ≡ not (has_lost support self.now.place) }
+        ensures { (support : Support) → slice_get self.now.rows.items row ≡ Some support
+            → result ≡ not (has_lost support self.now.place) }
     {
         match self.rows.get(row) {
             None => true,

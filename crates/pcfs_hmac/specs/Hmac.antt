@@ -1,4 +1,5 @@
--- HMAC (RFC 2104, section 2) where H is SHA-256 (FIPS 180-4), as sha2 defines it for every length, and B
+-- HMAC (RFC 2104, section 2) where H is SHA-256 (FIPS 180-4), as sha2 defines it for every length,
+-- and B
 -- is 64. A key, a text and a digest are lists of bytes, and the names are the RFC's.
 use Rattle.std.specs.Prelude.{ℕ, ◌-◌, List, [], ◌∷◌, ◌++◌, length, replicate, nat_lt, bit_xor, if◌then◌else◌}
 use Rattle.sha2.specs.Sha256.{sha256}

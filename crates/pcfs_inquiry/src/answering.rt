@@ -97,7 +97,9 @@ fn end_with(status: u8, line: Result<Bytes, NoMemory>) -> Result<InquiryEnd, NoM
 /// Reads the input to its end and answers the inquiry in it. What ends it otherwise is told with its status: 2, a line is
 /// too long; 6, the input failed; 12, a line is wrong; 13, the input has 1 GiB or more.
 pub fn answer_input<I: Source>(alloc: Global, input: &mut I) -> Result<InquiryEnd, NoMemory>
-    ensures { IfOk result (λ end. (text : List ℕ) × (end.line ≡ text ++ 10 ∷ []) × InquiryEnds (I.left input.old) (I.left input.new) (I.faults input.old) (I.faults input.new) end.status text) }
+    ensures { IfOk result (λ end. (text : List ℕ) × (end.line ≡ text ++ 10 ∷ [])
+        × InquiryEnds (I.left input.old) (I.left input.new) (I.faults input.old)
+        (I.faults input.new) end.status text) }
 {
     let bytes = match read_to_end(alloc, input) {
         Ok(bytes) => bytes,

@@ -6,6 +6,7 @@ ghost use Rattle.pcfs_inquiry.specs.Inquiry.{IsOutOfPlace};
 ghost use Rattle.pcfs_inquiry.specs.Reading.{IsAskedAfter, IsEnding, IsRead, IsUnread, IsUnreadAfter, fault_at};
 ghost use Rattle.pcfs_inquiry.specs.declared.reading.InquiryFault.TheVariants.{NoMemory as OutOfMemory};
 
+use bl_syntax::limits::MOST_CITED;
 use bl_syntax::{Goal, NoMemory};
 use line_forms::{Line, LineFault, Mode, read_line_in};
 use line_text::first_line;
@@ -13,9 +14,6 @@ use line_words::first_word;
 use proof_term::ProofTree;
 use proof_verifier::{Cite, Cites};
 use std::alloc::{AllocFailed, Global};
-
-/// The most statements of an inquiry.
-const MOST_STATEMENTS: usize = 64;
 
 /// An inquiry: statements by their numbers from 1, a goal, and a proof of it from all of them.
 #[derive(Debug, Drop)]
@@ -47,7 +45,7 @@ fn is_out_of_place(count: usize, line: &[u8]) -> bool
     ensures { IsTrue result ↔ IsOutOfPlace count line.now }
 {
     let (word, _) = first_word(line);
-    if MOST_STATEMENTS <= count && word == b"statement".as_slice() {
+    if MOST_CITED <= count && word == b"statement".as_slice() {
         return true;
     }
     count == 0 && word == b"goal".as_slice()
@@ -80,7 +78,9 @@ fn with_goal(
     proof: ProofTree,
     others: &[u8],
 ) -> Result<Inquiry, InquiryFault>
-    ensures { (lines : List (List ℕ)) → IsEnding lines cites.items goal proof (lines_of others.now) → MatchResult result (IsRead lines) (IsUnread lines) }
+    ensures { (lines : List (List ℕ)) →
+        IsEnding lines cites.items goal proof (lines_of others.now) →
+        MatchResult result (IsRead lines) (IsUnread lines) }
 {
     match first_line(others) {
         Some(_) => Err(InquiryFault::Bad(cites.as_slice().len() + 2, LineFault::BadWord(0))),

@@ -15,7 +15,7 @@ use Rattle.mode_policy.specs.Reading.{IsFaultOf}
 use Rattle.mode_policy.specs.Statements.{statements_of}
 use Rattle.mode_policy.specs.Stating.{GivesStatements}
 use Rattle.mode_policy.specs.Table.{TableView}
-use Rattle.pcfs_ports.specs.Told.{ReadsToEnd}
+use Rattle.pcfs_ports.specs.Observable.{ReadsToEnd}
 use Rattle.pcfs_modes.specs.Answers.{ComesTo, ModesEnds, StatesTable, answered, bad_line, of_table, stated, too_many, twice}
 use Rattle.pcfs_modes.specs.ModesText.{fault_line, register_lines}
 use Rattle.pcfs_modes.specs.declared.answering.ModesEnd.{ModesEnd}

@@ -6,8 +6,10 @@ use Rattle.pcfs_modes.specs.Answers.{ComesTo}
 -- lines come to one end at most
 abbrev pub HasOneEnd : Type 0
 HasOneEnd = (from to : TimePoint) (lines : List (List ℕ)) (status other : ℕ) (written another : List ℕ)
-    → ComesTo from to lines status written → ComesTo from to lines other another → (status ≡ other) × (written ≡ another)
+    → ComesTo from to lines status written → ComesTo from to lines other another → (status ≡ other)
+    × (written ≡ another)
 
 -- lines come to an end
 abbrev pub HasAnEnd : Type 0
-HasAnEnd = (from to : TimePoint) (lines : List (List ℕ)) → (status : ℕ) × (written : List ℕ) × ComesTo from to lines status written
+HasAnEnd = (from to : TimePoint) (lines : List (List ℕ)) → (status : ℕ) × (written : List ℕ)
+    × ComesTo from to lines status written

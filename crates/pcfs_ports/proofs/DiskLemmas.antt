@@ -3,7 +3,7 @@ use Rattle.std.proofs.Common.{◌≡◌, ◌⊎◌, ℕ, ◌+◌, ◌-◌, ◌�
 use Rattle.std.proofs.lemmas.Bool.{cases_lt}
 use Rattle.std.proofs.lemmas.List.{append-nil, take_all, take_min, drop_all, take-append-le, take-replicate, length-replicate}
 use Rattle.std.proofs.Math.Seq.{take-append-add}
-use Rattle.pcfs_ports.specs.Disk.{written, written_after_gap, Torn, TornFrom, LeftNow, Elapses, Idles, IsPinned}
+use Rattle.pcfs_ports.specs.Disk.{written_after_gap, Torn, TornFrom, LeftNow, Elapses, Idles, IsPinned}
 use Rattle.pcfs_ports.specs.MemoryDisk.{MemoryDiskView, image_by, image_after, left_by, left_after, disk_image, disk_clock, disk_left_since}
 use Rattle.pcfs_ports.specs.DiskLaws.{image_stays, left_since_earlier}
 use Rattle.pcfs_ports.specs.declared.disk_call.DiskCall.{DiskCall}

@@ -1,8 +1,8 @@
 -- What a crash that a test asks for leaves is among what a crash may leave.
-use Rattle.std.proofs.Common.{◌≡◌, ℕ, ◌+◌, ◌-◌, ◌≤◌, ◌<◌, ◌==◌, ◌⊎◌, min, Bool, true, false, cond, List, [], ◌∷◌, ◌++◌, length, take, drop, replicate, get_or, refl, sym, ◌∙◌, ap, subst, inl, inr, arith, eq-eqb, append_assoc, length-append, length-take, length-drop}
+use Rattle.std.proofs.Common.{◌≡◌, ℕ, ◌+◌, ◌-◌, ◌≤◌, ◌<◌, ◌==◌, ◌⊎◌, min, Bool, true, false, cond, List, [], ◌∷◌, ◌++◌, length, take, drop, replicate, get_or, refl, sym, ◌∙◌, ap, inl, inr, arith, eq-eqb, append_assoc, length-append, length-take, length-drop}
 use Rattle.std.proofs.lemmas.List.{take_at, drop_at, drop-drop, at_drop_more, take_all, length-replicate}
 use Rattle.pcfs_ports.specs.Disk.{written, written_after_gap, Torn, TornFrom}
-use Rattle.pcfs_ports.specs.MemoryDisk.{MemoryDiskView, image_by, left_by, left_after, disk_clock, disk_left_since}
+use Rattle.pcfs_ports.specs.MemoryDisk.{MemoryDiskView, image_by, left_after, disk_clock, disk_left_since}
 use Rattle.pcfs_ports.specs.Stopped.{stopped_piece, stopped_by, stopped_after, stopped_image}
 use Rattle.pcfs_ports.specs.declared.disk_call.DiskCall.{DiskCall}
 use Rattle.pcfs_ports.specs.declared.disk_call.DiskCall.TheVariants.{Wrote, Synced}

@@ -2,7 +2,7 @@
 use Rattle.std.proofs.Common.{◌≡◌, ℕ, ◌+◌, ◌≤◌, List, ◌++◌, length, take, drop, None, Some, Result, Ok, Err, OnErr, refl, ap, arith, append_assoc, length-append, sym, ◌∙◌}
 use Rattle.std.specs.Prelude.{Option}
 use Rattle.std.proofs.Math.Seq.{take-add, drop-append_seam, drop-append-add}
-use Rattle.pcfs_ports.specs.Told.{with_front, with_back, TakesFirst, TakesSome}
+use Rattle.pcfs_ports.specs.Observable.{with_front, with_back, TakesFirst, TakesSome}
 
 -- bytes and then more bytes after what is held
 pub with_back-with_back : (told : Option (List ℕ)) (a b : List ℕ) →

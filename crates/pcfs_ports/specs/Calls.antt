@@ -23,7 +23,8 @@ no_fused_calls first = record { failing = []; fuse = Some first; made = 0; fault
 
 -- the next call is one that fails
 abbrev pub FailsNext : CallPlanView → Type 0
-FailsNext calls = Contains calls.failing calls.made ⊎ IsSomeAnd calls.fuse (λ first. first ≤ calls.made)
+FailsNext calls = Contains calls.failing calls.made ⊎
+    IsSomeAnd calls.fuse (λ first. first ≤ calls.made)
 
 -- one more call was made
 abbrev pub after_call : CallPlanView → CallPlanView

@@ -12,7 +12,12 @@ module _ (at : ℕ) (piece image : List ℕ) where
   front = take at image ++ replicate (at - length image) 0
 
   pub length-front : length (take at image ++ replicate (at - length image) 0) ≡ at
-  length-front = omega (arith, length-append (take at image) (replicate (at - length image) 0), length-take at image, length-replicate {A = ℕ} (at - length image) 0)
+  length-front = omega (
+    arith,
+    length-append (take at image) (replicate (at - length image) 0),
+    length-take at image,
+    length-replicate {A = ℕ} (at - length image) 0,
+  )
 
   pub drop_written : drop at (written at piece image) ≡ piece ++ drop (at + length piece) image
   drop_written =
@@ -51,13 +56,15 @@ module _ (at : ℕ) (piece image : List ℕ) where
   }
 
 -- the image is among what a crash may leave
-image_left : (calls : List DiskCall) (image : List ℕ) (outcomes : List ℕ → Type 0) → outcomes image → left_after image outcomes calls (image_after image calls)
+image_left : (calls : List DiskCall) (image : List ℕ) (outcomes : List ℕ → Type 0) →
+    outcomes image → left_after image outcomes calls (image_after image calls)
 image_left [] image outcomes here = here
 image_left (Wrote at piece ∷ calls) image outcomes here =
     image_left calls (written at piece image) (TornFrom at piece outcomes) (image, here, torn_written at piece image)
 image_left (Synced ∷ calls) image outcomes here = image_left calls image (λ bytes. bytes ≡ image) refl
 
-pub image_stays : (disk : MemoryDiskView) (bytes : List ℕ) → disk_image disk ≡ Some bytes → disk_left_since disk (disk_clock disk) bytes
+pub image_stays : (disk : MemoryDiskView) (bytes : List ℕ) → disk_image disk ≡ Some bytes →
+    disk_left_since disk (disk_clock disk) bytes
 image_stays disk bytes is =
     let all : take (length disk.made) disk.made ≡ disk.made = take_all (length disk.made) disk.made (omega arith) in
     let same : image_after disk.start disk.made ≡ bytes = cc in
@@ -65,7 +72,8 @@ image_stays disk bytes is =
     rw all (image_left disk.made disk.start (λ begun. begun ≡ disk.start) refl) in
     (length disk.made, omega arith, omega arith, subst (left_after disk.start (λ begun. begun ≡ disk.start) (take (length disk.made) disk.made)) same left)
 
-pub left_since_earlier : (disk : MemoryDiskView) (t u : ℕ) (bytes : List ℕ) → t ≤ u → disk_left_since disk u bytes → disk_left_since disk t bytes
+pub left_since_earlier : (disk : MemoryDiskView) (t u : ℕ) (bytes : List ℕ) → t ≤ u →
+    disk_left_since disk u bytes → disk_left_since disk t bytes
 left_since_earlier disk t u bytes le left = (left.0, omega (arith, le, left.1), left.2, left.3)
 
 -- a disk that tells nothing has no image

@@ -1,5 +1,5 @@
 pub mod Faults
-pub mod Told
+pub mod Observable
 pub mod Calls
 pub mod MemorySource
 pub mod MemorySink

@@ -25,7 +25,8 @@ abbrev pub image_after : List ℕ → List DiskCall → List ℕ
 image_after image [] = image
 image_after image (call ∷ calls) = image_after (image_by call image) calls
 
--- What a crash may leave after one more of these calls, if before it a read gave this image and a crash might leave
+-- What a crash may leave after one more of these calls, if before it a read gave this image and a
+-- crash might leave
 -- these outcomes. A write tears each of them, and a sync leaves the image alone.
 abbrev pub left_by : DiskCall → List ℕ → (List ℕ → Type 0) → List ℕ → Type 0
 left_by (Wrote at piece) image outcomes = TornFrom at piece outcomes
@@ -44,7 +45,8 @@ disk_image disk = Some (image_after disk.start disk.made)
 abbrev pub disk_clock : MemoryDiskView → ℕ
 disk_clock disk = length disk.made
 
--- A crash after some of its calls, at least as many as t, may have left these bytes. It began with nothing pending. A
+-- A crash after some of its calls, at least as many as t, may have left these bytes. It began with
+-- nothing pending. A
 -- crash within a call leaves what one before it or after it may leave.
 abbrev pub disk_left_since : MemoryDiskView → ℕ → List ℕ → Type 0
 disk_left_since disk t bytes = (done : ℕ) × (t ≤ done) × (done ≤ length disk.made) ×

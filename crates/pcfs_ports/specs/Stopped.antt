@@ -5,15 +5,18 @@ use Rattle.pcfs_ports.specs.MemoryDisk.{MemoryDiskView, image_by}
 use Rattle.pcfs_ports.specs.declared.disk_call.DiskCall.{DiskCall}
 use Rattle.pcfs_ports.specs.declared.disk_call.DiskCall.TheVariants.{Wrote, Synced}
 
--- Below, each piece that was written and not synced is put in its place in order: `fill` for each byte of one of other
--- than one byte; one of a single byte as it is if `kept`, else nothing. The gap before its place, also of a byte that is
+-- Below, each piece that was written and not synced is put in its place in order: `fill` for each
+-- byte of one of other
+-- than one byte; one of a single byte as it is if `kept`, else nothing. The gap before its place,
+-- also of a byte that is
 -- not kept, holds `fill`.
 module _ (fill : ℕ) (kept : Bool) where
   -- what a crash puts in place of a piece that was written and not synced
   abbrev pub stopped_piece : List ℕ → List ℕ
   stopped_piece piece = if length piece == 1 then (if kept then piece else []) else replicate (length piece) fill
 
-  -- what the crash leaves after one more of these calls, if before it a read gave this image and the crash left these
+  -- what the crash leaves after one more of these calls, if before it a read gave this image and
+  -- the crash left these
   -- bytes
   abbrev pub stopped_by : DiskCall → List ℕ → List ℕ → List ℕ
   stopped_by (Wrote at piece) image left = written_after_gap fill at (stopped_piece piece) left

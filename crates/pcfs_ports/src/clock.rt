@@ -3,14 +3,9 @@
 ghost use Rattle.std.specs.Prelude.{ℤ};
 ghost use Rattle.bl_syntax.specs.TimeOrder.{IsMoment};
 
+use bl_syntax::limits::{FIRST_MOMENT, LAST_MOMENT};
 use std::rt;
 use std::sync::atomic::{AtomicI64, Ordering};
-
-/// 0001-01-01T00:00:00Z, in whole seconds from 1970-01-01T00:00:00Z.
-const FIRST_MOMENT: i64 = -62_135_596_800;
-
-/// 9999-12-31T23:59:59Z.
-const LAST_MOMENT: i64 = 253_402_300_799;
 
 /// Tells the time, in whole seconds from 1970-01-01T00:00:00Z, from 0001-01-01T00:00:00Z to 9999-12-31T23:59:59Z.
 ///

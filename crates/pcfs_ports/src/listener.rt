@@ -47,7 +47,8 @@ pub trait Listener {
     fn accept(&mut self, alloc: Global) -> Accepted<Self::In, Self::Out>
         ensures waiting { FallsBy (count_of result) (waiting self.old) (waiting self.new) }
         ensures closed { result ≡ Accepted.Closed → over self.new }
-        ensures none_left { result ≡ Accepted.Closed → IfSome (waiting self.new) (λ left. left ≡ 0) }
+        ensures none_left { result ≡ Accepted.Closed →
+            IfSome (waiting self.new) (λ left. left ≡ 0) }
         ensures risen { result ≡ Accepted.Failed → HasRisen (faults self.old) (faults self.new) }
         ensures never_falls { faults self.old ≤ faults self.new };
 }
@@ -116,7 +117,8 @@ impl Listener for MemoryListener {
 
     fn accept(&mut self, _alloc: Global) -> Accepted<MemorySource, MemorySink>
         ensures planned { (result ≡ Accepted.Failed) ↔ FailsNext self.old.calls }
-        ensures failed { result ≡ Accepted.Failed → self.new ≡ record self.old { calls = after_failed_call self.old.calls } }
+        ensures failed { result ≡ Accepted.Failed →
+            self.new ≡ record self.old { calls = after_failed_call self.old.calls } }
 
         // Else it gives the first connection, and is closed if there is none.
         ensures closed { result ≡ Accepted.Closed → self.old.queue ≡ [] }

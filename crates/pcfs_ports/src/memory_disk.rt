@@ -218,7 +218,8 @@ impl Disk for MemoryDisk {
 
     fn write_at(&mut self, at: u64, piece: &[u8]) -> Result<(), Failed>
         // It fails if it is to, and else only if a growth is refused.
-        ensures planned { FailsNext self.old.calls → IsErr result × (self.new ≡ after_failed_disk_call self.old) }
+        ensures planned { FailsNext self.old.calls →
+            IsErr result × (self.new ≡ after_failed_disk_call self.old) }
         ensures refused { OnErr result (
             FailsNext self.old.calls ⊎ (self.new ≡ after_refused_disk_call self.old)) }
         ensures done { OnOk result (self.new ≡ after_disk_call self.old (Wrote at piece.now)) }
@@ -249,7 +250,8 @@ impl Disk for MemoryDisk {
 
     fn sync(&mut self) -> Result<(), Failed>
         // It fails if it is to, and else only if a growth is refused.
-        ensures planned { FailsNext self.old.calls → IsErr result × (self.new ≡ after_failed_disk_call self.old) }
+        ensures planned { FailsNext self.old.calls →
+            IsErr result × (self.new ≡ after_failed_disk_call self.old) }
         ensures refused { OnErr result (
             FailsNext self.old.calls ⊎ (self.new ≡ after_refused_disk_call self.old)) }
         ensures done { OnOk result (self.new ≡ after_disk_call self.old Synced) }

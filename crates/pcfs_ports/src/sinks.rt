@@ -3,7 +3,7 @@
 ghost use Rattle.std.specs.Prelude.{◌≡◌, ℕ, ◌<◌, ◌≤◌, ◌⊎◌, List, [], Option, None, Some, IfOk, IsErr, OnOk, OnErr, length, take, is_ok, if◌then◌else◌};
 ghost use Rattle.std.specs.Io.KnownBytes.{WriteAppends};
 ghost use Rattle.pcfs_ports.specs.Faults.{HasRisen, raise};
-ghost use Rattle.pcfs_ports.specs.Told.{with_back};
+ghost use Rattle.pcfs_ports.specs.Observable.{with_back};
 ghost use Rattle.pcfs_ports.specs.Calls.{no_calls, FailsNext};
 ghost use Rattle.pcfs_ports.specs.MemorySink.{after_write, after_failed_write, after_refused_write};
 
@@ -91,7 +91,8 @@ impl Sink for MemorySink {
 
     fn write(&mut self, piece: &[u8]) -> Result<usize, Failed>
         // It fails if it is to, and else only if a growth is refused.
-        ensures planned { FailsNext self.old.calls → IsErr result × (self.new ≡ after_failed_write self.old) }
+        ensures planned { FailsNext self.old.calls →
+            IsErr result × (self.new ≡ after_failed_write self.old) }
         ensures refused { OnErr result (
             FailsNext self.old.calls ⊎ (self.new ≡ after_refused_write self.old)) }
 

@@ -3,7 +3,7 @@
 ghost use Rattle.std.specs.Prelude.{◌≡◌, ℕ, ◌<◌, ◌≤◌, ◌↔◌, List, Option, None, Some, IfOk, IsErr, OnErr, length, take, min, is_ok, if◌then◌else◌};
 ghost use Rattle.std.specs.Io.KnownBytes.{ReadConsumes};
 ghost use Rattle.pcfs_ports.specs.Faults.{HasRisen, raise};
-ghost use Rattle.pcfs_ports.specs.Told.{with_front, IsAtEnd};
+ghost use Rattle.pcfs_ports.specs.Observable.{with_front, IsAtEnd};
 ghost use Rattle.pcfs_ports.specs.Calls.{no_calls, FailsNext};
 ghost use Rattle.pcfs_ports.specs.MemorySource.{after_read, after_failed_read};
 

@@ -2,7 +2,7 @@
 
 ghost use Rattle.std.specs.Prelude.{◌≡◌, ◌≢◌, ◌+◌, ◌<◌, ◌≤◌, IfOk, OnOk, OnErr, IsErrOf, length};
 ghost use Rattle.pcfs_ports.specs.Faults.{HasRisen};
-ghost use Rattle.pcfs_ports.specs.Told.{with_front, with_back, IsAtEnd, ReadsToEnd, TakesFirst, TakesSome, HoldsSome};
+ghost use Rattle.pcfs_ports.specs.Observable.{with_front, with_back, IsAtEnd, ReadsToEnd, TakesFirst, TakesSome, HoldsSome};
 ghost use Rattle.pcfs_ports.specs.declared.streams.TakeFault.TheVariants.{NoMemory as OutOfMemory, Failed as SourceFailed};
 
 use super::faults::Failed;
@@ -92,7 +92,8 @@ fn take_piece<I: Source>(
     ensures end { IfOk result (λ count. count ≡ 0 → IsAtEnd (I.left input.new)) }
     ensures err { OnErr result (TakesSome (I.left input.old) (I.left input.new)) }
     ensures not_too_long { result ≢ Err TakeFault.TooLong }
-    ensures risen { IsErrOf result TakeFault.Failed → HasRisen (I.faults input.old) (I.faults input.new) }
+    ensures risen { IsErrOf result TakeFault.Failed →
+        HasRisen (I.faults input.old) (I.faults input.new) }
     ensures never_falls { I.faults input.old ≤ I.faults input.new }
 {
     let room = piece.len().min(INPUT_LIMIT - bytes.len());
@@ -112,7 +113,8 @@ pub fn read_to_end<I: Source>(alloc: Global, input: &mut I) -> Result<Bytes, Tak
     ensures err { OnErr result (TakesSome (I.left input.old) (I.left input.new)) }
     ensures too_long { IsErrOf result TakeFault.TooLong →
         TakesFirst INPUT_LIMIT (I.left input.old) (I.left input.new) }
-    ensures risen { IsErrOf result TakeFault.Failed → HasRisen (I.faults input.old) (I.faults input.new) }
+    ensures risen { IsErrOf result TakeFault.Failed →
+        HasRisen (I.faults input.old) (I.faults input.new) }
     ensures never_falls { I.faults input.old ≤ I.faults input.new }
 {
     let mut piece = zeros(alloc, PIECE_LEN)?;

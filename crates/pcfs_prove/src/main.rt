@@ -10,13 +10,13 @@
 mod help;
 mod reading;
 mod remarks;
-mod telling;
+mod verify_line;
 mod words;
 
 use crate::help::{HELP, VERSION};
 use crate::reading::{FileFault, put_file_fault, read_facts, read_statements};
 use crate::remarks::{put_cause, put_grant, put_suggestion};
-use crate::telling::{Told, line_of};
+use crate::verify_line::{VerifyLine, line_of};
 use crate::words::{Task, Wish, WordFault, put_word_fault, wish_of};
 use bl_syntax::{Bytes, NoMemory, StatePreds};
 use pcfs_ports::{Clock, StdSink, StdSource, SystemClock, read_to_end, write_all};
@@ -165,7 +165,7 @@ fn moments_of<R: std::rt::Clock>(rt: &R, task: &Task) -> Moments {
 }
 
 // Writes the line, and what its grant is worth.
-fn tell_found<R: Print + Eprint + AllocGlobal>(rt: &R, told: &Told) -> Result<u8, Stop> {
+fn write_found<R: Print + Eprint + AllocGlobal>(rt: &R, told: &VerifyLine) -> Result<u8, Stop> {
     let mut line = Bytes::new(rt.alloc());
     line.extend(told.line.as_slice())?;
     line.push(b'\n')?;
@@ -177,7 +177,7 @@ fn tell_found<R: Print + Eprint + AllocGlobal>(rt: &R, told: &Told) -> Result<u8
 }
 
 // Says why there is no proof, and what is missing.
-fn tell_missing<R: Eprint + AllocGlobal>(
+fn write_missing<R: Eprint + AllocGlobal>(
     rt: &R,
     statements: &Vec<Cite>,
     asked: &Asked,
@@ -212,10 +212,10 @@ fn prove<R: Runtime + AllocGlobal>(rt: &R, task: &Task) -> Result<u8, Stop> {
             &asked,
             &proved,
         )? {
-            Some(told) => tell_found(rt, &told),
-            None => tell_missing(rt, &statements, &asked, Cause::Refused, task.steps),
+            Some(told) => write_found(rt, &told),
+            None => write_missing(rt, &statements, &asked, Cause::Refused, task.steps),
         },
-        Answer::NotFound(cause) => tell_missing(rt, &statements, &asked, cause, task.steps),
+        Answer::NotFound(cause) => write_missing(rt, &statements, &asked, cause, task.steps),
     }
 }
 

@@ -1,12 +1,12 @@
 -- Each entry that was added has its line.
-use Rattle.std.proofs.Common.{◌≡◌, ℕ, zero, suc, List, [], ◌∷◌, ◌++◌, map, Some, refl, sym, subst}
+use Rattle.std.proofs.Common.{◌≡◌, ℕ, zero, suc, List, [], ◌∷◌, map, Some, sym, subst}
 use Rattle.std.specs.Prelude.{slice_get, slice_set}
 use Rattle.std.specs.List.{AllByRecursion}
 use Rattle.tree_lock.specs.Merge.{Merges, ends, takes}
 use Rattle.pcfs_store.specs.Entries.{Root, StoreEntry}
-use Rattle.session_history.specs.Passes.{entry_pass, AllOfPass}
+use Rattle.session_history.specs.Passes.{AllOfPass}
 use Rattle.session_history.specs.SessionState.{guest_with}
-use Rattle.session_history.specs.Laws.{IsByAccepted, IsAskedFor, asked_entry, AreAskedFor}
+use Rattle.session_history.specs.Laws.{IsByAccepted, IsAskedFor, AreAskedFor}
 use Rattle.session_service.specs.Sessions.{SessionSources, AreOfSession}
 use Rattle.session_service.specs.Connections.{AreOfConnections, no_more, was_attended, was_not_attended}
 use Rattle.pcfs_run.specs.Laws.{HasLine}
@@ -36,7 +36,7 @@ module _ (P : StoreEntry → Type 0) where
 -- ---- the entries of a session
 
 module _ (sources : SessionSources) (root : Root) (history : List StoreEntry) where
-  lines_of_entries : (number : ℕ) (nonce : List ℕ) (from : ℕ) (lines : List (List ℕ)) → sources.may_say lines → (entries : List StoreEntry) → AllOfPass number entries →
+  lines_of_entries : (number : ℕ) (nonce : List ℕ) (from : ℕ) (lines : List (List ℕ)) → sources.may_say number nonce lines → (entries : List StoreEntry) → AllOfPass number entries →
       AreAskedFor sources.gives (record { root = root; number = number }) history (guest_with nonce) from lines entries → AllByRecursion (IsByAccepted root.ring nonce lines) entries → AllByRecursion (HasLine sources root history) entries
   lines_of_entries number nonce from lines said [] of asked by = tt
   lines_of_entries number nonce from lines said (entry ∷ entries) of asked by = (
@@ -44,8 +44,8 @@ module _ (sources : SessionSources) (root : Root) (history : List StoreEntry) wh
       nonce = nonce;
       from = from;
       lines = lines;
-      said = said;
-      asked = subst (λ (n : ℕ). IsAskedFor sources.gives (record { root = root; number = n }) history (guest_with nonce) from lines (asked_entry entry)) (sym of.0) asked.0;
+      said = subst (λ (n : ℕ). sources.may_say n nonce lines) (sym of.0) said;
+      asked = subst (λ (n : ℕ). IsAskedFor sources.gives (record { root = root; number = n }) history (guest_with nonce) from lines entry) (sym of.0) asked.0;
       caller = by.0;
     },
     lines_of_entries number nonce from lines said entries of.1 asked.1 by.1,

@@ -1,11 +1,11 @@
 -- A run over ports that do not fail ends with one of these statuses, by its cause.
-use Rattle.std.proofs.Common.{◌≡◌, ◌⊎◌, inl, inr, ◌≤◌, ℕ, List, [], ◌∷◌, String, Option, Some, None, pos, refl, sym, subst}
+use Rattle.std.proofs.Common.{◌≡◌, ◌⊎◌, inl, inr, ◌≤◌, ℕ, List, [], ◌∷◌, String, Option, Some, pos, refl, sym, subst}
 use Rattle.std.specs.declared.alloc.Global.{Global}
 use Rattle.bl_syntax.specs.declared.terms.TimePoint.TheVariants.{At}
 use Rattle.line_faults.specs.LongLines.{HasLongLine}
 use Rattle.line_text.specs.Lines.{lines_of}
 use Rattle.pcfs_ports.specs.Faults.{HasRisen}
-use Rattle.pcfs_ports.specs.Told.{ReadsToEnd}
+use Rattle.pcfs_ports.specs.Observable.{ReadsToEnd}
 use Rattle.pcfs_secrets.specs.declared.secrets.Secrets.{Secrets}
 use Rattle.pcfs_server.specs.declared.end.ServeEnd.{ServeEnd}
 use Rattle.command_words.specs.Tasks.{AsksFor}
@@ -20,7 +20,7 @@ use Rattle.pcfs_modes.specs.Answers as tables
 use Rattle.pcfs_session.specs.LineAnswer.{authority_under}
 use Rattle.pcfs_session.specs.ScriptEnds.{ScriptEnds, ScriptWrites}
 use Rattle.pcfs_session.specs.ScriptEnds as scripts
-use Rattle.pcfs_session.specs.ScriptRun.{Standing}
+use Rattle.pcfs_session.specs.ScriptRun.{ScriptState}
 use Rattle.pcfs_session.specs.Streams.{Streams}
 use Rattle.pcfs_session.specs.declared.script_end.ScriptEnd.{ScriptEnd}
 use Rattle.pcfs_session.specs.declared.script_end.ScriptEnd.TheVariants as script_ends
@@ -29,7 +29,6 @@ use Rattle.pcfs_store.specs.Entries.{StoreEntry}
 use Rattle.pcfs_tools.specs.Audited.{audit_status}
 use Rattle.pcfs_tools.specs.Inquired.{TellsInquiry}
 use Rattle.pcfs_tools.specs.Inquired as inquired
-use Rattle.pcfs_tools.specs.LastLine.{IsTold}
 use Rattle.pcfs_tools.specs.Memory.{MemoryEnds}
 use Rattle.pcfs_tools.specs.Memory as in_memory
 use Rattle.pcfs_tools.specs.ScriptStatus.{ScriptStatus, TellsEnd}
@@ -67,7 +66,7 @@ module _ (secrets : Secrets) (words : List (String Global)) (before after : Serv
 
   -- ---- scripts
 
-  module _ (status : ℕ) (held : Option (List ℕ)) (faults : ℕ) (later : before.ports.streams.write_faults ≤ faults) (asks : AsksFor words Script ⊎ AsksFor words Stored) (start end : Standing) (runs_on : (met : StoreEntry) → end.met ≡ Some met → status ≡ 5 → ⊥) where
+  module _ (status : ℕ) (held : Option (List ℕ)) (faults : ℕ) (later : before.ports.streams.write_faults ≤ faults) (asks : AsksFor words Script ⊎ AsksFor words Stored) (start end : ScriptState) (runs_on : (met : StoreEntry) → end.met ≡ Some met → status ≡ 5 → ⊥) where
     -- what the streams told when the script had ended, before its last line
     abbrev ended_at : Streams
     ended_at = record after.ports.streams { held = held; write_faults = faults }
@@ -95,7 +94,7 @@ module _ (secrets : Secrets) (words : List (String Global)) (before after : Serv
     by_end _ (scripts.out_of_memory whole way some) tells = subst Ends (sym tells.0) healthy.out_of_memory
     by_end _ (scripts.out_of_memory_at_long_line whole writes some) tells = subst Ends (sym tells.0) healthy.out_of_memory
 
-  of_script : (status : ℕ) (start end : Standing) → AsksFor words Script ⊎ AsksFor words Stored → ((met : StoreEntry) → end.met ≡ Some met → status ≡ 5 → ⊥) → ScriptStatus start end before.ports.streams after.ports.streams status → Ends status
+  of_script : (status : ℕ) (start end : ScriptState) → AsksFor words Script ⊎ AsksFor words Stored → ((met : StoreEntry) → end.met ≡ Some met → status ≡ 5 → ⊥) → ScriptStatus start end before.ports.streams after.ports.streams status → Ends status
   of_script status start end asks runs_on s = by_end status s.held s.write_faults s.never_falls asks start end runs_on s.how s.ends s.tells
 
   of_memory : (status : ℕ) → AsksFor words Script → MemoryEnds secrets before.ports.streams after.ports.streams status → Ends status
@@ -159,7 +158,7 @@ module _ (secrets : Secrets) (words : List (String Global)) (before after : Serv
 
   -- ---- a run with one line
 
-  of_report : (pieces : Option ℕ) (generation : ℕ) (image : List ℕ) (start : Standing) (report : Report) (rows : List ReportRow) → report.rows ≡ rows → AsksFor words (Audit pieces) → IsOpened secrets generation image before.ports.disks start → IsReport (authority_under secrets) start.base start.events report →
+  of_report : (pieces : Option ℕ) (generation : ℕ) (image : List ℕ) (start : ScriptState) (report : Report) (rows : List ReportRow) → report.rows ≡ rows → AsksFor words (Audit pieces) → IsOpened secrets generation image before.ports.disks start → IsReport (authority_under secrets) start.base start.events report →
       Ends (audit_status rows)
   of_report pieces generation image start report [] is asks opened found = healthy.done
   of_report pieces generation image start report (row ∷ rows) is asks opened found = healthy.reports pieces generation image start report row rows asks opened found is

@@ -1,7 +1,9 @@
--- A store may go to another thread.
+-- A store may go to another thread, and the sessions over it may be shared with others.
 use denote.RattleType.{RattleType}
-use denote.Param.Send.{IsSend, sendable, view_send}
-use denote.Param.SendFields.{declared_send, as_row_send}
+use denote.Ref.{NamedLft, ShrRef}
+use denote.Struct.Field.{row_field, shr_ref_field}
+use denote.Param.Send.{IsSend, IsSync, sendable, shr_sync, view_send}
+use denote.Param.SendFields.{declared_send, declared_sync, as_row_send, as_row_sync}
 use Rattle.pcfs_store.specs.contracts.store.Store.TheInside as inside
 use Rattle.shared_store.specs.contracts.opened.OpenedStore.TheInside as opened
 use Rattle.access_history.specs.contracts.history.History.TheInside as history
@@ -36,6 +38,10 @@ use Rattle.pcfs_ports.specs.declared.disk.Disk as Disk
 use Rattle.pcfs_store.specs.contracts.checkpoints.Checkpoint as Checkpoint
 use Rattle.pcfs_store.specs.contracts.store.Store as Store
 use Rattle.shared_store.specs.contracts.opened.OpenedStore as Opened
+use Rattle.tree_lock.specs.declared.recorded.Recorded as Recorded
+use Rattle.tree_lock.specs.contracts.parts.TreeLock as TreeLock
+use Rattle.tree_lock.proofs.parts.TreeLock.TheSendSync as lock
+use Rattle.session_service.specs.contracts.service.SessionService as Service
 
 formula_send : IsSend Formula.the_row
 formula_send = search (sendable, crosses, send-Formula) depth 100 fits 20000
@@ -163,3 +169,13 @@ opened_inside D g send = search (sendable, as_row_send, declared_send, crosses, 
 
 pub opened_send : (D : RattleType) (g : Disk.Ghosts D.Denot) → IsSend D → IsSend (Opened.the_row D g)
 opened_send D g send = view_send (opened.the_row D g) _ _ _ _ (opened_inside D g send)
+
+-- a service may be shared, whatever its nonces and its listener are: it has them for contracts alone
+pub service_sync : (κ : NamedLft) (V C N L E : RattleType) (g : Recorded.Ghosts V.Denot E.Denot) → IsSend V → IsSync C → IsSync (Service.the_row κ V C N L E g)
+service_sync κ V C N L E g send sync = declared_sync (Service.the_type κ V C N L E g) (
+  as_row_sync (shr_ref_field κ (TreeLock.the_row V E g) tt) (shr_sync κ.mir κ.lft (TreeLock.the_row V E g) (lock.the_sync V E g send)),
+  (
+    as_row_sync (row_field (ShrRef κ.mir κ.lft C)) (shr_sync κ.mir κ.lft C sync),
+    (search (sendable, crosses) depth 100 fits 20000, (search (sendable, crosses) depth 100 fits 20000, tt)),
+  ),
+)

@@ -5,7 +5,6 @@ use Rattle.pcfs_ports.specs.Faults.{HasRisen}
 use Rattle.access_history.specs.Base.{BaseView}
 use Rattle.access_history.specs.History.{authority_with}
 use Rattle.access_history.specs.Lawful.{IsLawful}
-use Rattle.access_history.specs.Replay.{replay}
 use Rattle.access_history.specs.declared.event.Event.{Event}
 use Rattle.access_history.proofs.HeadlineLemmas.{Headline-lawful}
 use Rattle.policy_statement.specs.Ring.{KeyView}
@@ -28,8 +27,8 @@ use Rattle.recover.specs.declared.fault.OpenFault.TheVariants as opens
 use Rattle.recover.specs.Opening.{IsNotOpened, IsNewestClosed}
 use Rattle.recover.specs.Opening as opening
 use Rattle.shared_store.specs.GoesOn.{HasGoneOn}
-use Rattle.pcfs_tools.specs.LastLine.{IsTold}
-use Rattle.pcfs_top.specs.Ports.{Rests, IfTold, AreBytesKept}
+use Rattle.pcfs_tools.specs.LastLine.{Wrote}
+use Rattle.pcfs_top.specs.Ports.{Rests, AreBytesKept}
 use Rattle.pcfs_top.specs.Run.{IsNewestOf, TellsUnopened, damaged_text}
 use Rattle.pcfs_top.proofs.EndsWithLemmas.{disks_of, rests_of, newest_of, counts_now, closed_of, pinned_at, other_is, added_all, place_kept, place_moved, has_no_area}
 use Rattle.session_service.specs.Sessions.{SessionSources}
@@ -148,15 +147,16 @@ module _ {D : Type 0} (sources : SessionSources) (clock : D → ℕ) (left_since
     abbrev OtherAt : Option ℕ → Bool → Type 0
     OtherAt stop w =
         (one_of (image (second_disk s')) (image (first_disk s')) w ≡ one_of (image b) (image a) w) ⊎
-        ((pass : ℕ) × (stop ≡ Some pass) × HasRisen (one_of (faults b) (faults a) w) (one_of (faults (second_disk s')) (faults (first_disk s')) w))
+        ((pass : ℕ) × (stop ≡ Some pass) × (s'.met ≡ None) × HasRisen (one_of (faults b) (faults a) w) (one_of (faults (second_disk s')) (faults (first_disk s')) w))
 
-    other_by : (stop : Option ℕ) → s'.stop ≡ stop → s'.checkpoints ≡ [] → (s'.other ≡ s.other) ⊎ ((pass : ℕ) × (s'.stop ≡ Some pass) × HasRisen (faults s.other) (faults s'.other)) → OtherAt stop s.second_active
+    other_by : (stop : Option ℕ) → s'.stop ≡ stop → s'.checkpoints ≡ [] → (s'.other ≡ s.other) ⊎ ((pass : ℕ) × (s'.stop ≡ Some pass) × (s'.met ≡ None) × HasRisen (faults s.other) (faults s'.other)) → OtherAt stop s.second_active
     other_by stop is none (inl same) = inl (other_is clock left_since image faults secrets a b s s' opened same (place_by none))
     other_by stop is none (inr failed) = inr (
       failed.0,
       sym is ∙ failed.1,
+      failed.2,
       subst (λ (w : Bool). HasRisen (one_of (faults b) (faults a) s.second_active) (one_of (faults (one_of s'.other s'.active w)) (faults (one_of s'.active s'.other w)) s.second_active)) (sym (place_by none))
-          (other_risen s.second_active s.active s.other s'.active s'.other opened.first_read.handled.never_falls opened.second_read.handled.never_falls failed.2),
+          (other_risen s.second_active s.active s.other s'.active s'.other opened.first_read.handled.never_falls opened.second_read.handled.never_falls failed.3),
     )
 
     -- the mark is none of the opening
@@ -255,7 +255,7 @@ module _ {D : Type 0} (sources : SessionSources) (clock : D → ℕ) (left_since
       Around = rests_of clock left_since image faults a b (first_disk s') (second_disk s')
 
       -- a line is told, or the output fails
-      told_as : (status : ℕ) (line : List ℕ) (result : ℕ) → ServeWrites sources secrets count Around Here There status line → IsTold status line before.held before.write_faults result after.held after.write_faults → EndsServing sources secrets count Around Here There result
+      told_as : (status : ℕ) (line : List ℕ) (result : ℕ) → ServeWrites sources secrets count Around Here There status line → Wrote status line before.held before.write_faults result after.held after.write_faults → EndsServing sources secrets count Around Here There result
       told_as status line result writes (inl told) = subst (EndsServing sources secrets count Around Here There) (sym told.0) (serving.told status line writes told.1)
       told_as status line result writes (inr failed) = subst (EndsServing sources secrets count Around Here There) (sym failed.0) (serving.cut_short status line writes failed.1 failed.2)
 
@@ -270,14 +270,14 @@ module _ {D : Type 0} (sources : SessionSources) (clock : D → ℕ) (left_since
           subst (EndsServing sources secrets count Around Here There) (sym untold.0) (serving.out_of_memory (serve_ends.NoMemory n) (λ e. e) (is_served n count None runs grown) attended untold.1)
 
       told_end : (stop : Option ℕ) (end : ServeEnd) (result : ℕ) → s'.stop ≡ stop → IsGrown sources (number_of end) count s s' → AreAttended count net net' end →
-          ((pass : ℕ) → s'.stop ≡ Some pass → IsTold 5 (codes "stopped") before.held before.write_faults result after.held after.write_faults) →
+          ((pass : ℕ) → s'.stop ≡ Some pass → Wrote 5 (codes "stopped") before.held before.write_faults result after.held after.write_faults) →
           (s'.stop ≡ None → TellsServed end before.held before.write_faults result after.held after.write_faults) → EndsServing sources secrets count Around Here There result
       told_end None end result is grown attended stops runs = told_running end result is grown attended (runs is)
       told_end (Some pass) end result is grown attended stops runs =
           told_as 5 (codes "stopped") result (serving.disk_failed end pass (is_served (number_of end) count (Some pass) is grown) attended) (stops pass is)
 
       pub EndsServing-served : (end : ServeEnd) (result : ℕ) (a' b' : D) → IsGrown sources (number_of end) count s s' → AreAttended count net net' end →
-          ((pass : ℕ) → s'.stop ≡ Some pass → IsTold 5 (codes "stopped") before.held before.write_faults result after.held after.write_faults) →
+          ((pass : ℕ) → s'.stop ≡ Some pass → Wrote 5 (codes "stopped") before.held before.write_faults result after.held after.write_faults) →
           (s'.stop ≡ None → TellsServed end before.held before.write_faults result after.held after.write_faults) → a' ≡ first_disk s' → b' ≡ second_disk s' →
           EndsServing sources secrets count (rests_of clock left_since image faults a b a' b') Here (record { ports = record { streams = after; disks = disks_of clock left_since image faults a' b' }; net = net' }) result
       EndsServing-served end result a' b' grown attended stops runs a_is b_is =
@@ -300,7 +300,7 @@ module _ {D : Type 0} (sources : SessionSources) (clock : D → ℕ) (left_since
     abbrev Ends : ℕ → Type 0
     Ends status = EndsServing sources secrets count Between First Last status
 
-    tells : (status : ℕ) (line : List ℕ) (result : ℕ) → ServeWrites sources secrets count Between First Last status line → IsTold status line before.held before.write_faults result after.held after.write_faults → Ends result
+    tells : (status : ℕ) (line : List ℕ) (result : ℕ) → ServeWrites sources secrets count Between First Last status line → Wrote status line before.held before.write_faults result after.held after.write_faults → Ends result
     tells status line result writes (inl told) = subst Ends (sym told.0) (serving.told status line writes told.1)
     tells status line result writes (inr failed) = subst Ends (sym failed.0) (serving.cut_short status line writes failed.1 failed.2)
 

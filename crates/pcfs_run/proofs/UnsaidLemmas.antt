@@ -1,11 +1,11 @@
 -- Where no line may be said, nothing is added.
-use Rattle.std.proofs.Common.{◌≡◌, ◌≤◌, ℕ, zero, suc, List, [], ◌∷◌, map, length, Some, refl, subst, ap, arith}
+use Rattle.std.proofs.Common.{◌≡◌, ◌∙◌, ◌≤◌, ℕ, zero, suc, ◌-◌, List, [], ◌∷◌, map, length, Option, Some, refl, sym, subst, ap, arith}
 use Rattle.std.specs.Prelude.{slice_get}
 use Rattle.std.specs.List.{AllByRecursion}
 use Rattle.tree_lock.specs.Merge.{Merges, ends, takes}
 use Rattle.pcfs_store.specs.Entries.{Root, StoreEntry}
 use Rattle.session_history.specs.Turn.{StorePass}
-use Rattle.session_service.specs.Sessions.{SessionSources, AreOfSession}
+use Rattle.session_service.specs.Sessions.{SessionSources, AreFirstLines, MaySay, AreOfSession}
 use Rattle.session_service.specs.Connections.{AreOfConnections, no_more, was_attended, was_not_attended}
 use Rattle.session_service.proofs.FewLemmas.{session_few}
 
@@ -24,11 +24,29 @@ pub merged_none : (lists : List (List StoreEntry)) (all : List StoreEntry) → M
 merged_none lists _ (ends is) none = refl
 merged_none lists _ (takes {x = x} {xs = xs} {ys = ys} k found merged) none = let some = get_none lists k (x ∷ xs) none found in absurd cc
 
-module _ (sources : SessionSources) (none_said : (lines : List (List ℕ)) → sources.may_say lines → lines ≡ []) where
+-- ---- inputs that are empty
+
+-- the first lines of no bytes are none
+first_of_none : (lines : List (List ℕ)) → AreFirstLines (Some []) lines → lines ≡ []
+first_of_none [] first = refl
+first_of_none (line ∷ lines) first = absurd cc
+
+get_empty : (inputs : List (Option (List ℕ))) (k : ℕ) (left : Option (List ℕ)) → AllByRecursion (λ left. left ≡ Some []) inputs → slice_get inputs k ≡ Some left → left ≡ Some []
+get_empty [] k left empty found = absurd cc
+get_empty (first ∷ inputs) zero left empty found = let both : Some first ≡ Some left = found in let same : first ≡ left = cc in sym same ∙ empty.0
+get_empty (first ∷ inputs) (suc k) left empty found = get_empty inputs k left empty.1 found
+
+-- so no line is said by a connection of which the input was empty
+pub none_said_of_empty : {I : Type 0} (left : I → Option (List ℕ)) (inputs : List (Option (List ℕ))) (nonces : Option (List ℕ)) (number : ℕ) (nonce : List ℕ) (lines : List (List ℕ)) → AllByRecursion (λ left. left ≡ Some []) inputs →
+    MaySay left (Some inputs) nonces number nonce lines → lines ≡ []
+none_said_of_empty left inputs nonces number nonce lines empty says =
+    first_of_none lines (subst (λ (told : Option (List ℕ)). AreFirstLines told lines) (get_empty inputs (number - 1) (left says.input) empty says.accepted) says.first)
+
+module _ (sources : SessionSources) (none_said : (number : ℕ) (nonce : List ℕ) (lines : List (List ℕ)) → sources.may_say number nonce lines → lines ≡ []) where
   no_entries : (p : StorePass) (history own : List StoreEntry) → AreOfSession sources p history own → own ≡ []
   no_entries p history own s =
       let few = session_few sources.gives p history _ s.from s.lines s.answers s.end s.to own s.placed in
-      let none : length s.lines ≡ 0 = ap length (none_said s.lines s.said) in
+      let none : length s.lines ≡ 0 = ap length (none_said p.number s.nonce s.lines s.said) in
       none_of own (omega (arith, few, none))
 
   pub all_without : (root : Root) (history : List StoreEntry) (attended : ℕ) (passes : List (ℕ × List StoreEntry)) → AreOfConnections (λ (number : ℕ) (own : List StoreEntry). AreOfSession sources (record { root = root; number = number }) history own) attended passes →

@@ -8,8 +8,12 @@ use Rattle.session_history.specs.Passes.{AllOfPass}
 use Rattle.session_service.specs.Connections.{AreOfConnections}
 use Rattle.session_service.specs.Sessions.{SessionSources, AreOfSession}
 
--- These entries were added to the first ones, of a store with this root, in the turns of the connections that were attended. Passes have numbers of their own from 1 on, of which there are no more than `count`. As many as connections were attended are
--- those of these connections: of each the entries are those of a session in the whole history, exactly what was added in the turns of the session's lines. Each other pass has no entries. A pass has the entries of its turns, which carry its number, and
+-- These entries were added to the first ones, of a store with this root, in the turns of the
+-- connections that were attended. Passes have numbers of their own from 1 on, of which there are no
+-- more than `count`. As many as connections were attended are
+-- those of these connections: of each the entries are those of a session in the whole history,
+-- exactly what was added in the turns of the session's lines. Each other pass has no entries. A
+-- pass has the entries of its turns, which carry its number, and
 -- all that were added are a merge of these lists.
 pub record AreOfPasses (sources : SessionSources) (root : Root) (first : List StoreEntry) (attended count : ℕ) (added : List StoreEntry) : Type 0 where
   pub passes : List (ℕ × List StoreEntry)

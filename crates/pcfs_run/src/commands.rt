@@ -3,16 +3,19 @@
 ghost use Rattle.std.specs.Prelude.{◌≡◌, ◌≤◌, ℕ, List, MatchOption, Option, Some};
 ghost use Rattle.command_words.specs.declared.words.Task.TheVariants.{Serve};
 ghost use Rattle.pcfs_ports.specs.Disk.{IsPinned};
-ghost use Rattle.session_service.specs.Sessions.{sources_of};
-ghost use Rattle.pcfs_run.specs.Served.{EndsServing, RunEnds};
+ghost use Rattle.session_service.specs.Sessions.{sources_of, inputs_of};
+ghost use Rattle.pcfs_run.specs.Served.{EndsServing, RunEnds, net_of};
+ghost use Rattle.pcfs_top.specs.Ports.{ports_beside, ports_of, rests_of};
 
 use crate::serving::serve_store;
-use crate::telling::tell_end;
+use crate::status_lines::write_end;
+use bl_syntax::limits::FIRST_MOMENT;
 use command_words::{Task, task_of};
-use pcfs_ports::{Clock, Disk, Listener, Nonces, Sink, Source};
+use pcfs_ports::{Clock, Disk, Sink, Source};
 use pcfs_secrets::Secrets;
+use pcfs_server::{TellingListener, TellingNonces};
 use pcfs_tools::answering::OUT_OF_MEMORY;
-use pcfs_top::run::{Ended, run_asked, tell_unopened};
+use pcfs_top::run::{Ended, run_asked, write_unopened};
 use recover::open_store;
 use std::alloc::Global;
 use std::io::Eprint;
@@ -22,9 +25,6 @@ use std::thread::Threads;
 /// A clock that is further ahead of the store than a day, in seconds, may be wrong.
 const DAY: i64 = 86_400;
 
-/// The moment of a store in which nothing was done yet.
-const NO_MOMENT: i64 = -62_135_596_800;
-
 // Warns of a clock that may be wrong beside the moment of the store's last operation: a moment that was kept is one for good,
 // and every later operation is decided as of then at the earliest. A line that cannot be written is dropped.
 fn warn_of_clock<R: Eprint>(rt: &R, now: i64, last: i64) {
@@ -32,7 +32,7 @@ fn warn_of_clock<R: Eprint>(rt: &R, now: i64, last: i64) {
         let _ = eprintln!(rt;
             "the clock shows {now}, before the last operation at {last}: until then all is decided as of {last}"
         );
-    } else if last > NO_MOMENT && now.saturating_sub(last) > DAY {
+    } else if last > FIRST_MOMENT && now.saturating_sub(last) > DAY {
         let _ = eprintln!(rt;
             "the clock shows {now}, more than a day after the last operation at {last}: see that it is right"
         );
@@ -45,8 +45,8 @@ fn serve<
     O: Sink,
     D: Disk + Send,
     C: Clock + Sync,
-    L: Listener,
-    N: Nonces + Sync,
+    L: TellingListener + Sync,
+    N: TellingNonces + Sync,
 >(
     rt: &R,
     alloc: Global,
@@ -62,20 +62,17 @@ fn serve<
 ) -> Ended<D>
     requires some { 1 ≤ count }
     requires few { count ≤ 1000000 }
-    ensures { (left : Option (List ℕ)) (read_faults : ℕ) → EndsServing (sources_of (C.gives clock.now) L.In.left) secrets.now count (record { before = IsPinned D.clock D.left_since D.image a × IsPinned D.clock D.left_since D.image b; after = IsPinned D.clock D.left_since D.image result.a × IsPinned D.clock D.left_since D.image result.b })
+    ensures { (left : Option (List ℕ)) (read_faults : ℕ) →
+        EndsServing (sources_of (C.gives clock.now) L.In.left
+        (inputs_of L.In.left (L.queue net.old)) (N.coming nonces.old)) secrets.now count
+        (rests_of (IsPinned D.clock D.left_since D.image) a b result.a result.b)
         (record {
-          ports = record {
-            streams = record { left = left; read_faults = read_faults; held = O.held output.old; write_faults = O.faults output.old };
-            disks = record { a = D.image a; b = D.image b; a_faults = D.faults a; b_faults = D.faults b };
-          };
-          net = record { waiting = L.waiting net.old; over = L.over net.old; faults = L.faults net.old; nonce_faults = N.faults nonces.old };
+          ports = ports_beside left read_faults O.held O.faults D.image D.faults output.old a b;
+          net = net_of L.waiting L.over L.faults N.faults net.old nonces.old;
         })
         (record {
-          ports = record {
-            streams = record { left = left; read_faults = read_faults; held = O.held output.new; write_faults = O.faults output.new };
-            disks = record { a = D.image result.a; b = D.image result.b; a_faults = D.faults result.a; b_faults = D.faults result.b };
-          };
-          net = record { waiting = L.waiting net.new; over = L.over net.new; faults = L.faults net.new; nonce_faults = N.faults nonces.new };
+          ports = ports_beside left read_faults O.held O.faults D.image D.faults output.new result.a result.b;
+          net = net_of L.waiting L.over L.faults N.faults net.new nonces.new;
         }) result.status }
 {
     let ring = match secrets.ring.copy(alloc) {
@@ -88,16 +85,16 @@ fn serve<
     };
     match open_store(alloc, a, b, secrets.seal_key.as_slice(), ring) {
         Ok(store) => {
-            store.keeps();
+            store.lemma_is_store();
             warn_of_clock(rt, clock.now(), store.gate().history().moment());
             let (end, store) = serve_store(rt, alloc, store, port, count, clock, net, nonces);
-            store.keeps();
-            let status = tell_end(alloc, output, end, &store);
+            store.lemma_is_store();
+            let status = write_end(alloc, output, end, &store);
             let (a, b) = store.into_disks();
             Ended { status, a, b }
         }
         Err((fault, a, b)) => Ended {
-            status: tell_unopened(alloc, output, fault),
+            status: write_unopened(alloc, output, fault),
             a,
             b,
         },
@@ -122,6 +119,10 @@ fn serving_of(asked: Option<Task>) -> Option<(u16, u64)>
 /// store is opened, and only then the port is listened on. What is added to the history then was
 /// added in the turns of the lines of these sessions.
 ///
+/// The session of the pass with a number has the nonce of that number, and its lines are the first ones of what the input of
+/// the connection of that number had left when it was accepted, as far as the nonces and the listener told before the run
+/// what they were to give.
+///
 /// Returns the disks and the status to end with. With `serve` that is 0, so many were attended or no more come, and the last
 /// line is `served` with their number; 3, 4, 7 or 9 as for `run_alone`; 5, a disk failed: `stopped`, also if the listener
 /// failed too; 8, the listener failed or there was no nonce: `netfault`. A denial, a refusal and a fault of a session's own
@@ -132,8 +133,8 @@ pub fn run<
     O: Sink,
     D: Disk + Send,
     C: Clock + Sync,
-    L: Listener,
-    N: Nonces + Sync,
+    L: TellingListener + Sync,
+    N: TellingNonces + Sync,
 >(
     rt: &R,
     alloc: Global,
@@ -147,20 +148,16 @@ pub fn run<
     net: &mut L,
     nonces: &mut N,
 ) -> Ended<D>
-    ensures { RunEnds (sources_of (C.gives clock.now) L.In.left) secrets.now words.now.items (record { before = IsPinned D.clock D.left_since D.image a × IsPinned D.clock D.left_since D.image b; after = IsPinned D.clock D.left_since D.image result.a × IsPinned D.clock D.left_since D.image result.b })
+    ensures { RunEnds (sources_of (C.gives clock.now) L.In.left
+        (inputs_of L.In.left (L.queue net.old)) (N.coming nonces.old)) secrets.now words.now.items
+        (rests_of (IsPinned D.clock D.left_since D.image) a b result.a result.b)
         (record {
-          ports = record {
-            streams = record { left = I.left input.old; read_faults = I.faults input.old; held = O.held output.old; write_faults = O.faults output.old };
-            disks = record { a = D.image a; b = D.image b; a_faults = D.faults a; b_faults = D.faults b };
-          };
-          net = record { waiting = L.waiting net.old; over = L.over net.old; faults = L.faults net.old; nonce_faults = N.faults nonces.old };
+          ports = ports_of I.left I.faults O.held O.faults D.image D.faults input.old output.old a b;
+          net = net_of L.waiting L.over L.faults N.faults net.old nonces.old;
         })
         (record {
-          ports = record {
-            streams = record { left = I.left input.new; read_faults = I.faults input.new; held = O.held output.new; write_faults = O.faults output.new };
-            disks = record { a = D.image result.a; b = D.image result.b; a_faults = D.faults result.a; b_faults = D.faults result.b };
-          };
-          net = record { waiting = L.waiting net.new; over = L.over net.new; faults = L.faults net.new; nonce_faults = N.faults nonces.new };
+          ports = ports_of I.left I.faults O.held O.faults D.image D.faults input.new output.new result.a result.b;
+          net = net_of L.waiting L.over L.faults N.faults net.new nonces.new;
         }) result.status }
 {
     let asked = match task_of(alloc, words) {

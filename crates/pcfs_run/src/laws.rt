@@ -1,15 +1,29 @@
 //! Laws of what sessions add, and of how a run ends. The functions do nothing: each contract is a law.
 
+ghost use Rattle.std.specs.Prelude.{◌≡◌, ℕ, List, [], Option, Some};
+ghost use Rattle.std.specs.List.{AllByRecursion};
 ghost use Rattle.pcfs_ports.specs.Disk.{IsPinned};
 ghost use Rattle.session_service.specs.Sessions.{sources_of};
-ghost use Rattle.pcfs_run.specs.Laws.{GoneAdmitNothing, NothingIsAddedUnsaid, EachEntryHasItsLine};
+ghost use Rattle.pcfs_run.specs.Laws.{GoneAdmitNothing, AddsNothing, NothingIsAddedUnsaid, EachEntryHasItsLine};
 ghost use Rattle.pcfs_run.specs.Healthy.{HealthyRunsEndSo};
 
 use pcfs_ports::{Clock, Disk, Listener, Source};
 
-/// If no connection may say a line, as where all inputs tell that they are empty, nothing is added.
+/// If no connection may say a line, nothing is added.
 pub fn nothing_is_added_unsaid<I: Source, C: Clock>(input: &I, clock: &C)
-    ensures { NothingIsAddedUnsaid (sources_of (C.gives clock.now) I.left) }
+    ensures { (inputs : Option (List (Option (List ℕ)))) (nonces : Option (List ℕ)) →
+        NothingIsAddedUnsaid (sources_of (C.gives clock.now) I.left inputs nonces) }
+{
+    let _ = input;
+    let _ = clock;
+}
+
+/// If the listener tells its connections before the run, and the inputs of all of them tell that they are empty, nothing is
+/// added.
+pub fn empty_connections_add_nothing<I: Source, C: Clock>(input: &I, clock: &C)
+    ensures { (inputs : List (Option (List ℕ))) (nonces : Option (List ℕ)) →
+        AllByRecursion (λ left. left ≡ Some []) inputs →
+        AddsNothing (sources_of (C.gives clock.now) I.left (Some inputs) nonces) }
 {
     let _ = input;
     let _ = clock;
@@ -18,7 +32,8 @@ pub fn nothing_is_added_unsaid<I: Source, C: Clock>(input: &I, clock: &C)
 /// Each entry that was added is one that a line of a session asks for, of somebody who logged in, at a moment that the clock
 /// gives; and so is the event with which a disk failed, which may be on the disk.
 pub fn each_entry_has_its_line<I: Source, C: Clock>(input: &I, clock: &C)
-    ensures { EachEntryHasItsLine (sources_of (C.gives clock.now) I.left) }
+    ensures { (inputs : Option (List (Option (List ℕ)))) (nonces : Option (List ℕ)) →
+        EachEntryHasItsLine (sources_of (C.gives clock.now) I.left inputs nonces) }
 {
     let _ = input;
     let _ = clock;
@@ -32,7 +47,8 @@ pub fn healthy_runs_end_so<I: Source, D: Disk, C: Clock, L: Listener>(
     clock: &C,
     net: &L,
 )
-    ensures { HealthyRunsEndSo (sources_of (C.gives clock.now) I.left) (IsPinned D.clock D.left_since D.image) L.over }
+    ensures { (inputs : Option (List (Option (List ℕ)))) (nonces : Option (List ℕ)) →
+        HealthyRunsEndSo (sources_of (C.gives clock.now) I.left inputs nonces) (IsPinned D.clock D.left_since D.image) L.over }
 {
     let _ = input;
     let _ = disk;

@@ -8,6 +8,6 @@
 mod commands;
 pub mod laws;
 mod serving;
-mod telling;
+mod status_lines;
 
 pub use commands::run;

@@ -5,13 +5,13 @@ ghost use Rattle.std.specs.List.{AllByRecursion};
 ghost use Rattle.journal_records.specs.EventSpelling.{IsReadEvent};
 ghost use Rattle.pcfs_server.specs.Ends.{number_of};
 ghost use Rattle.session_service.specs.Connections.{AreOfConnections};
-ghost use Rattle.session_service.specs.Sessions.{sources_of, AreOfSeenSession};
+ghost use Rattle.session_service.specs.Sessions.{sources_of, inputs_of, AreOfSeenSession};
 ghost use Rattle.shared_store.specs.GoesOn.{HasGoneOn};
 ghost use Rattle.pcfs_run.specs.Passes.{IsGrown};
 ghost use Rattle.pcfs_run.specs.Served.{AreAttended};
 
-use pcfs_ports::{Clock, Disk, Listener, Nonces};
-use pcfs_server::{ServeEnd, serve_conns};
+use pcfs_ports::{Clock, Disk};
+use pcfs_server::{ServeEnd, TellingListener, TellingNonces, serve_conns};
 use pcfs_store::Store;
 use session_service::{SessionDoor, SessionService};
 use shared_store::OpenedStore;
@@ -29,12 +29,12 @@ fn attend_all<
     R: Threads + Wait + Sync,
     D: Disk + Send,
     C: Clock + Sync,
-    L: Listener,
-    N: Nonces + Sync,
+    L: TellingListener + Sync,
+    N: TellingNonces + Sync,
 >(
     rt: &R,
     alloc: Global,
-    service: &SessionService<'a, OpenedStore<D>, C, N>,
+    service: &SessionService<'a, OpenedStore<D>, C, N, L>,
     front: &mut SessionDoor<'a, OpenedStore<D>, N>,
     port: u16,
     count: u64,
@@ -45,11 +45,16 @@ fn attend_all<
     requires none { front.old.door.retired ≡ [] }
     requires unserved { front.old.served ≡ 0 }
     requires few { count ≤ 1000000 }
+    requires nonces { service.now.nonces.value ≡ front.old.nonces.now }
+    requires net { service.now.net.value ≡ net.old }
     ensures same_reference { front.new.nonces.ghost_name ≡ front.old.nonces.ghost_name }
     ensures lock { front.new.door.lock ≡ service.now.lock.now }
     ensures out { front.new.door.out ≡ front.old.door.out }
     ensures opening { front.new.door.opening ≡ front.old.door.opening }
-    ensures of_connections { AreOfConnections (AreOfSeenSession (sources_of (C.gives service.now.clock.now) L.In.left) front.new.door.seen) (number_of result) front.new.door.retired }
+    ensures of_connections { AreOfConnections
+        (AreOfSeenSession (sources_of (C.gives service.now.clock.now) L.In.left
+        (inputs_of L.In.left (L.queue net.old)) (N.coming front.old.nonces.now))
+        front.new.door.seen) (number_of result) front.new.door.retired }
     ensures made { front.new.door.made ≤ count }
     ensures attended { AreAttended count
         (record { waiting = L.waiting net.old; over = L.over net.old; faults = L.faults net.old; nonce_faults = N.faults front.old.nonces.now })
@@ -63,8 +68,8 @@ fn serve_under<
     R: Threads + Wait + Sync,
     D: Disk + Send,
     C: Clock + Sync,
-    L: Listener,
-    N: Nonces + Sync,
+    L: TellingListener + Sync,
+    N: TellingNonces + Sync,
 >(
     rt: &R,
     alloc: Global,
@@ -83,13 +88,18 @@ fn serve_under<
     ensures lock { result.1.lock ≡ lock.now }
     ensures out { result.1.out ≡ door.out }
     ensures opening { result.1.opening ≡ door.opening }
-    ensures of_connections { AreOfConnections (AreOfSeenSession (sources_of (C.gives clock.now) L.In.left) result.1.seen) (number_of result.0) result.1.retired }
+    ensures of_connections { AreOfConnections
+        (AreOfSeenSession (sources_of (C.gives clock.now) L.In.left
+        (inputs_of L.In.left (L.queue net.old)) (N.coming nonces.old)) result.1.seen)
+        (number_of result.0) result.1.retired }
     ensures made { result.1.made ≤ count }
     ensures attended { AreAttended count
         (record { waiting = L.waiting net.old; over = L.over net.old; faults = L.faults net.old; nonce_faults = N.faults nonces.old })
         (record { waiting = L.waiting net.new; over = L.over net.new; faults = L.faults net.new; nonce_faults = N.faults nonces.new }) result.0 }
 {
-    let service: SessionService<'_, OpenedStore<D>, C, N> = SessionService::new(lock, clock);
+    let service: SessionService<'_, OpenedStore<D>, C, N, L> = SessionService::new(
+        lock, clock, nonces, net,
+    );
     let mut front = SessionDoor {
         door,
         nonces: &mut *nonces,
@@ -110,8 +120,8 @@ pub fn serve_store<
     R: Threads + Wait + Sync,
     D: Disk + Send,
     C: Clock + Sync,
-    L: Listener,
-    N: Nonces + Sync,
+    L: TellingListener + Sync,
+    N: TellingNonces + Sync,
 >(
     rt: &R,
     alloc: Global,
@@ -128,7 +138,9 @@ pub fn serve_store<
     requires some { 1 ≤ count }
     requires few { count ≤ 1000000 }
     ensures gone_on { HasGoneOn D.clock D.left_since D.image D.faults store result.1 }
-    ensures grown { IsGrown (sources_of (C.gives clock.now) L.In.left) (number_of result.0) count store result.1 }
+    ensures grown { IsGrown (sources_of (C.gives clock.now) L.In.left
+        (inputs_of L.In.left (L.queue net.old)) (N.coming nonces.old)) (number_of result.0) count
+        store result.1 }
     ensures attended { AreAttended count
         (record { waiting = L.waiting net.old; over = L.over net.old; faults = L.faults net.old; nonce_faults = N.faults nonces.old })
         (record { waiting = L.waiting net.new; over = L.over net.new; faults = L.faults net.new; nonce_faults = N.faults nonces.new }) result.0 }

@@ -1,5 +1,5 @@
 -- A line of a secrets file gives one key.
-use Rattle.std.proofs.Common.{◌≡◌, ◌+◌, ◌≤◌, ℕ, Bool, true, false, Option, Some, None, MatchOption, MatchBool, List, [], ◌∷◌, ◌++◌, IsTrue, codes, length, get_or, refl, sym, ap, ap₂, ◌∙◌, subst, arith}
+use Rattle.std.proofs.Common.{◌≡◌, ◌+◌, ℕ, Bool, true, false, Option, Some, None, MatchOption, MatchBool, List, [], ◌∷◌, ◌++◌, IsTrue, codes, get_or, refl, sym, ap, ap₂, ◌∙◌, subst, arith}
 use Rattle.std.proofs.lemmas.List.{append_cancel_left}
 use Rattle.bl_syntax.specs.Names.{is_principal_name}
 use Rattle.line_text.proofs.HexLemmas.{IsHex-same}

@@ -33,7 +33,8 @@ IsCredentialWord word (rooted height root) = IsRootWord word height root
 
 -- a line with a name and its key or its root
 pub data IsKeyLine : List ℕ → KeyView → Type 0 where
-  key_line : (who word : List ℕ) (holds : Credential) → IsTrue (is_principal_name who) → IsCredentialWord word holds →
+  key_line : (who word : List ℕ) (holds : Credential) → IsTrue (is_principal_name who) →
+      IsCredentialWord word holds →
       IsKeyLine (literal_of holds ++ (who ++ 32 ∷ word)) (record { who = who; holds = holds })
 
 -- the line gives this key or root to a name that has none in the ring
@@ -41,7 +42,8 @@ pub record GivesKey (ring : List KeyView) (line : List ℕ) (k : KeyView) : Type
   pub line_is : IsKeyLine line k
   pub unknown : IsKnown ring k.who → ⊥
 
--- the word writes this key or root, and the name may have it: it is a principal's, and has none in the ring
+-- the word writes this key or root, and the name may have it: it is a principal's, and has none in
+-- the ring
 pub record MayHave (ring : List KeyView) (name word : List ℕ) (holds : Credential) : Type 0 where
   pub named : IsTrue (is_principal_name name)
   pub holds_is : IsCredentialWord word holds
@@ -50,10 +52,13 @@ pub record MayHave (ring : List KeyView) (name word : List ℕ) (holds : Credent
 -- each line gives a key or a root to a name that has none, in the ring or by a line before it
 abbrev pub GiveKeys : List KeyView → List (List ℕ) → List KeyView → Type 0
 GiveKeys ring [] after = ring ≡ after
-GiveKeys ring (line ∷ lines) after = (k : KeyView) × GivesKey ring line k × GiveKeys (ring ++ k ∷ []) lines after
+GiveKeys ring (line ∷ lines) after = (k : KeyView) × GivesKey ring line k ×
+    GiveKeys (ring ++ k ∷ []) lines after
 
--- the line at this place, from 0, is the first that gives no key and no root to a name that has none
+-- the line at this place, from 0, is the first that gives no key and no root to a name that has
+-- none
 abbrev pub IsBadAt : List KeyView → List (List ℕ) → ℕ → Type 0
 IsBadAt ring [] place = ⊥
 IsBadAt ring (line ∷ lines) zero = (k : KeyView) → GivesKey ring line k → ⊥
-IsBadAt ring (line ∷ lines) (suc place) = (k : KeyView) × GivesKey ring line k × IsBadAt (ring ++ k ∷ []) lines place
+IsBadAt ring (line ∷ lines) (suc place) = (k : KeyView) × GivesKey ring line k ×
+    IsBadAt (ring ++ k ∷ []) lines place

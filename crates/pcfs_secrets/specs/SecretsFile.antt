@@ -1,4 +1,5 @@
--- A secrets file: the key of the seal in its first line, and names with their keys or roots in the others, in order (this project's own).
+-- A secrets file: the key of the seal in its first line, and names with their keys or roots in the
+-- others, in order (this project's own).
 use Rattle.std.specs.Prelude.{◌≡◌, ◌+◌, ℕ, List, [], ◌∷◌, Result, Ok, Err}
 use Rattle.line_text.specs.Lines.{lines_of}
 use Rattle.pcfs_secrets.specs.declared.secrets.Secrets.{Secrets}
@@ -15,12 +16,15 @@ IsSecrets (line ∷ lines) secrets = IsSealLine line secrets.seal_key × GiveKey
 -- the line of this number, from 1, is the first bad one; if there is no line it is the first
 pub data IsFirstBad : List (List ℕ) → ℕ → Type 0 where
   no_line : IsFirstBad [] 1
-  no_seal : (line : List ℕ) (lines : List (List ℕ)) → ((key : List ℕ) → IsSealLine line key → ⊥) → IsFirstBad (line ∷ lines) 1
-  no_key : (line key : List ℕ) (lines : List (List ℕ)) (place : ℕ) → IsSealLine line key → IsBadAt [] lines place → IsFirstBad (line ∷ lines) (place + 2)
+  no_seal : (line : List ℕ) (lines : List (List ℕ)) → ((key : List ℕ) → IsSealLine line key → ⊥) →
+      IsFirstBad (line ∷ lines) 1
+  no_key : (line key : List ℕ) (lines : List (List ℕ)) (place : ℕ) → IsSealLine line key →
+      IsBadAt [] lines place → IsFirstBad (line ∷ lines) (place + 2)
 
 -- why not all of these lines gave their keys, where the first of them is line 2
 abbrev pub IsFaultOfKeys : List KeyView → List (List ℕ) → SecretFault → Type 0
-IsFaultOfKeys ring lines (BadLine number) = (place : ℕ) × IsBadAt ring lines place × (number ≡ place + 2)
+IsFaultOfKeys ring lines (BadLine number) = (place : ℕ) × IsBadAt ring lines place ×
+    (number ≡ place + 2)
 IsFaultOfKeys ring lines NoMemory = Unit {0}
 
 -- what a reading of the lines answers

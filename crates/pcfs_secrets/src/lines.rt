@@ -76,7 +76,8 @@ pub fn read_seal(alloc: Global, line: &[u8]) -> Result<Option<Bytes>, NoMemory>
 // The name in a line that begins with this literal, and the word after it.
 fn name_and_word<'a>(line: &'a [u8], literal: &[u8]) -> Option<(&'a [u8], &'a [u8])>
     ensures found { IfSome result (λ p. line.now ≡ literal.now ++ (p.0.now ++ 32 ∷ p.1.now)) }
-    ensures only { (who word : List ℕ) → IsTrue (is_principal_name who) → line.now ≡ literal.now ++ (who ++ 32 ∷ word)
+    ensures only { (who word : List ℕ) → IsTrue (is_principal_name who)
+        → line.now ≡ literal.now ++ (who ++ 32 ∷ word)
         → IsSomeAnd result (λ p. (p.0.now ≡ who) × (p.1.now ≡ word)) }
 {
     let rest = rest_after(line, literal)?;

@@ -10,7 +10,8 @@ number_of (Done n) = n
 number_of (NetFault n) = n
 number_of (NoMemory n) = n
 
--- What a listener had to give, if it tells that, fell by the connections that were attended, and at an end other than
+-- What a listener had to give, if it tells that, fell by the connections that were attended, and at
+-- an end other than
 -- `Done` perhaps by one more, which was not admitted.
 abbrev pub HasTaken : ServeEnd → Option ℕ → Option ℕ → Type 0
 HasTaken (Done n) old new = FallsBy n old new

@@ -28,7 +28,7 @@ impl EndedThreads {
     }
 
     /// Tells that the thread of this key has ended. There is room for its key.
-    pub(crate) fn tell<R: Wait>(&self, rt: &R, key: usize) {
+    pub(crate) fn report<R: Wait>(&self, rt: &R, key: usize) {
         let mut keys = self.keys.lock(rt);
         let _ = keys.push(key);
         drop(keys);

@@ -16,5 +16,6 @@ pub fn done_attends_the_smaller_number<L: Listener>(listener: &L)
 
 /// The number of connections that were attended is what the door's count of tokens that were attended and left rose by.
 pub fn the_number_is_the_rise_of_the_count()
-    ensures { (end : ServeEnd) (before after : ℕ) → after ≡ before + number_of end → after - before ≡ number_of end }
+    ensures { (end : ServeEnd) (before after : ℕ) → after ≡ before + number_of end
+        → after - before ≡ number_of end }
 {}

@@ -1,7 +1,8 @@
 //! Serving: each connection of a listener is attended by a service, at most once, in a thread of its own, at most so many at a time.
 //!
 //! `serve_conns` returns how it ended and how many connections were attended: what the service's own count rose by. Each
-//! token that the service admitted was attended at most once and has left.
+//! token that the service admitted was attended at most once and has left; and it was attended with the connection of its
+//! number, as that was accepted: so no other input is read under it, and no other output written.
 #![tactic(auto)]
 
 mod end;
@@ -10,6 +11,7 @@ pub mod laws;
 mod listener_and_door;
 mod service;
 mod serving;
+mod telling;
 #[cfg(test)]
 mod tests;
 mod threads;
@@ -17,3 +19,4 @@ mod threads;
 pub use end::ServeEnd;
 pub use service::{AdmitFault, Service};
 pub use serving::serve_conns;
+pub use telling::{TellingListener, TellingNonces};

@@ -4,14 +4,16 @@ ghost use Rattle.std.specs.Prelude.{◌≡◌, ◌+◌, ◌<◌, ◌≤◌, true
 ghost use Rattle.std.specs.Borrow.{GName};
 ghost use Rattle.pcfs_ports.specs.Faults.{HasRisen};
 ghost use Rattle.pcfs_ports.specs.Accepted.{count_of, FallsBy};
+ghost use Rattle.pcfs_server.specs.Telling.{IfGiven, IsAt, AreTakenOff};
 
 use super::end::ServeEnd;
 use super::service::{AdmitFault, Service};
-use pcfs_ports::{Accepted, Listener};
+use super::telling::TellingListener;
+use pcfs_ports::Accepted;
 use std::alloc::Global;
 
 /// A listener and a service's door, by reference, and the end that was noted.
-pub(crate) trait Front<L: Listener, H: Service<L::In, L::Out>> {
+pub(crate) trait Front<L: TellingListener, H: Service<L::In, L::Out>> {
     ghost use Rattle.pcfs_server.specs.declared.end.ServeEnd.{ServeEnd};
 
     ghost listener: { Self → L };
@@ -27,10 +29,14 @@ pub(crate) trait Front<L: Listener, H: Service<L::In, L::Out>> {
     fn accept(&mut self, alloc: Global) -> Accepted<L::In, L::Out>
         ensures refs { refs self.new ≡ refs self.old }
         ensures door { door self.new ≡ door self.old }
+        ensures first { IfGiven result (λ input output. IsAt (L.queue (listener self.old)) 0 input output) }
+        ensures queue { AreTakenOff (count_of result) (L.queue (listener self.old)) (L.queue (listener self.new)) }
         ensures waiting { FallsBy (count_of result) (L.waiting (listener self.old)) (L.waiting (listener self.new)) }
         ensures closed { result ≡ Accepted.Closed → L.over (listener self.new) }
-        ensures none_left { result ≡ Accepted.Closed → IfSome (L.waiting (listener self.new)) (λ left. left ≡ 0) }
-        ensures risen { result ≡ Accepted.Failed → HasRisen (L.faults (listener self.old)) (L.faults (listener self.new)) }
+        ensures none_left { result ≡ Accepted.Closed →
+            IfSome (L.waiting (listener self.new)) (λ left. left ≡ 0) }
+        ensures risen { result ≡ Accepted.Failed →
+            HasRisen (L.faults (listener self.old)) (L.faults (listener self.new)) }
         ensures never_falls { L.faults (listener self.old) ≤ L.faults (listener self.new) };
 
     fn admit(&mut self, service: &H, alloc: Global) -> Result<H::Token, AdmitFault>
@@ -40,10 +46,13 @@ pub(crate) trait Front<L: Listener, H: Service<L::In, L::Out>> {
         ensures listener { listener self.new ≡ listener self.old }
         ensures belongs { H.is_door service.now (door self.new) }
         ensures token { IfOk result (λ token. H.is_token service.now token × (H.attended token ≡ false)) }
+        ensures admitted { H.admitted (door self.new) ≡ (if is_ok result then H.admitted (door self.old) + 1 else H.admitted (door self.old)) }
+        ensures number { IfOk result (λ token. H.number token ≡ H.admitted (door self.new)) }
         ensures out { H.out (door self.new) ≡ (if is_ok result then H.out (door self.old) + 1 else H.out (door self.old)) }
         ensures served { H.served (door self.new) ≡ H.served (door self.old) }
         ensures room { H.room (door self.old) ≤ H.room (door self.new) + 1 }
-        ensures risen { IsErrOf result AdmitFault.Failed → HasRisen (H.faults (door self.old)) (H.faults (door self.new)) }
+        ensures risen { IsErrOf result AdmitFault.Failed →
+            HasRisen (H.faults (door self.old)) (H.faults (door self.new)) }
         ensures never_falls { H.faults (door self.old) ≤ H.faults (door self.new) }
         ensures kept { H.kept (door self.new) ≡ H.kept (door self.old) };
 
@@ -55,6 +64,7 @@ pub(crate) trait Front<L: Listener, H: Service<L::In, L::Out>> {
         ensures refs { refs self.new ≡ refs self.old }
         ensures listener { listener self.new ≡ listener self.old }
         ensures belongs { H.is_door service.now (door self.new) }
+        ensures admitted { H.admitted (door self.new) ≡ H.admitted (door self.old) }
         ensures out { H.out (door self.new) + 1 ≡ H.out (door self.old) }
         ensures served { H.served (door self.new) ≡ H.served (door self.old) + 1 }
         ensures room { H.room (door self.old) ≤ H.room (door self.new) }
@@ -75,7 +85,7 @@ pub(crate) struct ListenerAndDoor<'l, 'd, L, D> {
     pub(crate) end: ServeEnd,
 }
 
-impl<'l, 'd, L: Listener, H: Service<L::In, L::Out>> Front<L, H>
+impl<'l, 'd, L: TellingListener, H: Service<L::In, L::Out>> Front<L, H>
     for ListenerAndDoor<'l, 'd, L, H::Door> {
     ghost listener = { λ d. d.listener.now };
 
@@ -86,7 +96,7 @@ impl<'l, 'd, L: Listener, H: Service<L::In, L::Out>> Front<L, H>
     ghost refs = { λ d. (d.listener.ghost_name, d.door.ghost_name) };
 
     fn accept(&mut self, alloc: Global) -> Accepted<L::In, L::Out> {
-        self.listener.accept(alloc)
+        self.listener.next(alloc)
     }
 
     fn admit(&mut self, service: &H, alloc: Global) -> Result<H::Token, AdmitFault> {

@@ -39,6 +39,15 @@ pub trait Service<I: Source, O: Sink> {
     // The connection of this token was attended.
     ghost attended: { Self.Token → Bool };
 
+    // How many tokens were admitted.
+    ghost admitted: { Self.Door → ℕ };
+
+    // Of which connection it is: of the first that is admitted, 1, and so on.
+    ghost number: { Self.Token → ℕ };
+
+    // The connection of that number may be one with this input and this output.
+    ghost expects: { Self → ℕ → I → O → Type 0 };
+
     // How many tokens were attended and left.
     ghost served: { Self.Door → ℕ };
 
@@ -60,14 +69,17 @@ pub trait Service<I: Source, O: Sink> {
         requires room { 0 < room door.old }
         ensures belongs { is_door self.now door.new }
         ensures token { IfOk result (λ token. is_token self.now token × (attended token ≡ false)) }
+        ensures admitted { admitted door.new ≡ (if is_ok result then admitted door.old + 1 else admitted door.old) }
+        ensures number { IfOk result (λ token. number token ≡ admitted door.new) }
         ensures out { out door.new ≡ (if is_ok result then out door.old + 1 else out door.old) }
         ensures served { served door.new ≡ served door.old }
         ensures room { room door.old ≤ room door.new + 1 }
-        ensures risen { IsErrOf result AdmitFault.Failed → HasRisen (faults door.old) (faults door.new) }
+        ensures risen { IsErrOf result AdmitFault.Failed →
+            HasRisen (faults door.old) (faults door.new) }
         ensures never_falls { faults door.old ≤ faults door.new }
         ensures kept { kept door.new ≡ kept door.old };
 
-    /// Attends a connection, whatever its input and output do. It may wait.
+    /// Attends the connection of the token's number, whatever its input and output do. It may wait.
     fn attend<R: Wait>(
         &self,
         rt: &R,
@@ -78,6 +90,7 @@ pub trait Service<I: Source, O: Sink> {
     )
         requires belongs { is_token self.now token.old }
         requires once { attended token.old ≡ false }
+        requires expected { expects self.now (number token.old) input.old output.old }
         ensures belongs { is_token self.now token.new }
         ensures attended { attended token.new ≡ true };
 
@@ -87,6 +100,7 @@ pub trait Service<I: Source, O: Sink> {
         requires token { is_token self.now token }
         requires out { 0 < out door.old }
         ensures belongs { is_door self.now door.new }
+        ensures admitted { admitted door.new ≡ admitted door.old }
         ensures out { out door.new + 1 ≡ out door.old }
         ensures served { served door.new ≡ (if attended token then served door.old + 1 else served door.old) }
         ensures room { room door.old ≤ room door.new }

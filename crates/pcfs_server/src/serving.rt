@@ -1,17 +1,19 @@
 //! The serving loop.
 
-ghost use Rattle.std.specs.Prelude.{◌≡◌, ◌+◌, ◌<◌, ◌≤◌, ◌⊎◌};
+ghost use Rattle.std.specs.Prelude.{◌≡◌, ℕ, ◌+◌, ◌<◌, ◌≤◌, ◌⊎◌};
 ghost use Rattle.slab.specs.Slab.{slab_len};
 ghost use Rattle.pcfs_ports.specs.Faults.{HasRisen};
 ghost use Rattle.pcfs_server.specs.Table.{AllHave};
+ghost use Rattle.pcfs_server.specs.Telling.{IsAt};
 ghost use Rattle.pcfs_server.specs.Ends.{number_of, HasTaken, HasCause, IsNetFault};
 
 use super::end::ServeEnd;
 use super::ended::EndedThreads;
 use super::listener_and_door::{Front, ListenerAndDoor};
 use super::service::{AdmitFault, Service};
+use super::telling::TellingListener;
 use super::threads::{Table, begin, make_room};
-use pcfs_ports::{Accepted, Listener};
+use pcfs_ports::Accepted;
 use slab::Slab;
 use std::alloc::Global;
 use std::sync::Wait;
@@ -19,11 +21,12 @@ use std::thread;
 use std::thread::{Scope, Threads};
 
 // Accepts connections and begins to attend each, until there is a cause to end.
+#[tactic(auto, using(crate::proofs::TellingLemmas::taken_none, crate::proofs::TellingLemmas::taken_more, crate::proofs::TellingLemmas::first_is_at))]
 fn accept_all<
     's,
     'e,
     R: Threads + Wait + Sync,
-    L: Listener,
+    L: TellingListener,
     H: Service<L::In, L::Out> + Sync,
     F: Front<L, H>,
 >(
@@ -46,9 +49,13 @@ where
     requires out { slab_len table.old ≤ H.out (F.door front.old) }
     requires room { count ≤ H.room (F.door front.old) }
     requires most { 0 < most }
+    requires expected { (place : ℕ) (input : L.In) (output : L.Out) →
+        IsAt (L.queue (F.listener front.old)) place input output →
+        H.expects service.now (H.admitted (F.door front.old) + place + 1) input output }
     ensures handles { AllHave (λ handle. handle.promise.service.value ≡ service.now) table.new }
     ensures belongs { H.is_door service.now (F.door front.new) }
     ensures out { H.out (F.door front.new) + slab_len table.old ≡ H.out (F.door front.old) + slab_len table.new }
+    ensures admitted { H.admitted (F.door front.new) ≡ H.admitted (F.door front.old) + number_of result }
     ensures served { H.served (F.door front.new) + slab_len table.new ≡ H.served (F.door front.old) + slab_len table.old + number_of result }
     ensures taken { HasTaken result (L.waiting (F.listener front.old)) (L.waiting (F.listener front.new)) }
     ensures cause { HasCause result count (L.over (F.listener front.new)) (L.waiting (F.listener front.new)) }
@@ -86,7 +93,7 @@ fn serve<
     's,
     'e,
     R: Threads + Wait + Sync,
-    L: Listener,
+    L: TellingListener,
     H: Service<L::In, L::Out> + Sync,
     F: Front<L, H>,
 >(
@@ -106,8 +113,12 @@ where
     requires belongs { H.is_door service.now (F.door front.old) }
     requires room { count ≤ H.room (F.door front.old) }
     requires most { 0 < most }
+    requires expected { (place : ℕ) (input : L.In) (output : L.Out) →
+        IsAt (L.queue (F.listener front.old)) place input output →
+        H.expects service.now (H.admitted (F.door front.old) + place + 1) input output }
     ensures belongs { H.is_door service.now (F.door front.new) }
     ensures out { H.out (F.door front.new) ≡ H.out (F.door front.old) }
+    ensures admitted { H.admitted (F.door front.new) ≡ H.admitted (F.door front.old) + number_of (F.noted front.new) }
     ensures served { H.served (F.door front.new) ≡ H.served (F.door front.old) + number_of (F.noted front.new) }
     ensures taken { HasTaken (F.noted front.new) (L.waiting (F.listener front.old)) (L.waiting (F.listener front.new)) }
     ensures cause { HasCause (F.noted front.new) count (L.over (F.listener front.new)) (L.waiting (F.listener front.new)) }
@@ -132,7 +143,7 @@ where
 fn serve_in_scope<
     'e,
     F: Front<L, H>,
-    L: Listener,
+    L: TellingListener,
     H: Service<L::In, L::Out> + Sync,
     R: Threads + Wait + Sync,
 >(
@@ -151,8 +162,12 @@ where
     requires belongs { H.is_door service.now (F.door front.old) }
     requires room { count ≤ H.room (F.door front.old) }
     requires most { 0 < most }
+    requires expected { (place : ℕ) (input : L.In) (output : L.Out) →
+        IsAt (L.queue (F.listener front.old)) place input output →
+        H.expects service.now (H.admitted (F.door front.old) + place + 1) input output }
     ensures belongs { H.is_door service.now (F.door front.new) }
     ensures out { H.out (F.door front.new) ≡ H.out (F.door front.old) }
+    ensures admitted { H.admitted (F.door front.new) ≡ H.admitted (F.door front.old) + number_of (F.noted front.new) }
     ensures served { H.served (F.door front.new) ≡ H.served (F.door front.old) + number_of (F.noted front.new) }
     ensures taken { HasTaken (F.noted front.new) (L.waiting (F.listener front.old)) (L.waiting (F.listener front.new)) }
     ensures cause { HasCause (F.noted front.new) count (L.over (F.listener front.new)) (L.waiting (F.listener front.new)) }
@@ -172,9 +187,13 @@ where
             requires belongs { H.is_door service.now (F.door front.now) }
             requires room { count ≤ H.room (F.door front.now) }
             requires most { 0 < most }
+            requires expected { (place : ℕ) (input : L.In) (output : L.Out) →
+                IsAt (L.queue (F.listener front.now)) place input output →
+                H.expects service.now (H.admitted (F.door front.now) + place + 1) input output }
             ensures same_reference { result.ghost_name ≡ front.entry.ghost_name }
             ensures belongs { H.is_door service.entry.now (F.door result.now) }
             ensures out { H.out (F.door result.now) ≡ H.out (F.door front.entry.now) }
+            ensures admitted { H.admitted (F.door result.now) ≡ H.admitted (F.door front.entry.now) + number_of (F.noted result.now) }
             ensures served { H.served (F.door result.now) ≡ H.served (F.door front.entry.now) + number_of (F.noted result.now) }
             ensures taken { HasTaken (F.noted result.now) (L.waiting (F.listener front.entry.now)) (L.waiting (F.listener result.now)) }
             ensures cause { HasCause (F.noted result.now) count (L.over (F.listener result.now)) (L.waiting (F.listener result.now)) }
@@ -200,11 +219,15 @@ where
 /// it waits until all have ended, so each token has left: as many are out as before, and the number in the end is what the
 /// door's count of tokens that were attended and left rose by.
 ///
+/// The tokens have numbers, one after another, and each was attended with the connection of its number, as that was when it
+/// was accepted: with the first that the listener gave, the second, and so on. What the service expects of the connection of
+/// a number has to hold of each that the listener tells; of one that it does not tell it has to hold whatever that is.
+///
 /// `Done` comes only if `count` were attended or the listener is over; at every other end fewer were. `NetFault` comes only if the listener's count of
 /// faults or the door's rose. `NoMemory` may come at any time before that. Memory that is refused for a thread is no end:
 /// the caller then attends the connection itself. A connection that was accepted and not admitted is dropped. With a
 /// `count` of 0 it does not listen.
-pub fn serve_conns<R: Threads + Wait + Sync, L: Listener, H: Service<L::In, L::Out> + Sync>(
+pub fn serve_conns<R: Threads + Wait + Sync, L: TellingListener, H: Service<L::In, L::Out> + Sync>(
     rt: &R,
     alloc: Global,
     listener: &mut L,
@@ -217,19 +240,24 @@ pub fn serve_conns<R: Threads + Wait + Sync, L: Listener, H: Service<L::In, L::O
     requires belongs { H.is_door service.now door.old }
     requires room { count ≤ H.room door.old }
     requires most { 0 < most }
+    requires expected { (place : ℕ) (input : L.In) (output : L.Out) →
+        IsAt (L.queue listener.old) place input output →
+        H.expects service.now (H.admitted door.old + place + 1) input output }
     ensures belongs { H.is_door service.now door.new }
     ensures out { H.out door.new ≡ H.out door.old }
+    ensures admitted { H.admitted door.new ≡ H.admitted door.old + number_of result }
     ensures served { H.served door.new ≡ H.served door.old + number_of result }
     ensures taken { HasTaken result (L.waiting listener.old) (L.waiting listener.new) }
     ensures cause { HasCause result count (L.over listener.new) (L.waiting listener.new) }
     ensures risen { IsNetFault result →
-        HasRisen (L.faults listener.old) (L.faults listener.new) ⊎ HasRisen (H.faults door.old) (H.faults door.new) }
+        HasRisen (L.faults listener.old) (L.faults listener.new) ⊎
+        HasRisen (H.faults door.old) (H.faults door.new) }
     ensures room { H.room door.old ≤ H.room door.new + count }
     ensures listener_faults { L.faults listener.old ≤ L.faults listener.new }
     ensures door_faults { H.faults door.old ≤ H.faults door.new }
     ensures kept { H.kept door.new ≡ H.kept door.old }
 {
-    if count > 0 && listener.listen(port).is_err() {
+    if count > 0 && listener.start(port).is_err() {
         return ServeEnd::NetFault(0);
     }
     let ended = EndedThreads::new(alloc);

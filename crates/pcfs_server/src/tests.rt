@@ -25,6 +25,7 @@ struct EchoGate {
 
 #[derive(Drop)]
 struct EchoPass {
+    number: u64,
     attended: bool,
 }
 
@@ -81,6 +82,12 @@ impl<I: Source, O: Sink> Service<I, O> for Counting {
 
     ghost attended = { λ token. token.attended };
 
+    ghost admitted = { λ gate. gate.made };
+
+    ghost number = { λ token. token.number };
+
+    ghost expects = { λ _ _ _ _. Unit {0} };
+
     ghost served = { λ gate. gate.served };
 
     ghost out = { λ gate. gate.out };
@@ -103,7 +110,10 @@ impl<I: Source, O: Sink> Service<I, O> for Counting {
             faults: door.faults,
             failing: door.failing,
         };
-        Ok(EchoPass { attended: false })
+        Ok(EchoPass {
+            number: door.made,
+            attended: false,
+        })
     }
 
     fn attend<R: Wait>(

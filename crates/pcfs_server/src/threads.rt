@@ -7,7 +7,8 @@ ghost use Rattle.pcfs_server.specs.Table.{AllHave};
 use super::ended::EndedThreads;
 use super::listener_and_door::Front;
 use super::service::Service;
-use pcfs_ports::{Listener, Sink, Source};
+use super::telling::TellingListener;
+use pcfs_ports::{Sink, Source};
 use slab::Slab;
 use std::alloc::Global;
 use std::marker::PhantomData;
@@ -49,6 +50,7 @@ fn attend_and_close<R: Wait, I: Source + Drop, O: Sink + Drop, H: Service<I, O>>
 ) -> H::Token
     requires belongs { H.is_token service.now token }
     requires once { H.attended token ≡ false }
+    requires expected { H.expects service.now (H.number token) input output }
     ensures belongs { H.is_token service.now result }
     ensures attended { H.attended result ≡ true }
 {
@@ -60,7 +62,7 @@ fn attend_and_close<R: Wait, I: Source + Drop, O: Sink + Drop, H: Service<I, O>>
 }
 
 // Joins the thread of this key, if there is one, and lets its token leave.
-fn join_one<R: Threads, L: Listener, H: Service<L::In, L::Out>, F: Front<L, H>>(
+fn join_one<R: Threads, L: TellingListener, H: Service<L::In, L::Out>, F: Front<L, H>>(
     rt: &R,
     service: &H,
     table: &mut Table<L::In, L::Out, H, H::Token>,
@@ -72,6 +74,7 @@ fn join_one<R: Threads, L: Listener, H: Service<L::In, L::Out>, F: Front<L, H>>(
     requires out { slab_len table.old ≤ H.out (F.door front.old) }
     ensures handles { AllHave (λ handle. handle.promise.service.value ≡ service.now) table.new }
     ensures belongs { H.is_door service.now (F.door front.new) }
+    ensures admitted { H.admitted (F.door front.new) ≡ H.admitted (F.door front.old) }
     ensures out { H.out (F.door front.new) + slab_len table.old ≡ H.out (F.door front.old) + slab_len table.new }
     ensures served { H.served (F.door front.new) + slab_len table.new ≡ H.served (F.door front.old) + slab_len table.old }
     ensures fewer { slab_len table.new ≤ slab_len table.old }
@@ -88,7 +91,12 @@ fn join_one<R: Threads, L: Listener, H: Service<L::In, L::Out>, F: Front<L, H>>(
 }
 
 /// Joins the threads that have ended, and waits for ends until fewer than `most` threads are left.
-pub(crate) fn make_room<R: Threads + Wait, L: Listener, H: Service<L::In, L::Out>, F: Front<L, H>>(
+pub(crate) fn make_room<
+    R: Threads + Wait,
+    L: TellingListener,
+    H: Service<L::In, L::Out>,
+    F: Front<L, H>,
+>(
     rt: &R,
     service: &H,
     ended: &EndedThreads,
@@ -103,6 +111,7 @@ pub(crate) fn make_room<R: Threads + Wait, L: Listener, H: Service<L::In, L::Out
     ensures most { slab_len table.new < most }
     ensures handles { AllHave (λ handle. handle.promise.service.value ≡ service.now) table.new }
     ensures belongs { H.is_door service.now (F.door front.new) }
+    ensures admitted { H.admitted (F.door front.new) ≡ H.admitted (F.door front.old) }
     ensures out { H.out (F.door front.new) + slab_len table.old ≡ H.out (F.door front.old) + slab_len table.new }
     ensures served { H.served (F.door front.new) + slab_len table.new ≡ H.served (F.door front.old) + slab_len table.old }
     ensures refs { F.refs front.new ≡ F.refs front.old }
@@ -127,7 +136,7 @@ pub(crate) fn begin<
     's,
     'e,
     R: Threads + Wait + Sync,
-    L: Listener,
+    L: TellingListener,
     H: Service<L::In, L::Out> + Sync,
     F: Front<L, H>,
 >(
@@ -151,9 +160,11 @@ where
     requires belongs { H.is_door service.now (F.door front.old) }
     requires token { H.is_token service.now token }
     requires once { H.attended token ≡ false }
+    requires expected { H.expects service.now (H.number token) input output }
     requires out { slab_len table.old < H.out (F.door front.old) }
     ensures handles { AllHave (λ handle. handle.promise.service.value ≡ service.now) table.new }
     ensures belongs { H.is_door service.now (F.door front.new) }
+    ensures admitted { H.admitted (F.door front.new) ≡ H.admitted (F.door front.old) }
     ensures out { H.out (F.door front.new) + slab_len table.old + 1 ≡ H.out (F.door front.old) + slab_len table.new }
     ensures served { H.served (F.door front.new) + slab_len table.new ≡ H.served (F.door front.old) + slab_len table.old + 1 }
     ensures most { slab_len table.new ≤ slab_len table.old + 1 }
@@ -168,11 +179,11 @@ where
     let keys = table.len().saturating_add(2);
     let starts = most > 1 && ended.reserve(rt, keys).is_ok() && table.reserve(1).is_ok();
     let work = move || -> H::Token
-        requires { H.is_token service.now token × (H.attended token ≡ false) }
+        requires { H.is_token service.now token × (H.attended token ≡ false) × H.expects service.now (H.number token) input output }
         ensures { H.is_token service.entry.now result × (H.attended result ≡ true) }
     {
         let token = attend_and_close(rt, alloc, service, token, input, output);
-        ended.tell(rt, key);
+        ended.report(rt, key);
         token
     };
     let spawned = if starts {

@@ -1,7 +1,7 @@
 -- Lines that are answered over a store, one after the other.
 use Rattle.std.proofs.Common.{◌≡◌, ◌↔◌, ℕ, ◌≤◌, List, ◌∷◌, [], ◌++◌, length, true, false, Option, Some, None, refl, sym, subst, append-nil}
 use Rattle.std.specs.Prelude.{IsTrue, IsSome}
-use Rattle.pcfs_ports.specs.Told.{with_back, HoldsSome}
+use Rattle.pcfs_ports.specs.Observable.{with_back, HoldsSome}
 use Rattle.line_text.specs.Words.{HasNo}
 use Rattle.line_framer.specs.Framing.{FramerState, IsFirst}
 use Rattle.line_wire.specs.declared.reply.LineReply.{LineReply}

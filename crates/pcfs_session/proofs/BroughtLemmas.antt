@@ -13,7 +13,7 @@ use Rattle.pcfs_session.specs.declared.brought.BroughtProcap.TheVariants as foun
 use Rattle.pcfs_session.specs.Brought.{IsBroughtBy, AreProcapsAdded}
 use Rattle.access_history.specs.Replay.{replay}
 use Rattle.pcfs_session.specs.Procaps.{BringsProcap, held, issued, NamesIssue, AreBrought, IsFirstUnissued}
-use Rattle.pcfs_session.specs.ScriptRun.{Standing}
+use Rattle.pcfs_session.specs.ScriptRun.{ScriptState}
 
 -- a word brings its own procap
 pub brings_own : (key : List ℕ) (issues : List Issue) (word : ProcapWord) (p copied : Sealed) → word ≡ words.Procap p → copied ≡ p → BringsProcap key issues word copied
@@ -90,16 +90,16 @@ first_and_others [] word some is = absurd (omega (arith, some))
 first_and_others (w ∷ ws) word some is = ap (λ (x : ProcapWord). x ∷ ws) (sym is) ∙ ap (λ (t : List ProcapWord). word ∷ t) (sym (take_all (length (w ∷ ws) - 1) ws (omega arith)))
 
 -- what the words of a line bring where an interpreter stands
-pub unissued_seated : (inside seated : Standing) (shown words : List ProcapWord) (none added : List Sealed) (told : Option ℕ) (number : ℕ) → inside ≡ seated → shown ≡ words → told ≡ Some number →
+pub unissued_seated : (inside seated : ScriptState) (shown words : List ProcapWord) (none added : List Sealed) (told : Option ℕ) (number : ℕ) → inside ≡ seated → shown ≡ words → told ≡ Some number →
     AreProcapsAdded inside.secrets.seal_key (replay inside.base inside.events).issues shown none added told → IsFirstUnissued (replay seated.base seated.events).issues words number
 unissued_seated inside seated shown words none added told number same words_are is all =
     let first : IsFirstUnissued (replay inside.base inside.events).issues shown number = subst (AreProcapsAdded inside.secrets.seal_key (replay inside.base inside.events).issues shown none added) is all in
-    subst (λ (s : Standing). IsFirstUnissued (replay s.base s.events).issues words number) same
+    subst (λ (s : ScriptState). IsFirstUnissued (replay s.base s.events).issues words number) same
     (subst (λ (ws : List ProcapWord). IsFirstUnissued (replay inside.base inside.events).issues ws number) words_are first)
 
-pub brought_seated : (inside seated : Standing) (shown words : List ProcapWord) (none added : List Sealed) (told : Option ℕ) → inside ≡ seated → shown ≡ words → told ≡ None → none ≡ [] →
+pub brought_seated : (inside seated : ScriptState) (shown words : List ProcapWord) (none added : List Sealed) (told : Option ℕ) → inside ≡ seated → shown ≡ words → told ≡ None → none ≡ [] →
     AreProcapsAdded inside.secrets.seal_key (replay inside.base inside.events).issues shown none added told → AreBrought seated.secrets.seal_key (replay seated.base seated.events).issues words added
 brought_seated inside seated shown words none added told same words_are is empty all =
-    subst (λ (s : Standing). AreBrought s.secrets.seal_key (replay s.base s.events).issues words added) same
+    subst (λ (s : ScriptState). AreBrought s.secrets.seal_key (replay s.base s.events).issues words added) same
     (subst (λ (ws : List ProcapWord). AreBrought inside.secrets.seal_key (replay inside.base inside.events).issues ws added) words_are
     (AreBrought-added inside.secrets.seal_key (replay inside.base inside.events).issues shown none added told is empty all))

@@ -4,12 +4,12 @@ use Rattle.line_text.specs.Lines.{lines_of}
 use Rattle.line_wire.specs.declared.reply.LineReply.{LineReply}
 use Rattle.pcfs_secrets.specs.declared.secrets.Secrets.{Secrets}
 use Rattle.pcfs_session.specs.Laws.{IsOutcome}
-use Rattle.pcfs_session.specs.ScriptRun.{Standing, fresh_start}
+use Rattle.pcfs_session.specs.ScriptRun.{ScriptState, fresh_start}
 use Rattle.pcfs_session.proofs.LawfulRunLemmas.{IsLawfulStanding-fresh}
 use Rattle.pcfs_session.proofs.OneOutcomeLemmas.{one_outcome}
 use Rattle.pcfs_session.proofs.TotalLemmas.{has_outcome}
 
-pub exact_outcome : (secrets : Secrets) (input : List ℕ) → (replies : List LineReply) × (end : Standing) × IsOutcome (fresh_start secrets) (lines_of input) replies end
+pub exact_outcome : (secrets : Secrets) (input : List ℕ) → (replies : List LineReply) × (end : ScriptState) × IsOutcome (fresh_start secrets) (lines_of input) replies end
 exact_outcome secrets input =
     let stands = IsLawfulStanding-fresh secrets in
     let some = has_outcome (fresh_start secrets) (lines_of input) stands refl in (

@@ -24,7 +24,7 @@ use Rattle.line_forms.specs.declared.command.Command.{Command}
 use Rattle.line_forms.specs.Lines.{IsLine}
 use Rattle.line_forms.specs.Said.{IsWithin}
 use Rattle.line_forms.proofs.LimitLemmas.{line_within}
-use Rattle.pcfs_session.specs.Asker.{Asker, IsAsker}
+use Rattle.pcfs_session.specs.ScriptContext.{ScriptContext, IsAsker}
 use Rattle.pcfs_session.specs.Procaps.{AreBrought}
 use Rattle.pcfs_session.specs.Proved.{IsProved}
 use Rattle.pcfs_session.specs.LineAnswer.{requested, ComesTo}
@@ -50,7 +50,7 @@ IsGranted-proved book goal numbers proof cites g are times proved =
     }
 
 -- a request that a command of any mode leads to is well formed
-pub IsWellFormed-within : (secrets : Secrets) (state : BaseView) (asker : Asker) (command : Command) (request : StepRequest) → IsAsker asker → AllByRecursion IsStatement (sayings state.statements) → IsWithin command →
+pub IsWellFormed-within : (secrets : Secrets) (state : BaseView) (asker : ScriptContext) (command : Command) (request : StepRequest) → IsAsker asker → AllByRecursion IsStatement (sayings state.statements) → IsWithin command →
     ComesTo secrets state asker command (requested request) → IsWellFormed request
 IsWellFormed-within secrets state asker _ _ is_asker are within (line_answer.registers signature statement) = within
 IsWellFormed-within secrets state asker _ _ is_asker are within (line_answer.withdraws number signature) = tt
@@ -63,6 +63,6 @@ IsWellFormed-within secrets state asker _ _ is_asker are within (line_answer.act
     record { named = is_asker.named; operation = within.operation; brought = record { slots = sym (same_length secrets.seal_key state.issues words procaps brought) ∙ within.one_each; few_bytes = within.few_bytes } }
 
 -- a request that a line of a script leads to is
-pub IsWellFormed-line : (secrets : Secrets) (state : BaseView) (asker : Asker) (line : List ℕ) (command : Command) (request : StepRequest) → IsAsker asker → AllByRecursion IsStatement (sayings state.statements) → IsLine line command →
+pub IsWellFormed-line : (secrets : Secrets) (state : BaseView) (asker : ScriptContext) (line : List ℕ) (command : Command) (request : StepRequest) → IsAsker asker → AllByRecursion IsStatement (sayings state.statements) → IsLine line command →
     ComesTo secrets state asker command (requested request) → IsWellFormed request
 IsWellFormed-line secrets state asker line command request is_asker are is comes = IsWellFormed-within secrets state asker command request is_asker are (line_within is) comes

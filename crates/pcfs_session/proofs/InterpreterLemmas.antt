@@ -40,14 +40,14 @@ use Rattle.line_wire.specs.declared.reply.LineReply.{LineReply}
 use Rattle.line_wire.specs.declared.reply.LineReply.TheVariants as replies
 use Rattle.std.specs.Option.{option_map}
 use Rattle.pcfs_store.specs.Entries.{happened}
-use Rattle.pcfs_session.specs.Asker.{Asker, asker_after}
+use Rattle.pcfs_session.specs.ScriptContext.{ScriptContext, asker_after}
 use Rattle.pcfs_session.specs.Brought.{AreProcapsAdded}
 use Rattle.pcfs_session.specs.Procaps.{AreBrought, IsFirstUnissued}
 use Rattle.pcfs_session.specs.Proved.{IsUnproved, cites_none, proves_none, IsProved}
 use Rattle.pcfs_session.specs.InterpreterView.{InterpreterView, standing_of}
 use Rattle.pcfs_session.specs.LineAnswer.{signature_under, withdrawal_under, replied, requested, ComesTo, at_once, decided, faulty, asks}
 use Rattle.pcfs_session.specs.LineAnswer as line_answer
-use Rattle.pcfs_session.specs.ScriptRun.{Standing, state_of_standing, Becomes, kept, IsReplied, answered, without_memory}
+use Rattle.pcfs_session.specs.ScriptRun.{ScriptState, state_of_standing, Becomes, kept, IsReplied, answered, without_memory}
 use Rattle.pcfs_session.specs.Interpreter.{IsDecidedAs, IsFollowed, unread_reply}
 use Rattle.access_history.proofs.CitingLemmas.{AreCited-found}
 use Rattle.pcfs_session.proofs.BroughtLemmas.{unissued_seated, brought_seated}
@@ -55,21 +55,21 @@ use Rattle.pcfs_session.proofs.BroughtLemmas.{unissued_seated, brought_seated}
 -- ---- commands
 
 -- a command that is answered at once leaves all as it was
-followed_at_once : (s : Standing) (command : Command) (reply : LineReply) → asker_after s.asker command ≡ s.asker → ComesTo s.secrets (state_of_standing s) s.asker command (replied reply) → IsFollowed command s reply s
+followed_at_once : (s : ScriptState) (command : Command) (reply : LineReply) → asker_after s.asker command ≡ s.asker → ComesTo s.secrets (state_of_standing s) s.asker command (replied reply) → IsFollowed command s reply s
 followed_at_once s command reply stays look =
-    record { told = reply; entry = None; answer = at_once reply look; becomes = subst (λ (k : Asker). Becomes s reply k None reply s) (sym stays) (kept None tt) }
+    record { told = reply; entry = None; answer = at_once reply look; becomes = subst (λ (k : ScriptContext). Becomes s reply k None reply s) (sym stays) (kept None tt) }
 
 -- a command that leads to a request gets its answer
-followed_by : (before after : Standing) (command : Command) (request : StepRequest) (reply : LineReply) → asker_after before.asker command ≡ before.asker → ComesTo before.secrets (state_of_standing before) before.asker command (requested request) → IsDecidedAs request before reply after →
+followed_by : (before after : ScriptState) (command : Command) (request : StepRequest) (reply : LineReply) → asker_after before.asker command ≡ before.asker → ComesTo before.secrets (state_of_standing before) before.asker command (requested request) → IsDecidedAs request before reply after →
     IsFollowed command before reply after
 followed_by before after command request reply stays look asked = record {
   told = replies.Step asked.told;
   entry = option_map happened asked.event;
   answer = decided request asked.told asked.event look asked.answer;
-  becomes = subst (λ (k : Asker). Becomes before (replies.Step asked.told) k (option_map happened asked.event) reply after) (sym stays) asked.becomes;
+  becomes = subst (λ (k : ScriptContext). Becomes before (replies.Step asked.told) k (option_map happened asked.event) reply after) (sym stays) asked.becomes;
 }
 
-pub IsFollowed-same : (before after : Standing) (command other : Command) (reply : LineReply) → command ≡ other → IsFollowed other before reply after → IsFollowed command before reply after
+pub IsFollowed-same : (before after : ScriptState) (command other : Command) (reply : LineReply) → command ≡ other → IsFollowed other before reply after → IsFollowed command before reply after
 IsFollowed-same before after command other reply same followed = subst (λ (c : Command). IsFollowed c before reply after) (sym same) followed
 
 abbrev viewed : {D : Type 0} → StoreView D → ℕ → ℤ → List ℕ → Option (List ℕ) → InterpreterView D
@@ -92,19 +92,19 @@ IsFollowed-as {D} seated store pass clock caller sees command who is asked =
     (subst (λ (c : Command). IsFollowed c (standing_of (viewed store pass clock caller sees) None) replies.Done (standing_of (viewed store pass clock who sees) None)) (sym asked)
     (record { told = replies.Done; entry = None; answer = at_once replies.Done (line_answer.sets_caller who); becomes = kept None tt }))
 
-pub IsFollowed-register : (before after : Standing) (signature : Option (List ℕ)) (statement : StatementView) (given : List ℕ) (reply : LineReply) → given ≡ signature_under before.secrets.ring statement signature →
+pub IsFollowed-register : (before after : ScriptState) (signature : Option (List ℕ)) (statement : StatementView) (given : List ℕ) (reply : LineReply) → given ≡ signature_under before.secrets.ring statement signature →
     IsDecidedAs (requests.Register statement given) before reply after → IsFollowed (commands.Register signature statement) before reply after
 IsFollowed-register before after signature statement given reply given_is asked =
     followed_by before after (commands.Register signature statement) (requests.Register statement (signature_under before.secrets.ring statement signature)) reply refl (line_answer.registers signature statement)
     (subst (λ (bytes : List ℕ). IsDecidedAs (requests.Register statement bytes) before reply after) given_is asked)
 
-pub IsFollowed-withdraw : (before after : Standing) (number : ℕ) (signature : Option (List ℕ)) (given : List ℕ) (reply : LineReply) → given ≡ withdrawal_under before.secrets.ring (state_of_standing before) number signature →
+pub IsFollowed-withdraw : (before after : ScriptState) (number : ℕ) (signature : Option (List ℕ)) (given : List ℕ) (reply : LineReply) → given ≡ withdrawal_under before.secrets.ring (state_of_standing before) number signature →
     IsDecidedAs (requests.Withdraw number given) before reply after → IsFollowed (commands.Withdraw number signature) before reply after
 IsFollowed-withdraw before after number signature given reply given_is asked =
     followed_by before after (commands.Withdraw number signature) (requests.Withdraw number (withdrawal_under before.secrets.ring (state_of_standing before) number signature)) reply refl (line_answer.withdraws number signature)
     (subst (λ (bytes : List ℕ). IsDecidedAs (requests.Withdraw number bytes) before reply after) given_is asked)
 
-pub IsFollowed-show : (before after : Standing) (number : ℕ) (sees : Option (List ℕ)) (reply : LineReply) → sees ≡ before.asker.sees → IsDecidedAs (requests.ShowProcap number sees) before reply after → IsFollowed (commands.Procap number) before reply after
+pub IsFollowed-show : (before after : ScriptState) (number : ℕ) (sees : Option (List ℕ)) (reply : LineReply) → sees ≡ before.asker.sees → IsDecidedAs (requests.ShowProcap number sees) before reply after → IsFollowed (commands.Procap number) before reply after
 IsFollowed-show before after number sees reply sees_is asked =
     followed_by before after (commands.Procap number) (requests.ShowProcap number before.asker.sees) reply refl (line_answer.shows number) (subst (λ (who : Option (List ℕ)). IsDecidedAs (requests.ShowProcap number who) before reply after) sees_is asked)
 
@@ -167,44 +167,44 @@ granted : (book : Book) (goal : Goal) (numbers : List ℕ) (proof : ProofView) (
     IsProved book goal numbers proof cites g
 granted book goal numbers proof citation cites g is found grant = record { found = AreFound-cited book numbers citation cites is found; verdict_is = grant.verdict_is }
 
-pub IsFollowed-verify_absent : (s : Standing) (goal : Goal) (numbers : List ℕ) (proof : ProofView) (citation : Citation) (number : ℕ) → citation ≡ citations.Absent number → GivesCitation (book_of (state_of_standing s)) numbers citation →
+pub IsFollowed-verify_absent : (s : ScriptState) (goal : Goal) (numbers : List ℕ) (proof : ProofView) (citation : Citation) (number : ℕ) → citation ≡ citations.Absent number → GivesCitation (book_of (state_of_standing s)) numbers citation →
     IsFollowed (commands.Verify goal numbers proof) s (replies.Step (Absent number)) s
 IsFollowed-verify_absent s goal numbers proof citation number is found =
     followed_at_once s (commands.Verify goal numbers proof) (replies.Step (Absent number)) refl (line_answer.verifies_nothing goal numbers proof (replies.Step (Absent number)) (absent (book_of (state_of_standing s)) goal numbers proof citation number is found))
 
-pub IsFollowed-verify_refused : (s : Standing) (goal : Goal) (numbers : List ℕ) (proof : ProofView) (citation : Citation) (cites : List Cite) (fault : CheckFault) (reply : LineReply) → citation ≡ citations.Cited cites → GivesCitation (book_of (state_of_standing s)) numbers citation →
+pub IsFollowed-verify_refused : (s : ScriptState) (goal : Goal) (numbers : List ℕ) (proof : ProofView) (citation : Citation) (cites : List Cite) (fault : CheckFault) (reply : LineReply) → citation ≡ citations.Cited cites → GivesCitation (book_of (state_of_standing s)) numbers citation →
     IsFault fault (verdict (statements_of cites) goal proof) → (reply ≡ replies.Unproved fault) × (fault ≢ check_faults.NoMemory) → IsFollowed (commands.Verify goal numbers proof) s reply s
 IsFollowed-verify_refused s goal numbers proof citation cites fault reply is found refusal told =
     followed_at_once s (commands.Verify goal numbers proof) reply refl (line_answer.verifies_nothing goal numbers proof reply (refused (book_of (state_of_standing s)) goal numbers proof citation cites fault reply is found told refusal))
 
-pub IsFollowed-verify : (before after : Standing) (goal : Goal) (numbers : List ℕ) (proof : ProofView) (citation : Citation) (cites : List Cite) (checked : CheckedView) (reply : LineReply) → citation ≡ citations.Cited cites → GivesCitation (book_of (state_of_standing before)) numbers citation →
+pub IsFollowed-verify : (before after : ScriptState) (goal : Goal) (numbers : List ℕ) (proof : ProofView) (citation : Citation) (cites : List Cite) (checked : CheckedView) (reply : LineReply) → citation ≡ citations.Cited cites → GivesCitation (book_of (state_of_standing before)) numbers citation →
     checked ≡ checked_view cites goal proof checked.grant → IsChecked checked → IsDecidedAs (requests.Issue checked) before reply after → IsFollowed (commands.Verify goal numbers proof) before reply after
 IsFollowed-verify before after goal numbers proof citation cites checked reply is found same grant asked =
     followed_by before after (commands.Verify goal numbers proof) (requests.Issue (checked_view cites goal proof checked.grant)) reply refl
     (line_answer.verifies goal numbers proof cites checked.grant (granted (book_of (state_of_standing before)) goal numbers proof citation cites checked.grant is found (subst IsChecked same grant)))
     (subst (λ (c : CheckedView). IsDecidedAs (requests.Issue c) before reply after) same asked)
 
-pub IsFollowed-check_absent : (s : Standing) (goal : Goal) (numbers : List ℕ) (proof : ProofView) (citation : Citation) (number : ℕ) → citation ≡ citations.Absent number → GivesCitation (book_of (state_of_standing s)) numbers citation →
+pub IsFollowed-check_absent : (s : ScriptState) (goal : Goal) (numbers : List ℕ) (proof : ProofView) (citation : Citation) (number : ℕ) → citation ≡ citations.Absent number → GivesCitation (book_of (state_of_standing s)) numbers citation →
     IsFollowed (commands.Check goal numbers proof) s (replies.Step (Absent number)) s
 IsFollowed-check_absent s goal numbers proof citation number is found =
     followed_at_once s (commands.Check goal numbers proof) (replies.Step (Absent number)) refl (line_answer.checks_nothing goal numbers proof (replies.Step (Absent number)) (absent (book_of (state_of_standing s)) goal numbers proof citation number is found))
 
-pub IsFollowed-check_refused : (s : Standing) (goal : Goal) (numbers : List ℕ) (proof : ProofView) (citation : Citation) (cites : List Cite) (fault : CheckFault) (reply : LineReply) → citation ≡ citations.Cited cites → GivesCitation (book_of (state_of_standing s)) numbers citation →
+pub IsFollowed-check_refused : (s : ScriptState) (goal : Goal) (numbers : List ℕ) (proof : ProofView) (citation : Citation) (cites : List Cite) (fault : CheckFault) (reply : LineReply) → citation ≡ citations.Cited cites → GivesCitation (book_of (state_of_standing s)) numbers citation →
     IsFault fault (verdict (statements_of cites) goal proof) → (reply ≡ replies.Unproved fault) × (fault ≢ check_faults.NoMemory) → IsFollowed (commands.Check goal numbers proof) s reply s
 IsFollowed-check_refused s goal numbers proof citation cites fault reply is found refusal told =
     followed_at_once s (commands.Check goal numbers proof) reply refl (line_answer.checks_nothing goal numbers proof reply (refused (book_of (state_of_standing s)) goal numbers proof citation cites fault reply is found told refusal))
 
-pub IsFollowed-check : (s : Standing) (goal : Goal) (numbers : List ℕ) (proof : ProofView) (citation : Citation) (cites : List Cite) (g : GrantView) → citation ≡ citations.Cited cites → GivesCitation (book_of (state_of_standing s)) numbers citation →
+pub IsFollowed-check : (s : ScriptState) (goal : Goal) (numbers : List ℕ) (proof : ProofView) (citation : Citation) (cites : List Cite) (g : GrantView) → citation ≡ citations.Cited cites → GivesCitation (book_of (state_of_standing s)) numbers citation →
     IsGranted (statements_of cites) goal proof g → IsFollowed (commands.Check goal numbers proof) s (replies.Checked g) s
 IsFollowed-check s goal numbers proof citation cites g is found grant =
     followed_at_once s (commands.Check goal numbers proof) (replies.Checked g) refl (line_answer.checks goal numbers proof cites g (granted (book_of (state_of_standing s)) goal numbers proof citation cites g is found grant))
 
 -- ---- operations
 
-pub IsFollowed-do_absent : (s : Standing) (op : Op) (words : List ProcapWord) (number : ℕ) → IsFirstUnissued (state_of_standing s).issues words number → IsFollowed (commands.Do op words) s (replies.Step (Absent number)) s
+pub IsFollowed-do_absent : (s : ScriptState) (op : Op) (words : List ProcapWord) (number : ℕ) → IsFirstUnissued (state_of_standing s).issues words number → IsFollowed (commands.Do op words) s (replies.Step (Absent number)) s
 IsFollowed-do_absent s op words number first = followed_at_once s (commands.Do op words) (replies.Step (Absent number)) refl (line_answer.acts_under_none op words number first)
 
-pub IsFollowed-do : (before after : Standing) (op : Op) (words : List ProcapWord) (procaps : List Sealed) (caller : List ℕ) (reply : LineReply) → caller ≡ before.asker.caller → AreBrought before.secrets.seal_key (state_of_standing before).issues words procaps →
+pub IsFollowed-do : (before after : ScriptState) (op : Op) (words : List ProcapWord) (procaps : List Sealed) (caller : List ℕ) (reply : LineReply) → caller ≡ before.asker.caller → AreBrought before.secrets.seal_key (state_of_standing before).issues words procaps →
     IsDecidedAs (requests.Act caller op procaps) before reply after → IsFollowed (commands.Do op words) before reply after
 IsFollowed-do before after op words procaps caller reply caller_is brought asked =
     followed_by before after (commands.Do op words) (requests.Act before.asker.caller op procaps) reply refl (line_answer.acts op words procaps brought)
@@ -213,24 +213,24 @@ IsFollowed-do before after op words procaps caller reply caller_is brought asked
 -- ---- lines
 
 -- what a line asks for was done
-pub IsReplied-followed : (before after : Standing) (line : List ℕ) (command : Command) (reply : LineReply) → IsLine line command → IsFollowed command before reply after → IsReplied line before reply after
+pub IsReplied-followed : (before after : ScriptState) (line : List ℕ) (command : Command) (reply : LineReply) → IsLine line command → IsFollowed command before reply after → IsReplied line before reply after
 IsReplied-followed before after line command reply is followed =
     answered followed.told followed.entry (asker_after before.asker command) reply after (asks command followed.told followed.entry is followed.answer) followed.becomes
 
 -- memory ran out, and nothing changed
-pub IsReplied-without_memory : (before after : Standing) (line : List ℕ) → after ≡ before → IsReplied line before replies.NoMemory after
+pub IsReplied-without_memory : (before after : ScriptState) (line : List ℕ) → after ≡ before → IsReplied line before replies.NoMemory after
 IsReplied-without_memory before after line same = subst (IsReplied line before replies.NoMemory) (sym same) without_memory
 
 -- a line with a fault
-faulty_line : (s : Standing) (line : List ℕ) (fault : LineFault) → IsLineFault line fault → IsReplied line s (replies.Faulty fault) s
+faulty_line : (s : ScriptState) (line : List ℕ) (fault : LineFault) → IsLineFault line fault → IsReplied line s (replies.Faulty fault) s
 faulty_line s line fault bad = answered (replies.Faulty fault) None s.asker (replies.Faulty fault) s (faulty fault bad) (kept None tt)
 
-unread_line : (s : Standing) (line : List ℕ) (fault : LineFault) → IsUnread line fault → IsReplied line s (unread_reply fault) s
+unread_line : (s : ScriptState) (line : List ℕ) (fault : LineFault) → IsUnread line fault → IsReplied line s (unread_reply fault) s
 unread_line s line (line_faults.BadWord place) bad = faulty_line s line (line_faults.BadWord place) bad
 unread_line s line line_faults.BadCount bad = faulty_line s line line_faults.BadCount bad
 unread_line s line (line_faults.BadText fault) bad = faulty_line s line (line_faults.BadText fault) bad
 unread_line s line line_faults.NoMemory bad = without_memory
 
 -- what is returned to a line that was not read
-pub IsReplied-unread : (s : Standing) (line : List ℕ) (fault : LineFault) (reply : LineReply) → reply ≡ unread_reply fault → IsUnread line fault → IsReplied line s reply s
+pub IsReplied-unread : (s : ScriptState) (line : List ℕ) (fault : LineFault) (reply : LineReply) → reply ≡ unread_reply fault → IsUnread line fault → IsReplied line s reply s
 IsReplied-unread s line fault reply is bad = subst (λ (r : LineReply). IsReplied line s r s) (sym is) (unread_line s line fault bad)

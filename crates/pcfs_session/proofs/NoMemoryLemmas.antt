@@ -23,7 +23,7 @@ use Rattle.line_forms.proofs.FaultLemmas.{IsReported, reported}
 use Rattle.line_wire.specs.declared.reply.LineReply.{LineReply}
 use Rattle.line_wire.specs.FirstWord.{step_word, unproved_word, text_word, fault_word, reply_word}
 use Rattle.pcfs_store.specs.Entries.{StoreEntry}
-use Rattle.pcfs_session.specs.Asker.{Asker}
+use Rattle.pcfs_session.specs.ScriptContext.{ScriptContext}
 use Rattle.pcfs_session.specs.Proved.{IsUnproved, cites_none, proves_none}
 use Rattle.pcfs_session.specs.LineAnswer.{Look, replied, requested, ComesTo, AnswersCommand, at_once, decided, AnswersLine, faulty, asks}
 use Rattle.pcfs_session.specs.LineAnswer as line_answer
@@ -102,7 +102,7 @@ IsOutOfMemory (replied reply) = reply_word reply ≡ codes "nomemory"
 IsOutOfMemory (requested request) = ⊥
 IsOutOfMemory line_answer.checkpoint = ⊥
 
-look_memory : (secrets : Secrets) (state : BaseView) (asker : Asker) (command : Command) (look : Look) → ComesTo secrets state asker command look → IsOutOfMemory look → ⊥
+look_memory : (secrets : Secrets) (state : BaseView) (asker : ScriptContext) (command : Command) (look : Look) → ComesTo secrets state asker command look → IsOutOfMemory look → ⊥
 look_memory secrets state asker _ _ (line_answer.sets_clock second) is = not_ok is
 look_memory secrets state asker _ _ (line_answer.sets_caller who) is = not_ok is
 look_memory secrets state asker _ _ (line_answer.registers signature statement) is = is
@@ -116,12 +116,12 @@ look_memory secrets state asker _ _ (line_answer.checks goal numbers proof cites
 look_memory secrets state asker _ _ (line_answer.acts_under_none op words number none) is = step_memory (steps.Absent number) is
 look_memory secrets state asker _ _ (line_answer.acts op words procaps brought) is = is
 
-command_memory : (secrets : Secrets) (state : BaseView) (asker : Asker) (command : Command) (reply : LineReply) (entry : Option StoreEntry) → AnswersCommand secrets state asker command reply entry → reply_word reply ≡ codes "nomemory" → ⊥
+command_memory : (secrets : Secrets) (state : BaseView) (asker : ScriptContext) (command : Command) (reply : LineReply) (entry : Option StoreEntry) → AnswersCommand secrets state asker command reply entry → reply_word reply ≡ codes "nomemory" → ⊥
 command_memory secrets state asker command _ _ (at_once reply look) is = look_memory secrets state asker command (replied reply) look is
 command_memory secrets state asker command _ _ (decided request reply event look answer) is = step_memory reply is
 command_memory secrets state asker command _ _ (line_answer.made look) is = not_ok is
 
 -- no answer to a line is written as `nomemory`
-pub answer_memory : (secrets : Secrets) (state : BaseView) (asker : Asker) (line : List ℕ) (reply : LineReply) (entry : Option StoreEntry) (after : Asker) → AnswersLine secrets state asker line reply entry after → reply_word reply ≡ codes "nomemory" → ⊥
+pub answer_memory : (secrets : Secrets) (state : BaseView) (asker : ScriptContext) (line : List ℕ) (reply : LineReply) (entry : Option StoreEntry) (after : ScriptContext) → AnswersLine secrets state asker line reply entry after → reply_word reply ≡ codes "nomemory" → ⊥
 answer_memory secrets state asker line _ _ _ (faulty fault bad) is = fault_memory line fault bad is
 answer_memory secrets state asker line _ _ _ (asks command reply entry is_line answer) is = command_memory secrets state asker command reply entry answer is

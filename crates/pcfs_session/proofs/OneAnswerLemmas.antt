@@ -32,12 +32,12 @@ use Rattle.line_wire.specs.declared.reply.LineReply.{LineReply}
 use Rattle.line_wire.specs.declared.reply.LineReply.TheVariants as replies
 use Rattle.pcfs_store.specs.Entries.{StoreEntry, happened}
 use Rattle.std.specs.Option.{option_map}
-use Rattle.pcfs_session.specs.Asker.{Asker, asker_after}
+use Rattle.pcfs_session.specs.ScriptContext.{ScriptContext, asker_after}
 use Rattle.pcfs_session.specs.Procaps.{BringsProcap, held, issued, NamesIssue, AreBrought, IsFirstUnissued}
 use Rattle.pcfs_session.specs.Proved.{IsUnproved, cites_none, proves_none, IsProved}
 use Rattle.pcfs_session.specs.LineAnswer.{authority_under, Look, replied, requested, ComesTo, AnswersCommand, at_once, decided, AnswersLine, faulty, asks}
 use Rattle.pcfs_session.specs.LineAnswer as line_answer
-use Rattle.pcfs_session.specs.ScriptRun.{Standing, state_of_standing}
+use Rattle.pcfs_session.specs.ScriptRun.{ScriptState, state_of_standing}
 use Rattle.pcfs_session.proofs.BroughtLemmas.{NamesIssue-brought}
 
 -- ---- the statements of numbers, and what a proof from them comes to
@@ -100,7 +100,7 @@ one_unissued issues ws number other one two =
 
 -- ---- what a command comes to
 
-module _ (secrets : Secrets) (state : BaseView) (asker : Asker) where
+module _ (secrets : Secrets) (state : BaseView) (asker : ScriptContext) where
   -- a look at the state makes one thing of a command
   one_look : (command : Command) (first second : Look) → ComesTo secrets state asker command first → ComesTo secrets state asker command second → first ≡ second
   one_look _ _ _ (line_answer.sets_clock second) (line_answer.sets_clock _) = refl
@@ -148,7 +148,7 @@ module _ (secrets : Secrets) (state : BaseView) (asker : Asker) where
 abbrev AreSame : LineReply → LineReply → Option StoreEntry → Option StoreEntry → Type 0
 AreSame first second one other = (first ≡ second) × (one ≡ other)
 
-module _ (s : Standing) (lawful : IsLawful (authority_under s.secrets) s.base s.events) where
+module _ (s : ScriptState) (lawful : IsLawful (authority_under s.secrets) s.base s.events) where
   told_once : (request : StepRequest) (first second : StepReply) (one other : Option Event) → Answers (authority_under s.secrets) (state_of_standing s) s.asker.pass s.asker.clock request first one
       → Answers (authority_under s.secrets) (state_of_standing s) s.asker.pass s.asker.clock request second other → AreSame (replies.Step first) (replies.Step second) (option_map happened one) (option_map happened other)
   told_once request first second one other told told' =
@@ -174,7 +174,7 @@ module _ (s : Standing) (lawful : IsLawful (authority_under s.secrets) s.base s.
   answer_once command _ _ _ _ (line_answer.made look) (decided request second event look' told) = absurd (request_or_checkpoint s.secrets (state_of_standing s) s.asker command request look' look)
 
   -- and so has a line
-  pub line_once : (line : List ℕ) (first second : LineReply) (one other : Option StoreEntry) (after later : Asker) → AnswersLine s.secrets (state_of_standing s) s.asker line first one after → AnswersLine s.secrets (state_of_standing s) s.asker line second other later
+  pub line_once : (line : List ℕ) (first second : LineReply) (one other : Option StoreEntry) (after later : ScriptContext) → AnswersLine s.secrets (state_of_standing s) s.asker line first one after → AnswersLine s.secrets (state_of_standing s) s.asker line second other later
       → (first ≡ second) × (one ≡ other) × (after ≡ later)
   line_once line _ _ _ _ _ _ (faulty fault bad) (faulty other bad') = (ap replies.Faulty (one_fault bad other bad'), refl, refl)
   line_once line _ _ _ _ _ _ (faulty fault bad) (asks command reply event is answer) = absurd (command_or_fault is bad)

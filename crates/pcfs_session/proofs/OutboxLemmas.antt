@@ -3,7 +3,7 @@ use Rattle.std.proofs.Common.{◌≡◌, ℕ, ◌+◌, List, [], ◌++◌, lengt
 use Rattle.std.proofs.lemmas.List.{take-append-le}
 use Rattle.std.proofs.Math.Seq.{take-append-add}
 use Rattle.pcfs_ports.proofs.TakesLemmas.{with_back-with_back}
-use Rattle.pcfs_ports.specs.Told.{with_back, HoldsSome}
+use Rattle.pcfs_ports.specs.Observable.{with_back, HoldsSome}
 use Rattle.pcfs_session.specs.Outbox.{GoesOut}
 
 -- no byte after what is held is no change

@@ -2,7 +2,7 @@
 use Rattle.std.proofs.Common.{◌≡◌, inl, inr, ◌≤◌, ◌+◌, ℕ, List, [], ◌∷◌, ◌++◌, length, false, Option, None, refl, sym, ap, ◌∙◌, subst, append_assoc, length-append, arith}
 use Rattle.std.specs.List.{AllByRecursion}
 use Rattle.pcfs_ports.specs.Faults.{HasRisen}
-use Rattle.pcfs_ports.specs.Told.{with_front, with_back, IsAtEnd, HoldsSome}
+use Rattle.pcfs_ports.specs.Observable.{with_front, with_back, IsAtEnd, HoldsSome}
 use Rattle.pcfs_ports.proofs.TakesLemmas.{first_of_taken}
 use Rattle.line_text.specs.Lines.{lines_of}
 use Rattle.line_text.specs.Words.{HasNo}
@@ -20,7 +20,7 @@ use Rattle.pcfs_session.specs.Ends.{unsent_end, halted_end}
 use Rattle.pcfs_session.specs.InterpreterView.{InterpreterView, standing_of}
 use Rattle.pcfs_session.specs.ScriptEnds.{RunsOver, IsUnderWay, ScriptWrites, ScriptEnds, long_line_told}
 use Rattle.pcfs_session.specs.ScriptEnds as ends
-use Rattle.pcfs_session.specs.ScriptRun.{Standing, IsLawfulStanding}
+use Rattle.pcfs_session.specs.ScriptRun.{ScriptState, IsLawfulStanding}
 use Rattle.pcfs_session.specs.Stored.{AnswersScript}
 use Rattle.pcfs_session.specs.Streams.{Streams}
 use Rattle.pcfs_session.specs.Taken.{AreAllTaken, IsCutAtLong}
@@ -50,7 +50,7 @@ halted_write Stopped how is same = absurd cc
 -- ---- nothing was answered
 
 -- memory ran out before anything was taken
-pub ScriptEnds-unbegun : (start : Standing) (before after : Streams) → IsLawfulStanding start → after.left ≡ before.left → after.held ≡ before.held → ScriptEnds start start before after script_ends.NoMemory
+pub ScriptEnds-unbegun : (start : ScriptState) (before after : Streams) → IsLawfulStanding start → after.left ≡ before.left → after.held ≡ before.held → ScriptEnds start start before after script_ends.NoMemory
 ScriptEnds-unbegun start before after stands left held =
     ends.out_of_memory []
     (ends.while_reading [] (record { bytes = []; rest = []; taken = with_front-nil before.left ∙ ap (with_front []) (sym left); first = AreFirst-none []; few = omega arith }) (RunsOver-none start stands))

@@ -6,13 +6,13 @@ use Rattle.line_wire.specs.declared.reply.LineReply.{LineReply}
 use Rattle.line_wire.specs.ReplyText.{reply_text, output_of}
 use Rattle.pcfs_secrets.specs.declared.secrets.Secrets.{Secrets}
 use Rattle.pcfs_session.specs.LineAnswer.{authority_under}
-use Rattle.pcfs_session.specs.ScriptRun.{Standing, IsLawfulStanding, ScriptRun}
+use Rattle.pcfs_session.specs.ScriptRun.{ScriptState, IsLawfulStanding, ScriptRun}
 use Rattle.pcfs_session.specs.ScriptRun as script
 use Rattle.pcfs_session.specs.ScriptEnds.{RunsOver}
 use Rattle.pcfs_session.proofs.LawfulRunLemmas.{runs_lawfully}
 
 -- a run, and another from where it ended
-pub ScriptRun-then : (start mid end : Standing) (lines others : List (List ℕ)) (told after : List LineReply) → ScriptRun start lines told mid → ScriptRun mid others after end → ScriptRun start (lines ++ others) (told ++ after) end
+pub ScriptRun-then : (start mid end : ScriptState) (lines others : List (List ℕ)) (told after : List LineReply) → ScriptRun start lines told mid → ScriptRun mid others after end → ScriptRun start (lines ++ others) (told ++ after) end
 ScriptRun-then start _ end _ others _ after (script.ended _) more = more
 ScriptRun-then start mid end _ others _ after (script.one_more _ line lines reply told next _ going replied run) more =
     script.one_more start line (lines ++ others) reply (told ++ after) next end going replied (ScriptRun-then next mid end lines others told after run more)
@@ -23,7 +23,7 @@ output-append told after = flat_map-append (λ (r : LineReply). reply_text r ++ 
 pub output-one : (reply : LineReply) → output_of (reply ∷ []) ≡ reply_text reply ++ 10 ∷ []
 output-one reply = append-nil (reply_text reply ++ 10 ∷ [])
 
-pub RunsOver-ran : (start end : Standing) (lines : List (List ℕ)) (told : List LineReply) → IsLawfulStanding start → ScriptRun start lines told end → RunsOver start lines end (output_of told)
+pub RunsOver-ran : (start end : ScriptState) (lines : List (List ℕ)) (told : List LineReply) → IsLawfulStanding start → ScriptRun start lines told end → RunsOver start lines end (output_of told)
 RunsOver-ran start end lines told stands run =
     let goes = runs_lawfully start end lines told stands run in
     record {
@@ -37,5 +37,5 @@ RunsOver-ran start end lines told stands run =
     }
 
 -- no line was answered
-pub RunsOver-none : (start : Standing) → IsLawfulStanding start → RunsOver start [] start []
+pub RunsOver-none : (start : ScriptState) → IsLawfulStanding start → RunsOver start [] start []
 RunsOver-none start stands = RunsOver-ran start start [] [] stands (script.ended start)

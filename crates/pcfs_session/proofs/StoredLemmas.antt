@@ -2,7 +2,6 @@
 use Rattle.std.proofs.Common.{◌≡◌, ◌⊎◌, inl, inr, ℕ, zero, suc, ℤ, ◌≤◌, Bool, true, false, List, [], ◌∷◌, ◌++◌, length, length-append, append_assoc, append-nil, Option, Some, None, refl, sym, ap, subst, ◌∙◌, arith}
 use Rattle.std.specs.Prelude.{◌≢◌, not}
 use Rattle.pcfs_ports.specs.Faults.{HasRisen}
-use Rattle.access_history.specs.declared.event.Event.{Event}
 use Rattle.access_history.specs.declared.request.StepRequest.{StepRequest}
 use Rattle.access_history.specs.declared.reply.StepReply.{StepReply}
 use Rattle.access_history.specs.Lawful.{IsLawful}
@@ -11,7 +10,7 @@ use Rattle.line_wire.specs.declared.reply.LineReply.TheVariants as replies
 use Rattle.pcfs_store.specs.declared.reply.StoreReply.{StoreReply}
 use Rattle.pcfs_store.specs.declared.reply.StoreReply.TheVariants as stores
 use Rattle.pcfs_store.specs.Newest.{one_of}
-use Rattle.pcfs_store.specs.StoreView.{StoreView, first_disk, second_disk, authority_of_store, AnswersIn}
+use Rattle.pcfs_store.specs.StoreView.{StoreView, first_disk, second_disk, authority_of_store}
 use Rattle.pcfs_store.specs.Ready.{IsReady, IsCurrent, StopsNow, SurvivesStop}
 use Rattle.pcfs_store.specs.Steps.{Steps}
 use Rattle.pcfs_store.specs.Steps as steps
@@ -24,10 +23,10 @@ use Rattle.pcfs_store.specs.Checkpoints as makes
 use Rattle.pcfs_store.specs.Entries.{StoreEntry, happened, checkpointed}
 use Rattle.pcfs_session.specs.Interpreter.{IsFollowed, IsToldOfCheckpoint}
 use Rattle.pcfs_session.specs.LineAnswer as line_answer
-use Rattle.pcfs_session.specs.Asker.{Asker}
+use Rattle.pcfs_session.specs.ScriptContext.{ScriptContext}
 use Rattle.pcfs_session.specs.Interpreter.{IsDecidedAs, IsToldAs}
 use Rattle.pcfs_session.specs.InterpreterView.{InterpreterView, standing_of}
-use Rattle.pcfs_session.specs.ScriptRun.{Standing, IsLawfulStanding, kept, full, stopped}
+use Rattle.pcfs_session.specs.ScriptRun.{ScriptState, IsLawfulStanding, kept, full, stopped}
 use Rattle.pcfs_session.specs.Stored.{IsStopFor, StoreGoesOn, LeadsTo}
 
 pub none_some : {A P : Type 0} (x : A) → None ≡ Some x → P
@@ -85,7 +84,7 @@ stays_in_place faults old _ pass clock request _ (steps.failed reply event activ
 stays_in_place faults old _ pass clock request _ (steps.stopped earlier is) = record { generation = refl; place = refl; other = refl; checkpoints = refl; opened = refl }
 stays_in_place faults old _ pass clock request _ (steps.without_memory is) = record { generation = refl; place = refl; other = refl; checkpoints = refl; opened = refl }
 
-abbrev seen : {D : Type 0} → StoreView D → Asker → InterpreterView D
+abbrev seen : {D : Type 0} → StoreView D → ScriptContext → InterpreterView D
 seen store asker = record { store = store; asker = asker }
 
 -- ---- checkpoints one after another
@@ -104,7 +103,7 @@ none_of_both (made ∷ one) other none = absurd cc
 
 module _ {D : Type 0} (clock : D → ℕ) (left_since : D → ℕ → List ℕ → Type 0) (image : D → Option (List ℕ)) (faults : D → ℕ) where
   -- what a step of a store says
-  pub record Stepped (old : StoreView D) (asker : Asker) (request : StepRequest) (result : StoreReply) (new : StoreView D) : Type 0 where
+  pub record Stepped (old : StoreView D) (asker : ScriptContext) (request : StepRequest) (result : StoreReply) (new : StoreView D) : Type 0 where
     pub answer : Steps faults old asker.pass asker.clock request result new
     pub stays_ready : IsReady clock left_since image old → result ≢ stores.Stopped → IsReady clock left_since image new
     pub stays_current : IsCurrent clock left_since image old → result ≢ stores.Stopped → IsCurrent clock left_since image new
@@ -118,7 +117,7 @@ module _ {D : Type 0} (clock : D → ℕ) (left_since : D → ℕ → List ℕ �
   Stepped-shown old new pass at shown caller sees request result same stepped =
       subst (λ (z : ℤ). Stepped old (record { pass = pass; clock = z; caller = caller; sees = sees }) request result new) same stepped
 
-  goes_running : (old new : StoreView D) (asker : Asker) (request : StepRequest) (result : StoreReply) → result ≢ stores.Stopped → Stepped old asker request result new → StoreGoesOn clock left_since image faults old new None
+  goes_running : (old new : StoreView D) (asker : ScriptContext) (request : StepRequest) (result : StoreReply) → result ≢ stores.Stopped → Stepped old asker request result new → StoreGoesOn clock left_since image faults old new None
   goes_running old new asker request result going s = record {
     opened_stays = (stays_in_place faults old new asker.pass asker.clock request result s.answer).opened;
     checkpoints_go_on = ([], append-nil old.checkpoints ∙ sym (stays_in_place faults old new asker.pass asker.clock request result s.answer).checkpoints);
@@ -135,11 +134,11 @@ module _ {D : Type 0} (clock : D → ℕ) (left_since : D → ℕ → List ℕ �
   }
 
   -- a step is answered
-  decided_step : (old new : StoreView D) (asker : Asker) (request : StepRequest) (reply : StepReply) → Steps faults old asker.pass asker.clock request (stores.Step reply) new → IsDecidedAs request (standing_of (seen old asker) None) (replies.Step reply) (standing_of (seen new asker) None)
+  decided_step : (old new : StoreView D) (asker : ScriptContext) (request : StepRequest) (reply : StepReply) → Steps faults old asker.pass asker.clock request (stores.Step reply) new → IsDecidedAs request (standing_of (seen old asker) None) (replies.Step reply) (standing_of (seen new asker) None)
   decided_step old _ asker request _ (steps.answered reply running answer) = record { told = reply; event = None; answer = answer; becomes = kept None tt }
   decided_step old _ asker request _ (steps.kept reply event active running answer room) = record { told = reply; event = Some event; answer = answer; becomes = kept (Some (happened event)) room }
 
-  pub LeadsTo-step : (old new : StoreView D) (asker : Asker) (request : StepRequest) (reply : StepReply) → Stepped old asker request (stores.Step reply) new → LeadsTo clock left_since image faults (IsDecidedAs request) (seen old asker) (replies.Step reply) (seen new asker)
+  pub LeadsTo-step : (old new : StoreView D) (asker : ScriptContext) (request : StepRequest) (reply : StepReply) → Stepped old asker request (stores.Step reply) new → LeadsTo clock left_since image faults (IsDecidedAs request) (seen old asker) (replies.Step reply) (seen new asker)
   LeadsTo-step old new asker request reply s = record {
     met = None;
     holds = decided_step old new asker request reply s.answer;
@@ -147,10 +146,10 @@ module _ {D : Type 0} (clock : D → ℕ) (left_since : D → ℕ → List ℕ �
   }
 
   -- there is no room
-  decided_full : (old new : StoreView D) (asker : Asker) (request : StepRequest) → Steps faults old asker.pass asker.clock request stores.Full new → IsDecidedAs request (standing_of (seen old asker) None) replies.Full (standing_of (seen new asker) None)
+  decided_full : (old new : StoreView D) (asker : ScriptContext) (request : StepRequest) → Steps faults old asker.pass asker.clock request stores.Full new → IsDecidedAs request (standing_of (seen old asker) None) replies.Full (standing_of (seen new asker) None)
   decided_full old _ asker request (steps.full reply event running answer is_full) = record { told = reply; event = Some event; answer = answer; becomes = full (happened event) is_full }
 
-  pub LeadsTo-full : (old new : StoreView D) (asker : Asker) (request : StepRequest) → Stepped old asker request stores.Full new → LeadsTo clock left_since image faults (IsDecidedAs request) (seen old asker) replies.Full (seen new asker)
+  pub LeadsTo-full : (old new : StoreView D) (asker : ScriptContext) (request : StepRequest) → Stepped old asker request stores.Full new → LeadsTo clock left_since image faults (IsDecidedAs request) (seen old asker) replies.Full (seen new asker)
   LeadsTo-full old new asker request s = record {
     met = None;
     holds = decided_full old new asker request s.answer;
@@ -158,7 +157,7 @@ module _ {D : Type 0} (clock : D → ℕ) (left_since : D → ℕ → List ℕ �
   }
 
   -- a disk failed
-  by_fault : (old new : StoreView D) (asker : Asker) (request : StepRequest) → IsLawful (authority_of_store old) old.base old.events → old.stop ≡ None → Stepped old asker request stores.Stopped new → Steps faults old asker.pass asker.clock request stores.Stopped new →
+  by_fault : (old new : StoreView D) (asker : ScriptContext) (request : StepRequest) → IsLawful (authority_of_store old) old.base old.events → old.stop ≡ None → Stepped old asker request stores.Stopped new → Steps faults old asker.pass asker.clock request stores.Stopped new →
       LeadsTo clock left_since image faults (IsDecidedAs request) (seen old asker) replies.Stopped (seen new asker)
   by_fault old _ asker request lawful running s (steps.failed reply event active is answer room risen) = record {
     met = Some (happened event);
@@ -181,12 +180,12 @@ module _ {D : Type 0} (clock : D → ℕ) (left_since : D → ℕ → List ℕ �
   }
   by_fault old _ asker request lawful running s (steps.stopped earlier is) = none_some earlier (sym running ∙ is)
 
-  pub LeadsTo-stopped : (old new : StoreView D) (asker : Asker) (request : StepRequest) → IsLawful (authority_of_store old) old.base old.events → old.stop ≡ None → Stepped old asker request stores.Stopped new →
+  pub LeadsTo-stopped : (old new : StoreView D) (asker : ScriptContext) (request : StepRequest) → IsLawful (authority_of_store old) old.base old.events → old.stop ≡ None → Stepped old asker request stores.Stopped new →
       LeadsTo clock left_since image faults (IsDecidedAs request) (seen old asker) replies.Stopped (seen new asker)
   LeadsTo-stopped old new asker request lawful running s = by_fault old new asker request lawful running s s.answer
 
   -- whatever the store says
-  by_told : (old new : StoreView D) (asker : Asker) (request : StepRequest) (reply : StoreReply) (told : LineReply) → IsLawful (authority_of_store old) old.base old.events → old.stop ≡ None → IsToldAs reply told → Stepped old asker request reply new →
+  by_told : (old new : StoreView D) (asker : ScriptContext) (request : StepRequest) (reply : StoreReply) (told : LineReply) → IsLawful (authority_of_store old) old.base old.events → old.stop ≡ None → IsToldAs reply told → Stepped old asker request reply new →
       LeadsTo clock left_since image faults (IsDecidedAs request) (seen old asker) told (seen new asker)
   by_told old new asker request (stores.Step reply) told lawful running is s = subst (λ (t : LineReply). LeadsTo clock left_since image faults (IsDecidedAs request) (seen old asker) t (seen new asker)) (sym is) (LeadsTo-step old new asker request reply s)
   by_told old new asker request stores.Full told lawful running is s = subst (λ (t : LineReply). LeadsTo clock left_since image faults (IsDecidedAs request) (seen old asker) t (seen new asker)) (sym is) (LeadsTo-full old new asker request s)
@@ -217,7 +216,7 @@ module _ {D : Type 0} (clock : D → ℕ) (left_since : D → ℕ → List ℕ �
   }
 
   -- a checkpoint
-  checkpoint_goes : (old : StoreView D) (asker : Asker) (active : D) (fits : IsFullForCheckpoint old → ⊥) → old.stop ≡ None → Checkpoints clock left_since image faults old asker.pass checkpoint_replies.Checkpointed (with_checkpoint old asker.pass active) →
+  checkpoint_goes : (old : StoreView D) (asker : ScriptContext) (active : D) (fits : IsFullForCheckpoint old → ⊥) → old.stop ≡ None → Checkpoints clock left_since image faults old asker.pass checkpoint_replies.Checkpointed (with_checkpoint old asker.pass active) →
       StoreGoesOn clock left_since image faults old (with_checkpoint old asker.pass active) None
   checkpoint_goes old asker active fits running s = record {
     stop_for = running_for old.stop running;
@@ -234,7 +233,7 @@ module _ {D : Type 0} (clock : D → ℕ) (left_since : D → ℕ → List ℕ �
     failed = λ entry same. none_some entry same;
   }
 
-  by_checkpoint : (old new : StoreView D) (asker : Asker) (reply : CheckpointReply) (told : LineReply) → old.stop ≡ None → IsToldOfCheckpoint reply told → Checkpoints clock left_since image faults old asker.pass reply new → MakesCheckpoint faults old asker.pass reply new →
+  by_checkpoint : (old new : StoreView D) (asker : ScriptContext) (reply : CheckpointReply) (told : LineReply) → old.stop ≡ None → IsToldOfCheckpoint reply told → Checkpoints clock left_since image faults old asker.pass reply new → MakesCheckpoint faults old asker.pass reply new →
       LeadsTo clock left_since image faults (IsFollowed commands.Checkpoint) (seen old asker) told (seen new asker)
   by_checkpoint old _ asker _ told running is s (makes.made active goes fits) =
       subst (λ (t : LineReply). LeadsTo clock left_since image faults (IsFollowed commands.Checkpoint) (seen old asker) t (seen (with_checkpoint old asker.pass active) asker)) (sym is)
@@ -280,7 +279,7 @@ module _ {D : Type 0} (clock : D → ℕ) (left_since : D → ℕ → List ℕ �
       (by_checkpoint inside.store new inside.asker reply told (ap (λ (i : InterpreterView D). i.store.stop) same ∙ running) is s s.answer)
 
   -- memory ran out in a step
-  no_memory : (old new : StoreView D) (asker : Asker) (request : StepRequest) → Steps faults old asker.pass asker.clock request stores.NoMemory new → new ≡ old
+  no_memory : (old new : StoreView D) (asker : ScriptContext) (request : StepRequest) → Steps faults old asker.pass asker.clock request stores.NoMemory new → new ≡ old
   no_memory old _ asker request (steps.without_memory running) = refl
 
   -- memory ran out in a checkpoint
@@ -295,14 +294,14 @@ module _ {D : Type 0} (clock : D → ℕ) (left_since : D → ℕ → List ℕ �
   same-without_memory inside seated new request reply same is s =
       ap (λ (n : StoreView D). seen n inside.asker) (no_memory inside.store new inside.asker request (subst (λ (r : StoreReply). Steps faults inside.store inside.asker.pass inside.asker.clock request r new) is s.answer)) ∙ same
 
-  pub LeadsTo-same : (R : Standing → LineReply → Standing → Type 0) (i : InterpreterView D) (reply : LineReply) → i.store.stop ≡ None → R (standing_of i None) reply (standing_of i None) → LeadsTo clock left_since image faults R i reply i
+  pub LeadsTo-same : (R : ScriptState → LineReply → ScriptState → Type 0) (i : InterpreterView D) (reply : LineReply) → i.store.stop ≡ None → R (standing_of i None) reply (standing_of i None) → LeadsTo clock left_since image faults R i reply i
   LeadsTo-same R i reply running holds = record { met = None; holds = holds; goes_on = StoreGoesOn-same i.store running }
 
-  pub LeadsTo-unchanged : (R : Standing → LineReply → Standing → Type 0) (i new : InterpreterView D) (reply : LineReply) → new ≡ i → i.store.stop ≡ None → R (standing_of i None) reply (standing_of i None) → LeadsTo clock left_since image faults R i reply new
+  pub LeadsTo-unchanged : (R : ScriptState → LineReply → ScriptState → Type 0) (i new : InterpreterView D) (reply : LineReply) → new ≡ i → i.store.stop ≡ None → R (standing_of i None) reply (standing_of i None) → LeadsTo clock left_since image faults R i reply new
   LeadsTo-unchanged R i new reply same running holds = subst (λ (n : InterpreterView D). LeadsTo clock left_since image faults R i reply n) (sym same) (LeadsTo-same R i reply running holds)
 
   -- the store is as it was, and another asks, or at another moment
-  pub LeadsTo-changed : (R : Standing → LineReply → Standing → Type 0) (inside seated : InterpreterView D) (asker : Asker) (reply : LineReply) → inside ≡ seated → seated.store.stop ≡ None → R (standing_of seated None) reply (standing_of (seen inside.store asker) None) →
+  pub LeadsTo-changed : (R : ScriptState → LineReply → ScriptState → Type 0) (inside seated : InterpreterView D) (asker : ScriptContext) (reply : LineReply) → inside ≡ seated → seated.store.stop ≡ None → R (standing_of seated None) reply (standing_of (seen inside.store asker) None) →
       LeadsTo clock left_since image faults R seated reply (seen inside.store asker)
   LeadsTo-changed R inside seated asker reply same running holds = record {
     met = None;
@@ -310,11 +309,11 @@ module _ {D : Type 0} (clock : D → ℕ) (left_since : D → ℕ → List ℕ �
     goes_on = subst (λ (i : InterpreterView D). StoreGoesOn clock left_since image faults i.store inside.store None) same (StoreGoesOn-same inside.store (ap (λ (i : InterpreterView D). i.store.stop) same ∙ running));
   }
 
-  pub LeadsTo-seated : (R : Standing → LineReply → Standing → Type 0) (inside seated new : InterpreterView D) (reply : LineReply) → inside ≡ seated → LeadsTo clock left_since image faults R inside reply new → LeadsTo clock left_since image faults R seated reply new
+  pub LeadsTo-seated : (R : ScriptState → LineReply → ScriptState → Type 0) (inside seated new : InterpreterView D) (reply : LineReply) → inside ≡ seated → LeadsTo clock left_since image faults R inside reply new → LeadsTo clock left_since image faults R seated reply new
   LeadsTo-seated R inside seated new reply same l = subst (λ (i : InterpreterView D). LeadsTo clock left_since image faults R i reply new) same l
 
   -- a call that says more of where it leads
-  pub LeadsTo-also : (R Q : Standing → LineReply → Standing → Type 0) (old new : InterpreterView D) (reply : LineReply) → ((met : Option StoreEntry) → R (standing_of old None) reply (standing_of new met) → Q (standing_of old None) reply (standing_of new met)) →
+  pub LeadsTo-also : (R Q : ScriptState → LineReply → ScriptState → Type 0) (old new : InterpreterView D) (reply : LineReply) → ((met : Option StoreEntry) → R (standing_of old None) reply (standing_of new met) → Q (standing_of old None) reply (standing_of new met)) →
       LeadsTo clock left_since image faults R old reply new → LeadsTo clock left_since image faults Q old reply new
   LeadsTo-also R Q old new reply says l = record { met = l.met; holds = says l.met l.holds; goes_on = l.goes_on }
 

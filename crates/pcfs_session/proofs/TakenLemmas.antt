@@ -4,7 +4,7 @@ use Rattle.std.specs.Prelude.{◌==◌, if◌then◌else◌}
 use Rattle.std.specs.List.{AllByRecursion}
 use Rattle.std.proofs.lemmas.Bool.{eqb-true, false≢true}
 use Rattle.std.proofs.lemmas.List.{take-take, take-append-le, length-take-le}
-use Rattle.pcfs_ports.specs.Told.{with_front, IsAtEnd, ReadsToEnd}
+use Rattle.pcfs_ports.specs.Observable.{with_front, IsAtEnd, ReadsToEnd}
 use Rattle.line_text.specs.Lines.{lines_of, with_byte}
 use Rattle.line_text.specs.Words.{HasNo}
 use Rattle.line_framer.specs.Framing.{FramerState, ended, IsFirst, IsLine}

@@ -40,13 +40,13 @@ use Rattle.line_wire.specs.declared.reply.LineReply.TheVariants as replies
 use Rattle.std.specs.Option.{option_map}
 use Rattle.pcfs_store.specs.Entries.{StoreEntry, happened, checkpointed, stopped as stop_mark}
 use Rattle.checkpoint_image.specs.ImageSpelling.{image_spelling}
-use Rattle.pcfs_session.specs.Asker.{Asker, IsAsker, asker_after}
+use Rattle.pcfs_session.specs.ScriptContext.{ScriptContext, IsAsker, asker_after}
 use Rattle.pcfs_session.specs.Procaps.{BringsProcap, held, issued, NamesIssue, AreBrought, IsFirstUnissued}
 use Rattle.pcfs_session.specs.Proved.{IsUnproved, cites_none, proves_none, IsProved}
 use Rattle.pcfs_session.specs.LineAnswer.{authority_under, signature_under, withdrawal_under, Look, replied, requested, ComesTo, AnswersCommand, at_once, decided, AnswersLine, faulty, asks}
 use Rattle.pcfs_session.specs.LineAnswer as line_answer
 use Rattle.journal_records.specs.EventSpelling.{event_spelling}
-use Rattle.pcfs_session.specs.ScriptRun.{Standing, state_of_standing, standing_after, IsLawfulStanding, HasRoom, IsFullIn, Becomes, kept, full, IsReplied, answered, ScriptRun, ended, one_more, IsUndisturbed, AreUndisturbed}
+use Rattle.pcfs_session.specs.ScriptRun.{ScriptState, state_of_standing, standing_after, IsLawfulStanding, HasRoom, IsFullIn, Becomes, kept, full, IsReplied, answered, ScriptRun, ended, one_more, IsUndisturbed, AreUndisturbed}
 use Rattle.pcfs_session.proofs.FormedLemmas.{IsWellFormed-line}
 use Rattle.pcfs_session.proofs.LawfulRunLemmas.{IsLawfulStanding-replied}
 
@@ -106,10 +106,10 @@ told_of_words key issues given = by_words key issues given (all_or_failing (Name
 -- ---- a command
 
 -- something is made of it
-abbrev IsLooked : Secrets → BaseView → Asker → Command → Type 0
+abbrev IsLooked : Secrets → BaseView → ScriptContext → Command → Type 0
 IsLooked secrets state asker command = (look : Look) × ComesTo secrets state asker command look
 
-module _ (secrets : Secrets) (state : BaseView) (asker : Asker) where
+module _ (secrets : Secrets) (state : BaseView) (asker : ScriptContext) where
   verified : (goal : Goal) (numbers : List ℕ) (proof : ProofView) → IsToldOfProof (book_of state) goal numbers proof → IsLooked secrets state asker (Verify goal numbers proof)
   verified goal numbers proof (inl proved) = (requested (requests.Issue (checked_view proved.0 goal proof proved.1)), line_answer.verifies goal numbers proof proved.0 proved.1 proved.2)
   verified goal numbers proof (inr refused) = (replied refused.0, line_answer.verifies_nothing goal numbers proof refused.0 refused.1)
@@ -141,7 +141,7 @@ module _ (secrets : Secrets) (state : BaseView) (asker : Asker) where
         let answer = has_answer (authority_under secrets) state asker.pass asker.clock request (IsWellFormed-line secrets state asker line command request is_asker are is comes) in
         (replies.Step answer.0, option_map happened answer.1, decided request answer.0 answer.1 comes answer.2)
 
-    line_answered : ((command : Command) × IsLine line command) ⊎ ((fault : LineFault) × IsLineFault line fault) → (reply : LineReply) × (entry : Option StoreEntry) × (after : Asker) × AnswersLine secrets state asker line reply entry after
+    line_answered : ((command : Command) × IsLine line command) ⊎ ((fault : LineFault) × IsLineFault line fault) → (reply : LineReply) × (entry : Option StoreEntry) × (after : ScriptContext) × AnswersLine secrets state asker line reply entry after
     line_answered (inl one) =
         let look = look_at one.0 in
         let answer = answer_after one.0 one.1 look.0 look.1 in
@@ -149,11 +149,11 @@ module _ (secrets : Secrets) (state : BaseView) (asker : Asker) where
     line_answered (inr bad) = (replies.Faulty bad.0, None, asker, faulty bad.0 bad.1)
 
     -- each line has an answer
-    answer_of_line : (reply : LineReply) × (entry : Option StoreEntry) × (after : Asker) × AnswersLine secrets state asker line reply entry after
+    answer_of_line : (reply : LineReply) × (entry : Option StoreEntry) × (after : ScriptContext) × AnswersLine secrets state asker line reply entry after
     answer_of_line = line_answered (command_or_a_fault line)
 
 -- over the state of a lawful history each line has an answer
-pub line_has_answer : (s : Standing) (line : List ℕ) → IsLawfulStanding s → (reply : LineReply) × (entry : Option StoreEntry) × (after : Asker) × AnswersLine s.secrets (state_of_standing s) s.asker line reply entry after
+pub line_has_answer : (s : ScriptState) (line : List ℕ) → IsLawfulStanding s → (reply : LineReply) × (entry : Option StoreEntry) × (after : ScriptContext) × AnswersLine s.secrets (state_of_standing s) s.asker line reply entry after
 line_has_answer s line stands = answer_of_line s.secrets (state_of_standing s) s.asker stands.asker (IsLawfulBase-lawful (authority_under s.secrets) s.base s.events stands.lawful).statements_formed line
 
 -- ---- a run
@@ -168,7 +168,7 @@ unproved_calm : (book : Book) (goal : Goal) (numbers : List ℕ) (proof : ProofV
 unproved_calm book goal numbers proof _ (cites_none number absent) = record { had_memory = λ is. absurd cc; not_stopped = λ is. absurd cc }
 unproved_calm book goal numbers proof _ (proves_none cites fault found verdict_is) = record { had_memory = λ is. absurd cc; not_stopped = λ is. absurd cc }
 
-looked_calm : (secrets : Secrets) (state : BaseView) (asker : Asker) (command : Command) (look : Look) → ComesTo secrets state asker command look → IsCalm look
+looked_calm : (secrets : Secrets) (state : BaseView) (asker : ScriptContext) (command : Command) (look : Look) → ComesTo secrets state asker command look → IsCalm look
 looked_calm secrets state asker _ _ (line_answer.sets_clock second) = record { had_memory = λ is. absurd cc; not_stopped = λ is. absurd cc }
 looked_calm secrets state asker _ _ (line_answer.sets_caller who) = record { had_memory = λ is. absurd cc; not_stopped = λ is. absurd cc }
 looked_calm secrets state asker _ _ (line_answer.registers signature statement) = tt
@@ -182,11 +182,11 @@ looked_calm secrets state asker _ _ (line_answer.checks goal numbers proof cites
 looked_calm secrets state asker _ _ (line_answer.acts_under_none op given number none) = record { had_memory = λ is. absurd cc; not_stopped = λ is. absurd cc }
 looked_calm secrets state asker _ _ (line_answer.acts op given procaps brought) = tt
 
-at_once_calm : (secrets : Secrets) (state : BaseView) (asker : Asker) (command : Command) (reply : LineReply) → ComesTo secrets state asker command (replied reply) → IsUndisturbed reply
+at_once_calm : (secrets : Secrets) (state : BaseView) (asker : ScriptContext) (command : Command) (reply : LineReply) → ComesTo secrets state asker command (replied reply) → IsUndisturbed reply
 at_once_calm secrets state asker command reply comes = looked_calm secrets state asker command (replied reply) comes
 
 -- no answer is that memory ran out, or that a disk failed
-calm_reply : (s : Standing) (line : List ℕ) (reply : LineReply) (entry : Option StoreEntry) (after : Asker) → AnswersLine s.secrets (state_of_standing s) s.asker line reply entry after → IsUndisturbed reply
+calm_reply : (s : ScriptState) (line : List ℕ) (reply : LineReply) (entry : Option StoreEntry) (after : ScriptContext) → AnswersLine s.secrets (state_of_standing s) s.asker line reply entry after → IsUndisturbed reply
 calm_reply s line _ _ _ (faulty fault bad) = record { had_memory = λ is. absurd cc; not_stopped = λ is. absurd cc }
 calm_reply s line _ _ _ (asks command _ _ is_line (decided request reply event look answer)) = record { had_memory = λ is. absurd cc; not_stopped = λ is. absurd cc }
 calm_reply s line _ _ _ (asks command _ _ is_line (line_answer.made look)) = record { had_memory = λ is. absurd cc; not_stopped = λ is. absurd cc }
@@ -195,9 +195,9 @@ calm_reply s line _ _ _ (asks command _ _ is_line (at_once reply look)) = at_onc
 -- ---- what becomes of it
 
 -- something becomes of an answer, and no disk fails
-record GoesWell (s : Standing) (told : LineReply) (asker : Asker) (entry : Option StoreEntry) : Type 0 where
+record GoesWell (s : ScriptState) (told : LineReply) (asker : ScriptContext) (entry : Option StoreEntry) : Type 0 where
   reply : LineReply
-  after : Standing
+  after : ScriptState
   becomes : Becomes s told asker entry reply after
   calm : IsUndisturbed reply
   going : after.met ≡ None
@@ -212,7 +212,7 @@ bounds used most number last (inr short) (inl few) = inr both
     both (inl long) = absurd (omega (arith, long, short))
     both (inr many) = absurd (omega (arith, few, many))
 
-full_or_not : (s : Standing) (entry : StoreEntry) → IsFullIn s entry ⊎ HasRoom s (Some entry)
+full_or_not : (s : ScriptState) (entry : StoreEntry) → IsFullIn s entry ⊎ HasRoom s (Some entry)
 full_or_not s (happened event) =
     bounds (s.used + length (event_spelling event) + 6) area_limit (state_of_standing s).count (2 ^ 48 - 1)
     (cases_lt area_limit (s.used + length (event_spelling event) + 6)) (cases_lt (state_of_standing s).count (2 ^ 48 - 1))
@@ -225,21 +225,21 @@ full_calm : IsUndisturbed replies.Full
 full_calm = record { had_memory = λ is. absurd cc; not_stopped = λ is. absurd cc }
 
 -- what an entry leaves met no fault
-no_fault : (s : Standing) (entry : StoreEntry) (asker : Asker) → s.met ≡ None → (standing_after s (Some entry) asker).met ≡ None
+no_fault : (s : ScriptState) (entry : StoreEntry) (asker : ScriptContext) → s.met ≡ None → (standing_after s (Some entry) asker).met ≡ None
 no_fault s (happened event) asker going = going
 no_fault s (checkpointed pass) asker going = going
 no_fault s (stop_mark pass met) asker going = going
 
-entry_goes : (s : Standing) (told : LineReply) (asker : Asker) (entry : StoreEntry) → s.met ≡ None → IsUndisturbed told → IsFullIn s entry ⊎ HasRoom s (Some entry) → GoesWell s told asker (Some entry)
+entry_goes : (s : ScriptState) (told : LineReply) (asker : ScriptContext) (entry : StoreEntry) → s.met ≡ None → IsUndisturbed told → IsFullIn s entry ⊎ HasRoom s (Some entry) → GoesWell s told asker (Some entry)
 entry_goes s told asker entry going calm (inl is_full) = record { reply = replies.Full; after = s; becomes = full entry is_full; calm = full_calm; going = going }
 entry_goes s told asker entry going calm (inr room) = record { reply = told; after = standing_after s (Some entry) asker; becomes = kept (Some entry) room; calm = calm; going = no_fault s entry asker going }
 
-goes_well : (s : Standing) (told : LineReply) (asker : Asker) (entry : Option StoreEntry) → s.met ≡ None → IsUndisturbed told → GoesWell s told asker entry
+goes_well : (s : ScriptState) (told : LineReply) (asker : ScriptContext) (entry : Option StoreEntry) → s.met ≡ None → IsUndisturbed told → GoesWell s told asker entry
 goes_well s told asker None going calm = record { reply = told; after = standing_after s None asker; becomes = kept None tt; calm = calm; going = going }
 goes_well s told asker (Some entry) going calm = entry_goes s told asker entry going calm (full_or_not s entry)
 
 -- a run that does not run out of memory, and meets no fault of a disk
-pub has_outcome : (start : Standing) (lines : List (List ℕ)) → IsLawfulStanding start → start.met ≡ None → (told : List LineReply) × (end : Standing) × ScriptRun start lines told end × AreUndisturbed told
+pub has_outcome : (start : ScriptState) (lines : List (List ℕ)) → IsLawfulStanding start → start.met ≡ None → (told : List LineReply) × (end : ScriptState) × ScriptRun start lines told end × AreUndisturbed told
 has_outcome start [] stands going = ([], start, ended start, tt)
 has_outcome start (line ∷ lines) stands going =
     let first = line_has_answer start line stands in

@@ -1,6 +1,6 @@
 -- What calls do that answer lines, from one place of a script to a later one (this project's own).
 use Rattle.std.specs.Prelude.{◌≡◌, ◌⊎◌, ℕ, List, [], ◌++◌, Option, Some, None}
-use Rattle.pcfs_ports.specs.Told.{with_back, HoldsSome}
+use Rattle.pcfs_ports.specs.Observable.{with_back, HoldsSome}
 use Rattle.line_text.specs.Lines.{lines_of}
 use Rattle.line_text.specs.Words.{HasNo}
 use Rattle.line_framer.specs.Framing.{ended}
@@ -34,23 +34,29 @@ IsMetAt Stopped met = (entry : StoreEntry) × (met ≡ Some entry)
 
 -- what was collected was written, and all lines were answered; or the output failed
 abbrev pub IsFinished : List ℕ → Option (List ℕ) → ScriptEnd → Option (List ℕ) → Type 0
-IsFinished collected held how held_after = ((how ≡ script_ends.Done) × (held_after ≡ with_back held collected)) ⊎ ((how ≡ script_ends.WriteFault) × HoldsSome held held_after collected)
+IsFinished collected held how held_after = ((how ≡ script_ends.Done) × (held_after ≡ with_back held collected)) ⊎
+    ((how ≡ script_ends.WriteFault) × HoldsSome held held_after collected)
 
 -- Below `clock`, `left_since`, `image` and `faults` tell of a disk what they do in `Stored`.
 module _ {D : Type 0} (clock : D → ℕ) (left_since : D → ℕ → List ℕ → Type 0) (image : D → Option (List ℕ)) (faults : D → ℕ) where
-  -- lines are answered by an interpreter with these replies, and its store goes on; the last one met the fault of a disk, if there is an entry
+  -- lines are answered by an interpreter with these replies, and its store goes on; the last one
+  -- met the fault of a disk, if there is an entry
   pub record WasRun (lines : List (List ℕ)) (old new : InterpreterView D) (met : Option StoreEntry) (told : List LineReply) : Type 0 where
     pub run : ScriptRun (standing_of old None) lines told (standing_of new met)
     pub goes_on : StoreGoesOn clock left_since image faults old.store new.store met
 
-  -- lines are answered, and no disk failed; what was collected and their replies were written, but for what is collected then
-  pub record AreAnswered (lines : List (List ℕ)) (old new : InterpreterView D) (held : Option (List ℕ)) (collected : List ℕ) (held_after : Option (List ℕ)) (collected_after : List ℕ) : Type 0 where
+  -- lines are answered, and no disk failed; what was collected and their replies were written, but
+  -- for what is collected then
+  pub record AreAnswered (lines : List (List ℕ)) (old new : InterpreterView D)
+      (held : Option (List ℕ)) (collected : List ℕ) (held_after : Option (List ℕ))
+      (collected_after : List ℕ) : Type 0 where
     pub told : List LineReply
     pub was : WasRun lines old new None told
     pub out : GoesOut held (collected ++ output_of told) held_after collected_after
 
   -- lines are answered, and no further one is
-  pub record HaltsAt (lines : List (List ℕ)) (old new : InterpreterView D) (held : Option (List ℕ)) (collected : List ℕ) (halt : Halt) (held_after : Option (List ℕ)) : Type 0 where
+  pub record HaltsAt (lines : List (List ℕ)) (old new : InterpreterView D) (held : Option (List ℕ))
+      (collected : List ℕ) (halt : Halt) (held_after : Option (List ℕ)) : Type 0 where
     pub told : List LineReply
     pub met : Option StoreEntry
     pub was : WasRun lines old new met told
@@ -58,35 +64,57 @@ module _ {D : Type 0} (clock : D → ℕ) (left_since : D → ℕ → List ℕ �
     pub out : IsOutAt halt held held_after (collected ++ output_of told)
 
   -- the lines of these bytes that have their end are answered, and these bytes are left
-  pub record AnswersHeld (bytes left : List ℕ) (old new : InterpreterView D) (held : Option (List ℕ)) (collected : List ℕ) (held_after : Option (List ℕ)) (collected_after : List ℕ) : Type 0 where
+  pub record AnswersHeld (bytes left : List ℕ) (old new : InterpreterView D)
+      (held : Option (List ℕ)) (collected : List ℕ) (held_after : Option (List ℕ))
+      (collected_after : List ℕ) : Type 0 where
     pub lines : List (List ℕ)
     pub first : AreFirst bytes lines left
     pub no_more : HasNo 10 left
     pub answered : AreAnswered lines old new held collected held_after collected_after
 
   -- the first of them are answered, and no further line is
-  pub record HaltsWithin (bytes : List ℕ) (old new : InterpreterView D) (held : Option (List ℕ)) (collected : List ℕ) (halt : Halt) (held_after : Option (List ℕ)) : Type 0 where
+  pub record HaltsWithin (bytes : List ℕ) (old new : InterpreterView D) (held : Option (List ℕ))
+      (collected : List ℕ) (halt : Halt) (held_after : Option (List ℕ)) : Type 0 where
     pub lines : List (List ℕ)
     pub rest : List ℕ
     pub first : AreFirst bytes lines rest
     pub halts : HaltsAt lines old new held collected halt held_after
 
-  -- a piece comes after the bytes that were left; the lines that have their end then are answered, and all replies are out
-  abbrev pub AnswersPiece : List ℕ → List ℕ → List ℕ → InterpreterView D → InterpreterView D → Option (List ℕ) → Option (List ℕ) → Type 0
+  -- a piece comes after the bytes that were left; the lines that have their end then are answered,
+  -- and all replies are out
+  abbrev pub AnswersPiece : List ℕ → List ℕ → List ℕ → InterpreterView D → InterpreterView D →
+      Option (List ℕ) → Option (List ℕ) → Type 0
   AnswersPiece before piece left old new held held_after = AnswersHeld (before ++ piece) left old new held [] held_after []
 
-  -- how a script ends after these lines, since the next one is too long: that was written after their replies; or of all that some first part; or it halted at one of these lines
+  -- how a script ends after these lines, since the next one is too long: that was written after
+  -- their replies; or of all that some first part; or it halted at one of these lines
   pub data LongEnds (lines : List (List ℕ)) (old new : InterpreterView D) (held held_after : Option (List ℕ)) : ScriptEnd → Type 0 where
-    long_told : (replies : List LineReply) → WasRun lines old new None replies → held_after ≡ with_back held (output_of replies ++ long_line_told) → LongEnds lines old new held held_after script_ends.LineTooLong
-    long_untold : (replies : List LineReply) (fault : SendFault) → WasRun lines old new None replies → HoldsSome held held_after (output_of replies ++ long_line_told) → LongEnds lines old new held held_after (unsent_end fault)
-    long_halted : (halt : Halt) → HaltsWithin (ended lines) old new held [] halt held_after → LongEnds lines old new held held_after (halted_end halt)
+    long_told : (replies : List LineReply) → WasRun lines old new None replies →
+        held_after ≡ with_back held (output_of replies ++ long_line_told) →
+        LongEnds lines old new held held_after script_ends.LineTooLong
+    long_untold : (replies : List LineReply) (fault : SendFault) →
+        WasRun lines old new None replies →
+        HoldsSome held held_after (output_of replies ++ long_line_told) →
+        LongEnds lines old new held held_after (unsent_end fault)
+    long_halted : (halt : Halt) → HaltsWithin (ended lines) old new held [] halt held_after →
+        LongEnds lines old new held held_after (halted_end halt)
 
-  -- how a script ends at a piece after the bytes that were left: a line is too long; or it halts at one of the lines that have their end
+  -- how a script ends at a piece after the bytes that were left: a line is too long; or it halts at
+  -- one of the lines that have their end
   pub data PieceEnds (before piece : List ℕ) (old new : InterpreterView D) (held held_after : Option (List ℕ)) : ScriptEnd → Type 0 where
-    at_long_line : (how : ScriptEnd) (lines : List (List ℕ)) → HasLong (before ++ piece) lines → LongEnds lines old new held held_after how → PieceEnds before piece old new held held_after how
-    piece_halted : (halt : Halt) → HaltsWithin (before ++ piece) old new held [] halt held_after → PieceEnds before piece old new held held_after (halted_end halt)
+    at_long_line : (how : ScriptEnd) (lines : List (List ℕ)) → HasLong (before ++ piece) lines →
+        LongEnds lines old new held held_after how →
+        PieceEnds before piece old new held held_after how
+    piece_halted : (halt : Halt) → HaltsWithin (before ++ piece) old new held [] halt held_after →
+        PieceEnds before piece old new held held_after (halted_end halt)
 
-  -- how a script ends at the end of its input, where these bytes were left: they are the last line, if there are any, and it was answered
+  -- how a script ends at the end of its input, where these bytes were left: they are the last line,
+  -- if there are any, and it was answered
   pub data LastEnds (bytes : List ℕ) (old new : InterpreterView D) (held held_after : Option (List ℕ)) : ScriptEnd → Type 0 where
-    all_answered : (replies : List LineReply) → AreShort bytes → WasRun (lines_of bytes) old new None replies → held_after ≡ with_back held (output_of replies) → LastEnds bytes old new held held_after script_ends.Done
-    last_halted : (halt : Halt) → AreShort bytes → HaltsAt (lines_of bytes) old new held [] halt held_after → LastEnds bytes old new held held_after (halted_end halt)
+    all_answered : (replies : List LineReply) → AreShort bytes →
+        WasRun (lines_of bytes) old new None replies →
+        held_after ≡ with_back held (output_of replies) →
+        LastEnds bytes old new held held_after script_ends.Done
+    last_halted : (halt : Halt) → AreShort bytes →
+        HaltsAt (lines_of bytes) old new held [] halt held_after →
+        LastEnds bytes old new held held_after (halted_end halt)

@@ -22,25 +22,26 @@ use Rattle.std.specs.Option.{option_map}
 use Rattle.pcfs_store.specs.declared.reply.CheckpointReply.{CheckpointReply}
 use Rattle.pcfs_store.specs.declared.reply.CheckpointReply.TheVariants as checkpoints
 use Rattle.pcfs_store.specs.Entries.{StoreEntry, happened}
-use Rattle.pcfs_session.specs.Asker.{asker_after}
+use Rattle.pcfs_session.specs.ScriptContext.{asker_after}
 use Rattle.pcfs_session.specs.LineAnswer.{authority_under, AnswersCommand}
-use Rattle.pcfs_session.specs.ScriptRun.{Standing, state_of_standing, Becomes}
+use Rattle.pcfs_session.specs.ScriptRun.{ScriptState, state_of_standing, Becomes}
 
 -- the request is answered, and this becomes of the answer
-pub record IsDecidedAs (request : StepRequest) (before : Standing) (reply : LineReply) (after : Standing) : Type 0 where
+pub record IsDecidedAs (request : StepRequest) (before : ScriptState) (reply : LineReply) (after : ScriptState) : Type 0 where
   pub told : StepReply
   pub event : Option Event
   pub answer : Answers (authority_under before.secrets) (state_of_standing before) before.asker.pass before.asker.clock request told event
   pub becomes : Becomes before (replies.Step told) before.asker (option_map happened event) reply after
 
 -- the command is answered, and this becomes of the answer
-pub record IsFollowed (command : Command) (before : Standing) (reply : LineReply) (after : Standing) : Type 0 where
+pub record IsFollowed (command : Command) (before : ScriptState) (reply : LineReply) (after : ScriptState) : Type 0 where
   pub told : LineReply
   pub entry : Option StoreEntry
   pub answer : AnswersCommand before.secrets (state_of_standing before) before.asker command told entry
   pub becomes : Becomes before told (asker_after before.asker command) entry reply after
 
--- what is returned to a line for which a checkpoint of the store says this; nothing is, if memory ran out
+-- what is returned to a line for which a checkpoint of the store says this; nothing is, if memory
+-- ran out
 abbrev pub IsToldOfCheckpoint : CheckpointReply → LineReply → Type 0
 IsToldOfCheckpoint checkpoints.Checkpointed told = told ≡ replies.Checkpointed
 IsToldOfCheckpoint checkpoints.Full told = told ≡ replies.Full
@@ -61,7 +62,9 @@ unread_reply (line_faults.BadWord place) = replies.Faulty (line_faults.BadWord p
 unread_reply line_faults.BadCount = replies.Faulty line_faults.BadCount
 unread_reply (line_faults.BadText fault) = replies.Faulty (line_faults.BadText fault)
 
--- what a line can ask for: a moment for the clock, a principal for the caller, a statement within its rules, numbers that can be cited, and an operation with a procap for each place of its needs and not too many
+-- what a line can ask for: a moment for the clock, a principal for the caller, a statement within
+-- its rules, numbers that can be cited, and an operation with a procap for each place of its needs
+-- and not too many
 -- bytes
 abbrev pub IsAllowed : Command → Type 0
 IsAllowed (At second) = IsMoment second

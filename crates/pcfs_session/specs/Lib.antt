@@ -1,6 +1,5 @@
 pub mod Admin
 pub mod Answered
-pub mod Asker
 pub mod Brought
 pub mod Ends
 pub mod Interpreter
@@ -12,6 +11,7 @@ pub mod Outbox
 pub mod Procaps
 pub mod Proved
 pub mod Room
+pub mod ScriptContext
 pub mod ScriptEnds
 pub mod ScriptRun
 pub mod Stored

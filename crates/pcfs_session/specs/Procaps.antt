@@ -11,14 +11,16 @@ use Rattle.line_words.specs.declared.procap_word.ProcapWord.TheVariants as words
 -- the procap that a word brings: its own, or the one of the issue that it names
 pub data BringsProcap (key : List ℕ) (issues : List Issue) : ProcapWord → Procap → Type 0 where
   held : (p : Procap) → BringsProcap key issues (words.Procap p) p
-  issued : (number : ℕ) (issue : Issue) → IsNumbered issues number issue → BringsProcap key issues (words.Issue number) (procap_of key issue.grant)
+  issued : (number : ℕ) (issue : Issue) → IsNumbered issues number issue →
+      BringsProcap key issues (words.Issue number) (procap_of key issue.grant)
 
 -- each word brings its procap
 abbrev pub AreBrought : List ℕ → List Issue → List ProcapWord → List Procap → Type 0
 AreBrought key issues [] [] = Unit {0}
 AreBrought key issues [] (p ∷ procaps) = ⊥
 AreBrought key issues (word ∷ words) [] = ⊥
-AreBrought key issues (word ∷ words) (p ∷ procaps) = BringsProcap key issues word p × AreBrought key issues words procaps
+AreBrought key issues (word ∷ words) (p ∷ procaps) = BringsProcap key issues word p ×
+    AreBrought key issues words procaps
 
 -- if the word names an issue, it is there
 abbrev pub NamesIssue : List Issue → ProcapWord → Type 0

@@ -13,12 +13,18 @@ use Rattle.access_history.specs.declared.reply.StepReply.TheVariants.{Absent}
 use Rattle.line_wire.specs.declared.reply.LineReply.{LineReply}
 use Rattle.line_wire.specs.declared.reply.LineReply.TheVariants as replies
 
--- why the proof of a goal from the statements of these numbers proves nothing: a statement is not there, or the proof has a fault
-pub data IsUnproved (book : Book) (goal : Goal) (numbers : List ℕ) (proof : ProofView) : LineReply → Type 0 where
-  cites_none : (number : ℕ) → IsAbsent book numbers number → IsUnproved book goal numbers proof (replies.Step (Absent number))
-  proves_none : (cites : List Cite) (fault : CheckFault) → AreFound book numbers cites → verdict (statements_of cites) goal proof ≡ Err fault → IsUnproved book goal numbers proof (replies.Unproved fault)
+-- why the proof of a goal from the statements of these numbers proves nothing: a statement is not
+-- there, or the proof has a fault
+pub data IsUnproved (book : Book) (goal : Goal) (numbers : List ℕ) (proof : ProofView) : LineReply →
+    Type 0 where
+  cites_none : (number : ℕ) → IsAbsent book numbers number →
+      IsUnproved book goal numbers proof (replies.Step (Absent number))
+  proves_none : (cites : List Cite) (fault : CheckFault) → AreFound book numbers cites →
+      verdict (statements_of cites) goal proof ≡ Err fault →
+      IsUnproved book goal numbers proof (replies.Unproved fault)
 
--- the statements of these numbers, and the grant that is the verdict on the proof of the goal from them
+-- the statements of these numbers, and the grant that is the verdict on the proof of the goal from
+-- them
 pub record IsProved (book : Book) (goal : Goal) (numbers : List ℕ) (proof : ProofView) (cites : List Cite) (g : GrantView) : Type 0 where
   pub found : AreFound book numbers cites
   pub verdict_is : verdict (statements_of cites) goal proof ≡ Ok g

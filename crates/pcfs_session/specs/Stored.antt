@@ -9,7 +9,7 @@ use Rattle.pcfs_store.specs.Checkpoints.{place_after, SurvivesMet}
 use Rattle.pcfs_store.specs.Entries.{StoreEntry, checkpointed}
 use Rattle.pcfs_session.specs.InterpreterView.{InterpreterView, standing_of}
 use Rattle.pcfs_session.specs.ScriptEnds.{ScriptEnds}
-use Rattle.pcfs_session.specs.ScriptRun.{Standing}
+use Rattle.pcfs_session.specs.ScriptRun.{ScriptState}
 use Rattle.pcfs_session.specs.Streams.{Streams}
 use Rattle.pcfs_session.specs.declared.script_end.ScriptEnd.{ScriptEnd}
 
@@ -20,11 +20,17 @@ IsStopFor None (Some entry) = ⊥
 IsStopFor (Some pass) None = ⊥
 IsStopFor (Some pass) (Some entry) = Unit {0}
 
--- Below, of a disk d `clock d` is the present moment, `left_since d t bytes` says that a crash at some moment since t may have left these bytes, `image d` is what a read gives, if d tells it, and `faults d`
+-- Below, of a disk d `clock d` is the present moment, `left_since d t bytes` says that a crash at
+-- some moment since t may have left these bytes, `image d` is what a read gives, if d tells it, and
+-- `faults d`
 -- counts its faults.
 module _ {D : Type 0} (clock : D → ℕ) (left_since : D → ℕ → List ℕ → Type 0) (image : D → Option (List ℕ)) (faults : D → ℕ) where
-  -- From one moment of a store to a later one, at which a disk has failed for this event or this checkpoint, if one has. Checkpoints were added at the end: with each the generation grew by one, and the disks changed their places; as long as
-  -- none was tried, the other disk is not touched. While no disk has failed, a store that was ready is ready, and what a read gives stands for its history. If one has, a count rose; and of a store that was ready a crash leaves the history,
+  -- From one moment of a store to a later one, at which a disk has failed for this event or this
+  -- checkpoint, if one has. Checkpoints were added at the end: with each the generation grew by
+  -- one, and the disks changed their places; as long as
+  -- none was tried, the other disk is not touched. While no disk has failed, a store that was ready
+  -- is ready, and what a read gives stands for its history. If one has, a count rose; and of a
+  -- store that was ready a crash leaves the history,
   -- or, if it was for an event, with it the event.
   pub record StoreGoesOn (old new : StoreView D) (met : Option StoreEntry) : Type 0 where
     pub stop_for : IsStopFor new.stop met
@@ -32,16 +38,22 @@ module _ {D : Type 0} (clock : D → ℕ) (left_since : D → ℕ → List ℕ �
     pub checkpoints_go_on : IsPrefix old.checkpoints new.checkpoints
     pub generation_grows : new.generation ≡ old.generation + length checkpoints_go_on.0
     pub place_is : new.second_active ≡ place_after (length checkpoints_go_on.0) old.second_active
-    pub other_stays : checkpoints_go_on.0 ≡ [] → ((pass : ℕ) → met ≡ Some (checkpointed pass) → ⊥) → new.other ≡ old.other
+    pub other_stays : checkpoints_go_on.0 ≡ [] → ((pass : ℕ) → met ≡ Some (checkpointed pass) → ⊥) →
+        new.other ≡ old.other
     pub ready : IsReady clock left_since image old → met ≡ None → IsReady clock left_since image new
-    pub halts : IsReady clock left_since image old → (entry : StoreEntry) → met ≡ Some entry → StopsNow clock left_since image new (SurvivesMet new.base new.events entry)
-    pub current : IsCurrent clock left_since image old → met ≡ None → IsCurrent clock left_since image new
+    pub halts : IsReady clock left_since image old → (entry : StoreEntry) → met ≡ Some entry →
+        StopsNow clock left_since image new (SurvivesMet new.base new.events entry)
+    pub current : IsCurrent clock left_since image old → met ≡ None →
+        IsCurrent clock left_since image new
     pub first_never_falls : faults (first_disk old) ≤ faults (first_disk new)
     pub second_never_falls : faults (second_disk old) ≤ faults (second_disk new)
-    pub failed : (entry : StoreEntry) → met ≡ Some entry → HasRisen (faults (first_disk old)) (faults (first_disk new)) ⊎ HasRisen (faults (second_disk old)) (faults (second_disk new))
+    pub failed : (entry : StoreEntry) → met ≡ Some entry →
+        HasRisen (faults (first_disk old)) (faults (first_disk new)) ⊎
+        HasRisen (faults (second_disk old)) (faults (second_disk new))
 
-  -- a call of an interpreter leads to a reply, as R says of where it stood and of where it stands then, and its store goes on
-  pub record LeadsTo (R : Standing → LineReply → Standing → Type 0) (old : InterpreterView D) (reply : LineReply) (new : InterpreterView D) : Type 0 where
+  -- a call of an interpreter leads to a reply, as R says of where it stood and of where it stands
+  -- then, and its store goes on
+  pub record LeadsTo (R : ScriptState → LineReply → ScriptState → Type 0) (old : InterpreterView D) (reply : LineReply) (new : InterpreterView D) : Type 0 where
     pub met : Option StoreEntry
     pub holds : R (standing_of old None) reply (standing_of new met)
     pub goes_on : StoreGoesOn old.store new.store met

@@ -1,7 +1,8 @@
--- The lines of what was taken of an input. If the input does not tell what it has, these are some lines (this project's own).
+-- The lines of what was taken of an input. If the input does not tell what it has, these are some
+-- lines (this project's own).
 use Rattle.std.specs.Prelude.{◌≡◌, ◌≤◌, ℕ, List, ◌++◌, length, Option}
 use Rattle.std.specs.List.{AllByRecursion}
-use Rattle.pcfs_ports.specs.Told.{with_front}
+use Rattle.pcfs_ports.specs.Observable.{with_front}
 use Rattle.line_framer.specs.Framing.{ended, IsLine}
 use Rattle.line_framer.specs.Feeding.{AreShort}
 use Rattle.line_framer.specs.Scanning.{HasLong}
@@ -27,7 +28,8 @@ pub record AreAllTaken (left left_after : Option (List ℕ)) (lines : List (List
   pub first : AreFirst bytes lines rest
   pub is_open : IsLine rest
 
--- no line was too long; and then a last piece was taken, with which a line is. These are the lines before it.
+-- no line was too long; and then a last piece was taken, with which a line is. These are the lines
+-- before it.
 pub record IsCutAtLong (left left_after : Option (List ℕ)) (lines : List (List ℕ)) : Type 0 where
   pub bytes : List ℕ
   pub piece : List ℕ

@@ -2,7 +2,7 @@
 
 ghost use Rattle.std.specs.Prelude.{◌≡◌, ◌≤◌, ◌∷◌, [], None, OnOk, IfErr, IsErrOf};
 ghost use Rattle.pcfs_ports.specs.Faults.{HasRisen};
-ghost use Rattle.pcfs_ports.specs.Told.{with_back, HoldsSome};
+ghost use Rattle.pcfs_ports.specs.Observable.{with_back, HoldsSome};
 ghost use Rattle.pcfs_session.specs.Answered.{AreAnswered, HaltsAt, AnswersHeld, HaltsWithin};
 ghost use Rattle.pcfs_session.specs.InterpreterView.{standing_of};
 ghost use Rattle.pcfs_session.specs.ScriptRun.{IsLawfulStanding};
@@ -17,9 +17,11 @@ use std::alloc::Global;
 
 // Writes all replies that were collected, after a disk failed.
 fn stop<O: Sink>(collected: &mut Bytes, output: &mut O) -> Halt
-    ensures out { (result ≡ Halt.Stopped) → O.held output.new ≡ with_back (O.held output.old) collected.old }
+    ensures out { (result ≡ Halt.Stopped) →
+        O.held output.new ≡ with_back (O.held output.old) collected.old }
     ensures some { HoldsSome (O.held output.old) (O.held output.new) collected.old }
-    ensures risen { (result ≡ Halt.Unsent SendFault.Write) → HasRisen (O.faults output.old) (O.faults output.new) }
+    ensures risen { (result ≡ Halt.Unsent SendFault.Write) →
+        HasRisen (O.faults output.old) (O.faults output.new) }
     ensures never_falls { O.faults output.old ≤ O.faults output.new }
 {
     match flush(collected, output) {
@@ -43,9 +45,14 @@ pub fn answer_line<D: Disk, O: Sink>(
 ) -> Result<(), Halt>
     requires lawful { IsLawfulStanding (standing_of interpreter.old None) }
     requires running { interpreter.old.store.stop ≡ None }
-    ensures ok { OnOk result (AreAnswered D.clock D.left_since D.image D.faults (line.now ∷ []) interpreter.old interpreter.new (O.held output.old) collected.old (O.held output.new) collected.new) }
-    ensures halts { IfErr result (λ halt. HaltsAt D.clock D.left_since D.image D.faults (line.now ∷ []) interpreter.old interpreter.new (O.held output.old) collected.old halt (O.held output.new)) }
-    ensures risen { IsErrOf result (Halt.Unsent SendFault.Write) → HasRisen (O.faults output.old) (O.faults output.new) }
+    ensures ok { OnOk result (AreAnswered D.clock D.left_since D.image D.faults (line.now ∷ [])
+        interpreter.old interpreter.new (O.held output.old) collected.old (O.held output.new)
+        collected.new) }
+    ensures halts { IfErr result (λ halt. HaltsAt D.clock D.left_since D.image D.faults (line.now
+        ∷ []) interpreter.old interpreter.new (O.held output.old) collected.old halt
+        (O.held output.new)) }
+    ensures risen { IsErrOf result (Halt.Unsent SendFault.Write) →
+        HasRisen (O.faults output.old) (O.faults output.new) }
     ensures never_falls { O.faults output.old ≤ O.faults output.new }
 {
     let reply = interpreter.reply_to(alloc, line);
@@ -72,9 +79,14 @@ pub fn answer_held<D: Disk, O: Sink>(
 ) -> Result<(), Halt>
     requires lawful { IsLawfulStanding (standing_of interpreter.old None) }
     requires running { interpreter.old.store.stop ≡ None }
-    ensures ok { OnOk result (AnswersHeld D.clock D.left_since D.image D.faults framer.old.left framer.new.left interpreter.old interpreter.new (O.held output.old) collected.old (O.held output.new) collected.new) }
-    ensures halts { IfErr result (λ halt. HaltsWithin D.clock D.left_since D.image D.faults framer.old.left interpreter.old interpreter.new (O.held output.old) collected.old halt (O.held output.new)) }
-    ensures risen { IsErrOf result (Halt.Unsent SendFault.Write) → HasRisen (O.faults output.old) (O.faults output.new) }
+    ensures ok { OnOk result (AnswersHeld D.clock D.left_since D.image D.faults framer.old.left
+        framer.new.left interpreter.old interpreter.new (O.held output.old) collected.old
+        (O.held output.new) collected.new) }
+    ensures halts { IfErr result (λ halt. HaltsWithin D.clock D.left_since D.image D.faults
+        framer.old.left interpreter.old interpreter.new (O.held output.old) collected.old halt
+        (O.held output.new)) }
+    ensures risen { IsErrOf result (Halt.Unsent SendFault.Write) →
+        HasRisen (O.faults output.old) (O.faults output.new) }
     ensures never_falls { O.faults output.old ≤ O.faults output.new }
     ensures long_stays { OnOk result (framer.new.is_long ≡ framer.old.is_long) }
 {
@@ -99,10 +111,15 @@ pub fn answer_out<D: Disk, O: Sink>(
 ) -> Result<(), Halt>
     requires lawful { IsLawfulStanding (standing_of interpreter.old None) }
     requires running { interpreter.old.store.stop ≡ None }
-    ensures ok { OnOk result (AnswersHeld D.clock D.left_since D.image D.faults framer.old.left framer.new.left interpreter.old interpreter.new (O.held output.old) collected.old (O.held output.new) collected.new) }
+    ensures ok { OnOk result (AnswersHeld D.clock D.left_since D.image D.faults framer.old.left
+        framer.new.left interpreter.old interpreter.new (O.held output.old) collected.old
+        (O.held output.new) collected.new) }
     ensures empty { OnOk result (collected.new ≡ []) }
-    ensures halts { IfErr result (λ halt. HaltsWithin D.clock D.left_since D.image D.faults framer.old.left interpreter.old interpreter.new (O.held output.old) collected.old halt (O.held output.new)) }
-    ensures risen { IsErrOf result (Halt.Unsent SendFault.Write) → HasRisen (O.faults output.old) (O.faults output.new) }
+    ensures halts { IfErr result (λ halt. HaltsWithin D.clock D.left_since D.image D.faults
+        framer.old.left interpreter.old interpreter.new (O.held output.old) collected.old halt
+        (O.held output.new)) }
+    ensures risen { IsErrOf result (Halt.Unsent SendFault.Write) →
+        HasRisen (O.faults output.old) (O.faults output.new) }
     ensures never_falls { O.faults output.old ≤ O.faults output.new }
     ensures long_stays { OnOk result (framer.new.is_long ≡ framer.old.is_long) }
 {

@@ -3,8 +3,8 @@
 ghost use Rattle.std.specs.Prelude.{◌≡◌, ◌≤◌, ◌↔◌, None, length, IfOk, OnErr, IsSome, IsTrue};
 
 use crate::brought::add_procaps;
+use crate::line_replies::{reply_of_checkpoint, reply_of_store, unproved, unread};
 use crate::signing::{signature_of, withdrawal_of};
-use crate::telling::{told_as, told_of_checkpoint, unproved, unread};
 use access_history::{Procaps, StepReply, StepRequest};
 use bl_syntax::{Bytes, Goal, NoMemory, Numbers, Principal, Statement};
 use file_world::Op;
@@ -56,7 +56,7 @@ impl<D: Disk> Interpreter<D> {
     ghost use Rattle.file_world.specs.Effect.{IsOperation};
     ghost use Rattle.file_world.specs.Needs.{slots, bytes_to_write};
     ghost use Rattle.line_forms.specs.declared.command.Command.TheVariants.{Register, Withdraw, Procap as ShowProcap, Checkpoint, Verify, Check, Do};
-    ghost use Rattle.pcfs_session.specs.Asker.{first_asker};
+    ghost use Rattle.pcfs_session.specs.ScriptContext.{first_asker};
     ghost use Rattle.pcfs_session.specs.ScriptRun.{IsLawfulStanding, IsReplied, script_pass};
     ghost use Rattle.pcfs_session.specs.InterpreterView.{standing_of};
     ghost use Rattle.pcfs_session.specs.Stored.{LeadsTo};
@@ -98,7 +98,7 @@ impl<D: Disk> Interpreter<D> {
         ensures err { OnErr result (self.new ≡ self.old) }
     {
         let reply = self.store.step(alloc, self.pass, request, self.clock);
-        told_as(reply)
+        reply_of_store(reply)
     }
 
     // Checks the proof of the goal from the statements of these numbers, and asks for an issue.
@@ -216,7 +216,7 @@ impl<D: Disk> Interpreter<D> {
         ensures err { OnErr result (self.new ≡ self.old) }
     {
         let reply = self.store.checkpoint(alloc, self.pass);
-        told_of_checkpoint(reply)
+        reply_of_checkpoint(reply)
     }
 
     // Does what a line of a script asks for.

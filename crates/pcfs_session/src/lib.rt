@@ -9,11 +9,11 @@ mod answering;
 mod brought;
 mod interpreter;
 pub mod laws;
+mod line_replies;
 mod outbox;
 mod script;
 mod script_end;
 mod signing;
-mod telling;
 
 pub use outbox::{SendFault, flush, send, send_all};
 pub use script::script_session;

@@ -2,7 +2,7 @@
 
 ghost use Rattle.std.specs.Prelude.{◌≡◌, ◌≤◌, ◌++◌, ◌∷◌, [], OnOk, OnErr, IsErrOf};
 ghost use Rattle.pcfs_ports.specs.Faults.{HasRisen};
-ghost use Rattle.pcfs_ports.specs.Told.{with_back, HoldsSome};
+ghost use Rattle.pcfs_ports.specs.Observable.{with_back, HoldsSome};
 ghost use Rattle.line_wire.specs.ReplyText.{reply_text};
 ghost use Rattle.pcfs_session.specs.Outbox.{GoesOut};
 ghost use Rattle.pcfs_session.specs.declared.outbox.SendFault.TheVariants.{Write as WriteFailed};
@@ -62,7 +62,8 @@ fn flush_if_enough<O: Sink>(
 // Writes what was collected, after memory ran out.
 fn give_up<O: Sink>(collected: &mut Bytes, output: &mut O) -> SendFault
     ensures some { HoldsSome (O.held output.old) (O.held output.new) collected.old }
-    ensures risen { (result ≡ SendFault.Write) → HasRisen (O.faults output.old) (O.faults output.new) }
+    ensures risen { (result ≡ SendFault.Write) →
+        HasRisen (O.faults output.old) (O.faults output.new) }
     ensures never_falls { O.faults output.old ≤ O.faults output.new }
 {
     match flush(collected, output) {
@@ -82,7 +83,8 @@ pub fn send<O: Sink>(
 ) -> Result<(), SendFault>
     ensures ok { OnOk result (GoesOut (O.held output.old) (collected.old ++ (reply_text reply.now ++ 10 ∷ [])) (O.held output.new) collected.new) }
     ensures err { OnErr result (HoldsSome (O.held output.old) (O.held output.new) (collected.old ++ (reply_text reply.now ++ 10 ∷ []))) }
-    ensures risen { IsErrOf result SendFault.Write → HasRisen (O.faults output.old) (O.faults output.new) }
+    ensures risen { IsErrOf result SendFault.Write →
+        HasRisen (O.faults output.old) (O.faults output.new) }
     ensures never_falls { O.faults output.old ≤ O.faults output.new }
 {
     match write_reply(alloc, collected, reply) {
@@ -100,7 +102,8 @@ pub fn send_all<O: Sink>(
 ) -> Result<(), SendFault>
     ensures ok { OnOk result (O.held output.new ≡ with_back (O.held output.old) (collected.old ++ (reply_text reply.now ++ 10 ∷ []))) }
     ensures err { OnErr result (HoldsSome (O.held output.old) (O.held output.new) (collected.old ++ (reply_text reply.now ++ 10 ∷ []))) }
-    ensures risen { IsErrOf result SendFault.Write → HasRisen (O.faults output.old) (O.faults output.new) }
+    ensures risen { IsErrOf result SendFault.Write →
+        HasRisen (O.faults output.old) (O.faults output.new) }
     ensures never_falls { O.faults output.old ≤ O.faults output.new }
 {
     match write_reply(alloc, collected, reply) {

@@ -3,14 +3,15 @@
 ghost use Rattle.std.specs.Prelude.{◌≡◌, ◌<◌, ◌≤◌, [], ℕ, List, None, false, IfOk, OnOk, OnErr, IfErr, IsErrOf, length, take};
 ghost use Rattle.std.specs.List.{AllByRecursion};
 ghost use Rattle.pcfs_ports.specs.Faults.{HasRisen};
-ghost use Rattle.pcfs_ports.specs.Told.{with_front, IsAtEnd};
+ghost use Rattle.pcfs_ports.specs.Observable.{with_front, IsAtEnd};
 ghost use Rattle.line_framer.specs.Framing.{ended, IsLine};
 ghost use Rattle.line_text.specs.Words.{HasNo};
 ghost use Rattle.pcfs_session.specs.Answered.{AnswersPiece, PieceEnds, LongEnds, LastEnds, IsFinished};
-ghost use Rattle.pcfs_session.specs.Asker.{Asker, first_asker};
+ghost use Rattle.pcfs_session.specs.ScriptContext.{ScriptContext, first_asker};
 ghost use Rattle.pcfs_session.specs.InterpreterView.{standing_of, standing_over};
 ghost use Rattle.pcfs_session.specs.ScriptRun.{IsLawfulStanding, script_pass};
 ghost use Rattle.pcfs_session.specs.Stored.{AnswersScript};
+ghost use Rattle.pcfs_session.specs.Streams.{streams_of};
 
 use crate::answering::{answer_held, answer_line, answer_out};
 use crate::interpreter::Interpreter;
@@ -62,9 +63,11 @@ fn end_at_long_line<D: Disk, O: Sink>(
     requires lawful { IsLawfulStanding (standing_of interpreter.old None) }
     requires running { interpreter.old.store.stop ≡ None }
     requires nothing_waits { collected.old ≡ [] }
-    ensures ends { (lines : List (List ℕ)) → AllByRecursion IsLine lines → framer.old.left ≡ ended lines →
+    ensures ends { (lines : List (List ℕ)) → AllByRecursion IsLine lines →
+        framer.old.left ≡ ended lines →
         LongEnds D.clock D.left_since D.image D.faults lines interpreter.old interpreter.new (O.held output.old) (O.held output.new) result }
-    ensures risen { (result ≡ ScriptEnd.WriteFault) → HasRisen (O.faults output.old) (O.faults output.new) }
+    ensures risen { (result ≡ ScriptEnd.WriteFault) →
+        HasRisen (O.faults output.old) (O.faults output.new) }
     ensures never_falls { O.faults output.old ≤ O.faults output.new }
 {
     match answer_held(alloc, interpreter, framer, collected, enough, output) {
@@ -91,12 +94,16 @@ fn answer_piece<D: Disk, O: Sink>(
     requires running { interpreter.old.store.stop ≡ None }
     requires not_long { framer.old.is_long ≡ false }
     requires nothing_waits { collected.old ≡ [] }
-    ensures ok { OnOk result (AnswersPiece D.clock D.left_since D.image D.faults framer.old.left piece.now framer.new.left interpreter.old interpreter.new (O.held output.old) (O.held output.new)) }
+    ensures ok { OnOk result (AnswersPiece D.clock D.left_since D.image D.faults framer.old.left
+        piece.now framer.new.left interpreter.old interpreter.new (O.held output.old)
+        (O.held output.new)) }
     ensures few { OnOk result (length framer.new.left ≤ 262144) }
     ensures stays_so { OnOk result (framer.new.is_long ≡ false) }
     ensures empty { OnOk result (collected.new ≡ []) }
-    ensures ends { IfErr result (PieceEnds D.clock D.left_since D.image D.faults framer.old.left piece.now interpreter.old interpreter.new (O.held output.old) (O.held output.new)) }
-    ensures risen { IsErrOf result ScriptEnd.WriteFault → HasRisen (O.faults output.old) (O.faults output.new) }
+    ensures ends { IfErr result (PieceEnds D.clock D.left_since D.image D.faults framer.old.left
+        piece.now interpreter.old interpreter.new (O.held output.old) (O.held output.new)) }
+    ensures risen { IsErrOf result ScriptEnd.WriteFault →
+        HasRisen (O.faults output.old) (O.faults output.new) }
     ensures never_falls { O.faults output.old ≤ O.faults output.new }
 {
     match framer.feed(piece) {
@@ -115,7 +122,8 @@ fn answer_piece<D: Disk, O: Sink>(
 // Writes all replies, and returns how the script ends: all lines were answered.
 fn finish<O: Sink>(collected: &mut Bytes, output: &mut O) -> ScriptEnd
     ensures ends { IsFinished collected.old (O.held output.old) result (O.held output.new) }
-    ensures risen { (result ≡ ScriptEnd.WriteFault) → HasRisen (O.faults output.old) (O.faults output.new) }
+    ensures risen { (result ≡ ScriptEnd.WriteFault) →
+        HasRisen (O.faults output.old) (O.faults output.new) }
     ensures never_falls { O.faults output.old ≤ O.faults output.new }
 {
     match flush(collected, output) {
@@ -137,8 +145,10 @@ fn answer_last<D: Disk, O: Sink>(
     requires running { interpreter.old.store.stop ≡ None }
     requires one { HasNo 10 framer.now.left }
     requires nothing_waits { collected.old ≡ [] }
-    ensures ends { LastEnds D.clock D.left_since D.image D.faults framer.now.left interpreter.old interpreter.new (O.held output.old) (O.held output.new) result }
-    ensures risen { (result ≡ ScriptEnd.WriteFault) → HasRisen (O.faults output.old) (O.faults output.new) }
+    ensures ends { LastEnds D.clock D.left_since D.image D.faults framer.now.left interpreter.old
+        interpreter.new (O.held output.old) (O.held output.new) result }
+    ensures risen { (result ≡ ScriptEnd.WriteFault) →
+        HasRisen (O.faults output.old) (O.faults output.new) }
     ensures never_falls { O.faults output.old ≤ O.faults output.new }
 {
     match framer.last_line() {
@@ -161,8 +171,8 @@ fn read_pieces<D: Disk, I: Source, O: Sink>(
     requires lawful { IsLawfulStanding (standing_of interpreter.old None) }
     requires running { interpreter.old.store.stop ≡ None }
     ensures ends { AnswersScript D.clock D.left_since D.image D.faults interpreter.old
-        (record { left = I.left input.old; read_faults = I.faults input.old; held = O.held output.old; write_faults = O.faults output.old }) result interpreter.new
-        (record { left = I.left input.new; read_faults = I.faults input.new; held = O.held output.new; write_faults = O.faults output.new }) }
+        (streams_of I.left I.faults O.held O.faults input.old output.old) result interpreter.new
+        (streams_of I.left I.faults O.held O.faults input.new output.new) }
     ensures never_falls { O.faults output.old ≤ O.faults output.new }
 {
     let mut piece = match new_piece(alloc) {
@@ -211,9 +221,10 @@ pub fn script_session<D: Disk, I: Source, O: Sink>(
 ) -> (ScriptEnd, Store<D>)
     requires lawful { IsLawfulStanding (standing_over store None (first_asker script_pass)) }
     requires running { store.stop ≡ None }
-    ensures ends { (asker : Asker) × AnswersScript D.clock D.left_since D.image D.faults (record { store = store; asker = first_asker script_pass })
-        (record { left = I.left input.old; read_faults = I.faults input.old; held = O.held output.old; write_faults = O.faults output.old }) result.0 (record { store = result.1; asker = asker })
-        (record { left = I.left input.new; read_faults = I.faults input.new; held = O.held output.new; write_faults = O.faults output.new }) }
+    ensures ends { (asker : ScriptContext) × AnswersScript D.clock D.left_since D.image D.faults (record { store = store; asker = first_asker script_pass })
+        (streams_of I.left I.faults O.held O.faults input.old output.old) result.0
+        (record { store = result.1; asker = asker })
+        (streams_of I.left I.faults O.held O.faults input.new output.new) }
     ensures never_falls { O.faults output.old ≤ O.faults output.new }
 {
     let mut interpreter = Interpreter::over(store);

@@ -1,13 +1,12 @@
 -- What a checkpoint of a store says, at each of its ends.
-use Rattle.std.proofs.Common.{◌≡◌, ◌≢◌, ◌⊎◌, ℕ, ◌+◌, ◌-◌, ◌^◌, ◌<◌, ◌≤◌, List, [], ◌∷◌, ◌++◌, length, take, drop, Some, None, IfSome, Bool, true, false, refl, sym, ◌∙◌, ap, subst, inl, inr, ⊎_elim, arith, length-append}
+use Rattle.std.proofs.Common.{◌≡◌, ◌⊎◌, ℕ, ◌+◌, ◌-◌, ◌^◌, ◌<◌, ◌≤◌, List, [], ◌∷◌, ◌++◌, length, Some, None, IfSome, Bool, true, false, refl, sym, ◌∙◌, ap, subst, inl, inr, arith, length-append}
 use Rattle.std.specs.Prelude.{Option, is_some, not}
 use Rattle.std.specs.Option.{option_map}
 use Rattle.std.proofs.lemmas.Bool.{cases_lt}
-use Rattle.std.proofs.lemmas.List.{take_all, drop_all, append-nil}
+use Rattle.std.proofs.lemmas.List.{take_all, drop_all}
 use Rattle.pcfs_ports.specs.Faults.{HasRisen}
 use Rattle.pcfs_ports.specs.Disk.{written, IsPinned, LeavesOnly}
-use Rattle.journal_core.specs.Area.{area_limit, area_bytes, base_bytes, StandsForBody, IsGeneration, generation_of, Closed, IsShut}
-use Rattle.journal_core.specs.AreaView.{AreaView}
+use Rattle.journal_core.specs.Area.{area_limit, area_bytes, StandsForBody, IsGeneration, generation_of, Closed}
 use Rattle.journal_core.specs.Rest.{Rests, IsOldOrShutOrNew}
 use Rattle.journal_core.proofs.AreaLemmas.{closed_written}
 use Rattle.journal_core.proofs.RestsLemmas.{some_same}
@@ -22,10 +21,10 @@ use Rattle.pcfs_store.specs.Image.{IsImageOf}
 use Rattle.pcfs_store.specs.StoredHistory.{payloads_of, state_after, area_since}
 use Rattle.pcfs_store.specs.Newest.{newest, one_of, SurvivesWholeClosed}
 use Rattle.pcfs_store.specs.StoreView.{StoreView, first_disk, second_disk, last_after, settled_of, head_of, image_since, image_of, body_of, state_of_store, AreInOrder, IsStore}
-use Rattle.pcfs_store.specs.Ready.{tie, IsBehind, IsReady, IsCurrent, StopsLeave, StopsNow, Keeps, ready, halted}
+use Rattle.pcfs_store.specs.Ready.{tie, IsBehind, IsReady, IsCurrent, StopsNow, Keeps, ready, halted}
 use Rattle.pcfs_store.specs.Checkpoints.{IsFullForCheckpoint, with_checkpoint, MakesCheckpoint, made, full, failed, stopped, without_memory, IsNewestCheckpoint, Checkpoints}
 use Rattle.pcfs_store.specs.Moving.{Overwrites}
-use Rattle.pcfs_store.proofs.SurvivalLemmas.{IsTellable, tellable_store, survives_closed, newest_active, generation_since, order_above, order_more, at_some, if_some, ready_survives_now}
+use Rattle.pcfs_store.proofs.SurvivalLemmas.{IsTellable, tellable_store, survives_closed, newest_active, generation_since, at_some, ready_survives_now}
 use Rattle.pcfs_store.proofs.FormatLemmas.{none_shut}
 use Rattle.pcfs_store.proofs.EntryLemmas.{area-length}
 

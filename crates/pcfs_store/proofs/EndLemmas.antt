@@ -30,7 +30,7 @@ is_some_from None e = absurd cc
 is_some_from (Some pass) e = (pass, refl)
 
 -- a gate that decided keeps what it had, but for what is pending
-gate_is : (gate after : GateView) → after.key ≡ gate.key → after.ring ≡ gate.ring → after.base ≡ gate.base → after.events ≡ gate.events → after ≡ record gate { pending = after.pending }
+pub gate_is : (gate after : GateView) → after.key ≡ gate.key → after.ring ≡ gate.ring → after.base ≡ gate.base → after.events ≡ gate.events → after ≡ record gate { pending = after.pending }
 gate_is gate after key ring base events =
     ap (λ k. record after { key = k }) key
     ∙ ap (λ r. record after { key = gate.key; ring = r }) ring

@@ -1,12 +1,12 @@
 -- What the making of a store leaves.
-use Rattle.std.proofs.Common.{◌≡◌, ℕ, ◌+◌, List, [], ◌∷◌, ◌++◌, length, get_or, Some, None, Bool, true, false, refl, sym, ◌∙◌, ap, subst, inl, inr, ⊎_elim, arith, ◌<◌, ◌≤◌}
+use Rattle.std.proofs.Common.{◌≡◌, ℕ, ◌+◌, List, [], ◌∷◌, ◌++◌, length, get_or, Some, None, Bool, true, false, refl, sym, ◌∙◌, ap, subst, inl, inr, ⊎_elim, arith, ◌≤◌}
 use Rattle.std.specs.Prelude.{Option, is_some, nat_lt, ◌==◌, ◌||◌, if◌then◌else◌}
 use Rattle.std.specs.Option.{option_map}
 use Rattle.std.specs.Int.{w64, from_be_bytes}
 use Rattle.std.specs.Prelude.{take, drop, Result, Ok, Err, IfOk, IfErr, MatchResult}
 use Rattle.std.proofs.lemmas.Bool.{ne_eqb}
 use Rattle.pcfs_ports.specs.Disk.{written, IsPinned, Idles, LeavesOnly}
-use Rattle.journal_core.specs.Area.{area_limit, area_bytes, IsShut, Closed, generation_of}
+use Rattle.journal_core.specs.Area.{area_bytes, IsShut, generation_of}
 use Rattle.journal_core.specs.AreaView.{AreaView}
 use Rattle.journal_core.specs.Rest.{Rests, IsOldOrShutOrNew}
 use Rattle.journal_core.proofs.AreaLemmas.{closed_written}

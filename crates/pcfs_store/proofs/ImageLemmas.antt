@@ -1,7 +1,5 @@
 -- Which states have an image.
-use Rattle.std.proofs.Common.{◌≡◌, ℕ, ◌+◌, ◌<◌, ◌≤◌, ◌^◌, List, [], ◌∷◌, ◌++◌, length, false, refl, sym, ◌∙◌, ap, subst, arith, length-append}
-use Rattle.file_world.specs.World.{IsWorld}
-use Rattle.access_history.specs.Base.{BaseView}
+use Rattle.std.proofs.Common.{◌≡◌, [], ◌∷◌, false, refl, sym, subst, arith}
 use Rattle.access_history.specs.Replay.{fresh}
 use Rattle.access_history.specs.Authority.{Authority}
 use Rattle.access_history.specs.Lawful.{IsLawfulBase}

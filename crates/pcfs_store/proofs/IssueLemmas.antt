@@ -1,15 +1,14 @@
 -- How many issues there are in the state of a store: each takes bytes of its area.
-use Rattle.std.proofs.Common.{◌≡◌, ℕ, zero, suc, ◌+◌, ◌<◌, ◌≤◌, ◌^◌, List, [], ◌∷◌, ◌++◌, length, take, drop, refl, sym, ◌∙◌, ap, arith, length-append}
+use Rattle.std.proofs.Common.{◌≡◌, ℕ, zero, suc, ◌+◌, ◌<◌, ◌≤◌, ◌^◌, List, [], ◌∷◌, ◌++◌, length, drop, refl, ap, arith, length-append}
 use Rattle.std.specs.List.{flat_map}
 use Rattle.std.specs.Int.{w32, to_be_bytes}
-use Rattle.std.proofs.lemmas.List.{take_all}
-use Rattle.journal_core.specs.Area.{area_limit, records, record_bytes}
+use Rattle.journal_core.specs.Area.{records, record_bytes}
 use Rattle.journal_core.proofs.RecordLemmas.{record_length}
 use Rattle.access_history.specs.declared.event.Event.{Event}
 use Rattle.access_history.specs.declared.event.Event.TheVariants.{Registered, Withdrawn, Issued, Acted}
 use Rattle.access_history.specs.declared.event.Issue.{Issue}
 use Rattle.access_history.specs.Base.{BaseView}
-use Rattle.access_history.specs.Replay.{next_state, replay, issues_with, addition_of}
+use Rattle.access_history.specs.Replay.{next_state, replay}
 use Rattle.record_parts.specs.RecordSpelling.{issued_spelling}
 use Rattle.journal_records.specs.EventSpelling.{event_spelling}
 use Rattle.checkpoint_image.specs.NodeSpelling.{nodes_spelling}

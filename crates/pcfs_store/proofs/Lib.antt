@@ -6,5 +6,6 @@ pub mod FormatLemmas
 pub mod EntryLemmas
 pub mod IssueLemmas
 pub mod EndLemmas
+pub mod AdmittingLemmas
 pub mod CheckpointLemmas
 pub mod PlacingLemmas

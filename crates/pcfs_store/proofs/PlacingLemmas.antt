@@ -1,5 +1,5 @@
 -- The ends of the placing of an image, over what its parts say.
-use Rattle.std.proofs.Common.{◌≡◌, ℕ, ◌+◌, ◌-◌, ◌^◌, ◌<◌, ◌≤◌, List, [], ◌∷◌, ◌++◌, length, Some, None, Bool, true, false, refl, sym, ◌∙◌, ap, subst, inl, inr, arith}
+use Rattle.std.proofs.Common.{◌≡◌, ℕ, ◌+◌, ◌-◌, ◌^◌, ◌<◌, ◌≤◌, List, [], ◌∷◌, ◌++◌, length, Some, None, Bool, true, false, sym, ◌∙◌, ap, subst, inl, inr, arith}
 use Rattle.std.specs.Prelude.{Option, is_some, not, Result, Ok, Err, IfOk}
 use Rattle.bl_syntax.specs.declared.lists.NoMemory.{NoMemory as NoMemoryFault}
 use Rattle.journal_core.specs.declared.area.AreaFault.{AreaFault}
@@ -22,7 +22,7 @@ use Rattle.pcfs_store.specs.Image.{IsImageOf}
 use Rattle.pcfs_store.specs.StoreView.{StoreView, state_of_store, IsStore}
 use Rattle.pcfs_store.specs.Inside.{store_of, IsKeeping}
 use Rattle.pcfs_store.specs.Checkpoints.{with_checkpoint, MakesCheckpoint, full, stopped, without_memory, Checkpoints}
-use Rattle.pcfs_store.specs.Moving.{HasMoved, HasNotMoved, MovesArea, Overwrites}
+use Rattle.pcfs_store.specs.Moving.{HasMoved, MovesArea}
 use Rattle.pcfs_store.proofs.CheckpointLemmas.{nothing_changed, next_store, was_made, was_stopped}
 use Rattle.pcfs_store.proofs.EndLemmas.{is_none_from, is_some_from}
 use Rattle.pcfs_store.proofs.IssueLemmas.{few_issues}

@@ -1,5 +1,5 @@
 -- What a step of a store says, at each of its ends.
-use Rattle.std.proofs.Common.{◌≡◌, ◌≢◌, ℕ, ◌+◌, ◌<◌, ◌≤◌, List, [], ◌∷◌, ◌++◌, length, Some, None, IfSome, Bool, true, false, refl, sym, ◌∙◌, ap, subst, inl, inr, ⊎_elim, arith, length-append}
+use Rattle.std.proofs.Common.{◌≡◌, ℕ, ◌+◌, ◌<◌, ◌≤◌, List, [], ◌∷◌, ◌++◌, length, Some, None, IfSome, Bool, true, false, refl, sym, ◌∙◌, ap, subst, inl, inr, ⊎_elim, arith, length-append}
 use Rattle.std.specs.Prelude.{Option, is_some, ℤ}
 use Rattle.pcfs_ports.specs.Faults.{HasRisen}
 use Rattle.pcfs_ports.specs.Disk.{LeavesOnly, IsPinned}
@@ -17,9 +17,10 @@ use Rattle.journal_records.specs.EventSpelling.{event_spelling, IsSpellableEvent
 use Rattle.pcfs_store.specs.declared.reply.StoreReply.{StoreReply}
 use Rattle.pcfs_store.specs.declared.reply.StoreReply.TheVariants.{Step, Stopped}
 use Rattle.pcfs_store.specs.StoredHistory.{area_since}
-use Rattle.pcfs_store.specs.Newest.{one_of}
+use Rattle.pcfs_store.specs.Newest.{one_of, SurvivesWholeClosed}
 use Rattle.pcfs_store.specs.StoreView.{StoreView, first_disk, second_disk, settled_of, image_since, image_of, body_of, AnswersIn, IsStore}
-use Rattle.pcfs_store.specs.Ready.{IsBehind, IsReady, IsCurrent, StopsLeave, StopsNow, SurvivesWithOrWithout, SurvivesStop, Keeps, ready, halted}
+use Rattle.pcfs_store.specs.Ready.{IsBehind, IsReady, IsCurrent, StopsNow, SurvivesWithOrWithout, Keeps, ready, halted}
+use Rattle.pcfs_store.specs.Promises.{Promises}
 use Rattle.pcfs_store.specs.Steps.{IsFullFor, with_event, Steps, kept, failed, LeavesStep}
 use Rattle.pcfs_store.specs.Keeping.{Writes, HasWritten}
 use Rattle.pcfs_store.proofs.SurvivalLemmas.{IsTellable, tellable_store, tellable_push, survives_closed, since_push, state_push, order_within, order_more, left_pairs, ready_survives_now, if_some}
@@ -32,37 +33,31 @@ none_some o pass none some = cc
 
 module _ {D : Type 0} (clock : D → ℕ) (left_since : D → ℕ → List ℕ → Type 0) (image : D → Option (List ℕ)) (faults : D → ℕ) where
   -- all clauses of a step
-  pub record Clauses (old : StoreView D) (pass : ℕ) (at : ℤ) (request : StepRequest) (result : StoreReply) (new : StoreView D) : Type 0 where
-    pub answer : Steps faults old pass at request result new
-    pub stays_ready : IsReady clock left_since image old → result ≢ Stopped → IsReady clock left_since image new
-    pub stays_kept : Keeps clock left_since image old → Keeps clock left_since image new
-    pub stays_current : IsCurrent clock left_since image old → result ≢ Stopped → IsCurrent clock left_since image new
-    pub makes_ready : IsCurrent clock left_since image old → length old.events < length new.events → (active other : List ℕ) → image old.active ≡ Some active → image old.other ≡ Some other →
-        IsPinned clock left_since image old.other → IsReady clock left_since image new
-    pub any_moment : IsReady clock left_since image old → StopsLeave clock left_since image old new (LeavesStep old pass at request)
-    pub met : IsReady clock left_since image old → result ≡ Stopped → StopsNow clock left_since image new (SurvivesStop old.base old.events new.met)
-    pub first_told : is_some (image (first_disk new)) ≡ is_some (image (first_disk old))
-    pub second_told : is_some (image (second_disk new)) ≡ is_some (image (second_disk old))
-    pub first_never_falls : faults (first_disk old) ≤ faults (first_disk new)
-    pub second_never_falls : faults (second_disk old) ≤ faults (second_disk new)
+  abbrev pub Clauses : StoreView D → ℕ → ℤ → StepRequest → StoreReply → StoreView D → Type 0
+  Clauses old pass at request result new = Promises clock left_since image faults (Steps faults old pass at request) (LeavesStep old pass at request) Stopped old result new
 
   -- ---- nothing changed
 
-  pub nothing_changed : (old : StoreView D) (pass : ℕ) (at : ℤ) (request : StepRequest) (result : StoreReply) → IsStore old → Steps faults old pass at request result old →
-      (old.stop ≡ None → result ≡ Stopped → ⊥) → Clauses old pass at request result old
-  nothing_changed old pass at request result store steps runs = record {
-    answer = steps;
+  pub unchanged : {R : Type 0} (Answer : R → StoreView D → Type 0) (Left : List ℕ → List ℕ → Type 0) (halt : R) (old : StoreView D) (result : R) → IsStore old → Answer result old →
+      ((x y : List ℕ) → SurvivesWholeClosed old.base old.events x y → Left x y) → (old.stop ≡ None → result ≡ halt → ⊥) → Promises clock left_since image faults Answer Left halt old result old
+  unchanged Answer Left halt old result store answers whole runs = record {
+    answer = answers;
     stays_ready = λ is_ready _. is_ready;
     stays_kept = λ keeps. keeps;
     stays_current = λ current _. current;
     makes_ready = λ _ more _ _ _ _ _. absurd (none_more old.events more);
-    any_moment = λ is_ready x y left_x left_y. inl (ready_survives_now clock left_since image old store is_ready x y left_x left_y);
+    any_moment = λ is_ready x y left_x left_y. whole x y (ready_survives_now clock left_since image old store is_ready x y left_x left_y);
     met = λ is_ready is_stopped. absurd (runs is_ready.running is_stopped);
     first_told = refl;
     second_told = refl;
     first_never_falls = omega arith;
     second_never_falls = omega arith;
   }
+
+  pub nothing_changed : (old : StoreView D) (pass : ℕ) (at : ℤ) (request : StepRequest) (result : StoreReply) → IsStore old → Steps faults old pass at request result old →
+      (old.stop ≡ None → result ≡ Stopped → ⊥) → Clauses old pass at request result old
+  nothing_changed old pass at request result store steps runs =
+      unchanged (Steps faults old pass at request) (LeavesStep old pass at request) Stopped old result store steps (λ x y whole. inl whole) runs
 
   -- ---- one of two disks
 
@@ -153,11 +148,10 @@ module _ {D : Type 0} (clock : D → ℕ) (left_since : D → ℕ → List ℕ �
         ((goes_on is_ready).each a left_a))
         x y left_x left_y
 
-    leaves_step : (pass : ℕ) (at : ℤ) (request : StepRequest) (reply : StepReply) → AnswersIn old pass at request reply (Some event) → IsReady clock left_since image old →
-        (x y : List ℕ) → left_since (one_of after.disk old.other old.second_active) (clock (one_of old.active old.other old.second_active)) x →
-        left_since (one_of old.other after.disk old.second_active) (clock (one_of old.other old.active old.second_active)) y → LeavesStep old pass at request x y
-    leaves_step pass at request reply answers is_ready x y left_x left_y =
-        ⊎_elim (λ without. inl without) (λ with_it. inr (reply, event, answers, with_it)) (leaves is_ready x y left_x left_y)
+    -- with or without the event that the answer keeps, it is what a step may leave
+    step_leaves : (pass : ℕ) (at : ℤ) (request : StepRequest) (reply : StepReply) → AnswersIn old pass at request reply (Some event) →
+        (x y : List ℕ) → SurvivesWithOrWithout old.base old.events event x y → LeavesStep old pass at request x y
+    step_leaves pass at request reply answers x y both = ⊎_elim (λ without. inl without) (λ with_it. inr (reply, event, answers, with_it)) both
 
     -- ---- it was written
 
@@ -208,15 +202,15 @@ module _ {D : Type 0} (clock : D → ℕ) (left_since : D → ℕ → List ℕ �
         behind = at_told (image old.other) (λ (bytes : List ℕ). IsBehind old.second_active old.generation (generation_of bytes)) other other_told current.other;
       }
 
-      pub was_kept : (pass : ℕ) (at : ℤ) (request : StepRequest) (reply : StepReply) → old.stop ≡ None → AnswersIn old pass at request reply (Some event) → (IsFullFor old event → ⊥) →
-          Clauses old pass at request (Step reply) (with_event old event after.disk)
-      was_kept pass at request reply running answers fits = record {
-        answer = kept reply event after.disk running answers fits;
+      pub was_written : {R : Type 0} (Answer : R → StoreView D → Type 0) (Left : List ℕ → List ℕ → Type 0) (halt result : R) → (result ≡ halt → ⊥) → old.stop ≡ None → Answer result (with_event old event after.disk) →
+          ((x y : List ℕ) → SurvivesWithOrWithout old.base old.events event x y → Left x y) → Promises clock left_since image faults Answer Left halt old result (with_event old event after.disk)
+      was_written Answer Left halt result unlike running answers leave = record {
+        answer = answers;
         stays_ready = λ is_ready _. ready_after is_ready;
         stays_kept = λ keeps. stays keeps;
         stays_current = λ current _. current_after current;
         makes_ready = λ current _ active other told other_told pinned. ready_from current active other told other_told pinned;
-        any_moment = λ is_ready. leaves_step pass at request reply answers is_ready;
+        any_moment = λ is_ready x y left_x left_y. leave x y (leaves is_ready x y left_x left_y);
         met = λ is_ready is_stopped. absurd (unlike is_stopped);
         first_told = told_first old.second_active after.disk old.active old.other writes.told;
         second_told = told_second old.second_active after.disk old.active old.other writes.told;
@@ -228,21 +222,27 @@ module _ {D : Type 0} (clock : D → ℕ) (left_since : D → ℕ → List ℕ �
           stays (ready is_ready) = ready (ready_after is_ready)
           stays (halted earlier stop leaves) = absurd (none_some old.stop earlier running stop)
 
+      pub was_kept : (pass : ℕ) (at : ℤ) (request : StepRequest) (reply : StepReply) → old.stop ≡ None → AnswersIn old pass at request reply (Some event) → (IsFullFor old event → ⊥) →
+          Clauses old pass at request (Step reply) (with_event old event after.disk)
+      was_kept pass at request reply running answers fits =
+          was_written (Steps faults old pass at request) (LeavesStep old pass at request) Stopped (Step reply) unlike running (kept reply event after.disk running answers fits) (step_leaves pass at request reply answers)
+        where
           unlike : Step reply ≡ Stopped → ⊥
           unlike e = cc
 
     -- ---- the disk failed
 
-    pub has_failed : ((disk : D) (t u : ℕ) (bytes : List ℕ) → t ≤ u → left_since disk u bytes → left_since disk t bytes) → HasRisen (faults old.active) (faults after.disk) →
-        (pass : ℕ) (at : ℤ) (request : StepRequest) (reply : StepReply) → old.stop ≡ None → AnswersIn old pass at request reply (Some event) → (IsFullFor old event → ⊥) →
-        Clauses old pass at request Stopped (record old { active = after.disk; stop = Some pass; met = Some event })
-    has_failed earlier risen pass at request reply running answers fits = record {
-      answer = failed reply event after.disk running answers fits risen;
+    pub was_stopped : {R : Type 0} (Answer : R → StoreView D → Type 0) (Left : List ℕ → List ℕ → Type 0) (halt : R) (pass : ℕ) → old.stop ≡ None → Answer halt (record old { active = after.disk; stop = Some pass; met = Some event }) →
+        ((x y : List ℕ) → SurvivesWithOrWithout old.base old.events event x y → Left x y) →
+        ((disk : D) (t u : ℕ) (bytes : List ℕ) → t ≤ u → left_since disk u bytes → left_since disk t bytes) →
+        Promises clock left_since image faults Answer Left halt old halt (record old { active = after.disk; stop = Some pass; met = Some event })
+    was_stopped Answer Left halt pass running answers leave earlier = record {
+      answer = answers;
       stays_ready = λ is_ready goes. absurd (goes refl);
       stays_kept = λ keeps. stays keeps;
       stays_current = λ current goes. absurd (goes refl);
       makes_ready = λ _ more _ _ _ _ _. absurd (none_more old.events more);
-      any_moment = λ is_ready. leaves_step pass at request reply answers is_ready;
+      any_moment = λ is_ready x y left_x left_y. leave x y (leaves is_ready x y left_x left_y);
       met = λ is_ready _. leaves_now is_ready;
       first_told = told_first old.second_active after.disk old.active old.other writes.told;
       second_told = told_second old.second_active after.disk old.active old.other writes.told;
@@ -260,3 +260,9 @@ module _ {D : Type 0} (clock : D → ℕ) (left_since : D → ℕ → List ℕ �
         stays : Keeps clock left_since image old → Keeps clock left_since image (record old { active = after.disk; stop = Some pass; met = Some event })
         stays (ready is_ready) = halted pass refl (leaves_now is_ready)
         stays (halted first stop leaves) = absurd (none_some old.stop first running stop)
+
+    pub has_failed : ((disk : D) (t u : ℕ) (bytes : List ℕ) → t ≤ u → left_since disk u bytes → left_since disk t bytes) → HasRisen (faults old.active) (faults after.disk) →
+        (pass : ℕ) (at : ℤ) (request : StepRequest) (reply : StepReply) → old.stop ≡ None → AnswersIn old pass at request reply (Some event) → (IsFullFor old event → ⊥) →
+        Clauses old pass at request Stopped (record old { active = after.disk; stop = Some pass; met = Some event })
+    has_failed earlier risen pass at request reply running answers fits =
+        was_stopped (Steps faults old pass at request) (LeavesStep old pass at request) Stopped pass running (failed reply event after.disk running answers fits risen) (step_leaves pass at request reply answers) earlier

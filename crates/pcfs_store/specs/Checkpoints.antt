@@ -15,9 +15,11 @@ use Rattle.pcfs_store.specs.Ready.{SurvivesWithOrWithout, IsReady, IsCurrent, Ke
 
 -- the image of the state does not fit with a closed gate after it, or there is no next generation
 abbrev pub IsFullForCheckpoint : {D : Type 0} → StoreView D → Type 0
-IsFullForCheckpoint s = (area_limit < length (image_spelling (state_of_store s)) + 25) ⊎ (2 ^ 48 - 1 ≤ s.generation)
+IsFullForCheckpoint s = (area_limit < length (image_spelling (state_of_store s)) + 25) ⊎
+    (2 ^ 48 - 1 ≤ s.generation)
 
--- the store after a checkpoint: the disks have changed their places, and the one that was the other has an area of the next generation, with the image of the state and no records
+-- the store after a checkpoint: the disks have changed their places, and the one that was the other
+-- has an area of the next generation, with the image of the state and no records
 abbrev pub with_checkpoint : {D : Type 0} → StoreView D → ℕ → D → StoreView D
 with_checkpoint s pass active = record s {
   active = active;
@@ -28,12 +30,14 @@ with_checkpoint s pass active = record s {
   checkpoints = s.checkpoints ++ record { after = length s.events; pass = pass } ∷ [];
 }
 
--- whether the second of the disks has the area after so many checkpoints, of which each exchanges them
+-- whether the second of the disks has the area after so many checkpoints, of which each exchanges
+-- them
 abbrev pub place_after : ℕ → Bool → Bool
 place_after zero second = second
 place_after (suc n) second = not (place_after n second)
 
--- What a crash leaves of a history when a disk failed: with or without the event that was being kept; and whole if it was a checkpoint.
+-- What a crash leaves of a history when a disk failed: with or without the event that was being
+-- kept; and whole if it was a checkpoint.
 abbrev pub SurvivesMet : BaseView → List Event → StoreEntry → List ℕ → List ℕ → Type 0
 SurvivesMet base events (happened event) first second = SurvivesWithOrWithout base events event first second
 SurvivesMet base events (checkpointed pass) first second = SurvivesWholeClosed base events first second
@@ -47,14 +51,16 @@ pub data MakesCheckpoint {D : Type 0} (faults : D → ℕ) (old : StoreView D) (
   -- it does not fit
   full : old.stop ≡ None → IsFullForCheckpoint old → MakesCheckpoint faults old pass Full old
   -- the other disk failed
-  failed : (other : D) → old.stop ≡ None → (IsFullForCheckpoint old → ⊥) → HasRisen (faults old.other) (faults other) →
+  failed : (other : D) → old.stop ≡ None → (IsFullForCheckpoint old → ⊥) →
+      HasRisen (faults old.other) (faults other) →
       MakesCheckpoint faults old pass Stopped (record old { other = other; stop = Some pass; met = None })
   -- a disk failed before
   stopped : (earlier : ℕ) → old.stop ≡ Some earlier → MakesCheckpoint faults old pass Stopped old
   -- memory ran out
   without_memory : old.stop ≡ None → MakesCheckpoint faults old pass NoMemory old
 
--- The newest area of these two disks' bytes has the next generation, the image of the state, no records, and a closed gate.
+-- The newest area of these two disks' bytes has the next generation, the image of the state, no
+-- records, and a closed gate.
 pub record IsNewestCheckpoint {D : Type 0} (old : StoreView D) (first second : List ℕ) : Type 0 where
   pub bytes : List ℕ
   pub counts : newest first second ≡ Some bytes
@@ -64,15 +70,24 @@ module _ {D : Type 0} (clock : D → ℕ) (left_since : D → ℕ → List ℕ �
   -- all that a checkpoint promises, from the old store to the new one
   pub record Checkpoints (old : StoreView D) (pass : ℕ) (result : CheckpointReply) (new : StoreView D) : Type 0 where
     pub answer : MakesCheckpoint faults old pass result new
-    pub stays_ready : IsReady clock left_since image old → result ≢ Stopped → IsReady clock left_since image new
-    pub stays_kept : Keeps clock left_since image old → Keeps clock left_since image new
-    pub stays_current : IsCurrent clock left_since image old → result ≢ Stopped → IsCurrent clock left_since image new
-    -- also of a store that lacks its closed gate, or on whose other disk something is pending, a checkpoint makes one that is ready
-    pub makes_ready : IsCurrent clock left_since image old → result ≡ Checkpointed → (active other : List ℕ) → image old.active ≡ Some active → image old.other ≡ Some other → IsPinned clock left_since image old.active →
+    pub stays_ready : IsReady clock left_since image old → result ≢ Stopped →
         IsReady clock left_since image new
-    pub any_moment : IsReady clock left_since image old → StopsLeave clock left_since image old new (SurvivesWholeClosed old.base old.events)
-    pub halts : IsReady clock left_since image old → result ≡ Stopped → StopsNow clock left_since image new (SurvivesWholeClosed old.base old.events)
-    pub newest : IsCurrent clock left_since image old → result ≡ Checkpointed → (first second : List ℕ) → image (first_disk new) ≡ Some first → image (second_disk new) ≡ Some second → IsNewestCheckpoint old first second
+    pub stays_kept : Keeps clock left_since image old → Keeps clock left_since image new
+    pub stays_current : IsCurrent clock left_since image old → result ≢ Stopped →
+        IsCurrent clock left_since image new
+    -- also of a store that lacks its closed gate, or on whose other disk something is pending, a
+    -- checkpoint makes one that is ready
+    pub makes_ready : IsCurrent clock left_since image old → result ≡ Checkpointed →
+        (active other : List ℕ) → image old.active ≡ Some active → image old.other ≡ Some other →
+        IsPinned clock left_since image old.active →
+        IsReady clock left_since image new
+    pub any_moment : IsReady clock left_since image old →
+        StopsLeave clock left_since image old new (SurvivesWholeClosed old.base old.events)
+    pub halts : IsReady clock left_since image old → result ≡ Stopped →
+        StopsNow clock left_since image new (SurvivesWholeClosed old.base old.events)
+    pub newest : IsCurrent clock left_since image old → result ≡ Checkpointed →
+        (first second : List ℕ) → image (first_disk new) ≡ Some first →
+        image (second_disk new) ≡ Some second → IsNewestCheckpoint old first second
     pub first_told : is_some (image (first_disk new)) ≡ is_some (image (first_disk old))
     pub second_told : is_some (image (second_disk new)) ≡ is_some (image (second_disk old))
     pub first_never_falls : faults (first_disk old) ≤ faults (first_disk new)

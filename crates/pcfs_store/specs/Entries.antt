@@ -1,4 +1,5 @@
--- The entries of a store: what it was opened with, and in order what happened since. This project's own.
+-- The entries of a store: what it was opened with, and in order what happened since. This project's
+-- own.
 use Rattle.std.specs.Prelude.{ℕ, ◌+◌, ◌-◌, List, [], ◌∷◌, ◌++◌, length, map, take, drop, Option, Some, None}
 use Rattle.policy_statement.specs.Ring.{KeyView}
 use Rattle.access_history.specs.declared.event.Event.{Event}
@@ -9,7 +10,8 @@ use Rattle.checkpoint_image.specs.ImageSpelling.{image_spelling}
 use Rattle.pcfs_store.specs.declared.checkpoints.Checkpoint.{Checkpoint}
 use Rattle.pcfs_store.specs.StoreView.{StoreView}
 
--- what a store was opened with: the base, the key of the seal and the ring, and of the opened area the generation and the length of its image
+-- what a store was opened with: the base, the key of the seal and the ring, and of the opened area
+-- the generation and the length of its image
 pub record Root : Type 0 where
   pub base : BaseView
   pub key : List ℕ
@@ -17,8 +19,11 @@ pub record Root : Type 0 where
   pub generation : ℕ
   pub image_length : ℕ
 
--- An entry: an event, with its pass; a checkpoint, with its pass; or the mark Stop, which ends the list, with the pass of the step or checkpoint in which a disk failed, and with the event that the step was
--- keeping. Of a store with this mark the disks' counts of faults are those at the mark, since it touches no disk any more.
+-- An entry: an event, with its pass; a checkpoint, with its pass; or the mark Stop, which ends the
+-- list, with the pass of the step or checkpoint in which a disk failed, and with the event that the
+-- step was
+-- keeping. Of a store with this mark the disks' counts of faults are those at the mark, since it
+-- touches no disk any more.
 pub data StoreEntry : Type 0 where
   happened : Event → StoreEntry
   checkpointed : ℕ → StoreEntry
@@ -31,11 +36,13 @@ stop_entries (Some pass) met = stopped pass met ∷ []
 abbrev pub root_of : {D : Type 0} → StoreView D → Root
 root_of s = record { base = s.base; key = s.key; ring = s.ring; generation = s.generation - length s.checkpoints; image_length = length s.opened }
 
--- events, after so many others, and the checkpoints that were made of all: each after its number of events
+-- events, after so many others, and the checkpoints that were made of all: each after its number of
+-- events
 abbrev pub merged : ℕ → List Event → List Checkpoint → List StoreEntry
 merged before events [] = map happened events
 merged before events (checkpoint ∷ checkpoints) =
-    map happened (take (checkpoint.after - before) events) ++ checkpointed checkpoint.pass ∷ merged checkpoint.after (drop (checkpoint.after - before) events) checkpoints
+    map happened (take (checkpoint.after - before) events) ++ checkpointed checkpoint.pass
+    ∷ merged checkpoint.after (drop (checkpoint.after - before) events) checkpoints
 
 -- the entries after the root
 abbrev pub entries_of : {D : Type 0} → StoreView D → List StoreEntry
@@ -63,7 +70,9 @@ state_of_entries root entries = replay root.base (events_among entries)
 abbrev pub bytes_for : Event → ℕ
 bytes_for event = 5 + length (event_spelling event)
 
--- how many bytes an area has before its closed gate after these entries, if it had `used` at that state: a record more with each event; and with each checkpoint it is an area of the header and the image of the
+-- how many bytes an area has before its closed gate after these entries, if it had `used` at that
+-- state: a record more with each event; and with each checkpoint it is an area of the header and
+-- the image of the
 -- state alone
 abbrev pub used_after : BaseView → ℕ → List StoreEntry → ℕ
 used_after state used [] = used

@@ -6,7 +6,8 @@ use Rattle.pcfs_store.specs.declared.checkpoints.Checkpoint.{Checkpoint}
 use Rattle.pcfs_store.specs.StoreView.{StoreView, IsStore}
 
 -- the store of these fields: what is pending is the event under which the disk failed
-abbrev pub store_of : {D : Type 0} → AreaView D → D → Bool → ℕ → List ℕ → GateView → List Checkpoint → Option ℕ → StoreView D
+abbrev pub store_of : {D : Type 0} → AreaView D → D → Bool → ℕ → List ℕ → GateView →
+    List Checkpoint → Option ℕ → StoreView D
 store_of area other second_active generation opened gate checkpoints stop = record {
   active = area.disk;
   other = other;
@@ -24,6 +25,8 @@ store_of area other second_active generation opened gate checkpoints stop = reco
 }
 
 -- the fields keep what a store keeps, and nothing is pending as long as no disk has failed
-pub record IsKeeping {D : Type 0} (area : AreaView D) (other : D) (second_active : Bool) (generation : ℕ) (opened : List ℕ) (gate : GateView) (checkpoints : List Checkpoint) (stop : Option ℕ) : Type 0 where
+pub record IsKeeping {D : Type 0} (area : AreaView D) (other : D) (second_active : Bool)
+    (generation : ℕ) (opened : List ℕ) (gate : GateView) (checkpoints : List Checkpoint)
+    (stop : Option ℕ) : Type 0 where
   pub store : IsStore (store_of area other second_active generation opened gate checkpoints stop)
   pub idle : stop ≡ None → gate.pending ≡ None

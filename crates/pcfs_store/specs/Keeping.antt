@@ -26,11 +26,13 @@ abbrev pub without_pending : GateView → GateView
 without_pending gate = record gate { pending = None }
 
 module _ {D : Type 0} (clock : D → ℕ) (left_since : D → ℕ → List ℕ → Type 0) (image : D → Option (List ℕ)) (faults : D → ℕ) where
-  -- The record of an event was being written to an area, for which it has room: whatever comes of it, this holds.
+  -- The record of an event was being written to an area, for which it has room: whatever comes of
+  -- it, this holds.
   pub record Writes (old new : AreaView D) (event : Event) : Type 0 where
     pub spelled : IsSpellableEvent event
     pub room : old.end + length (event_spelling event) + 6 ≤ area_limit
-    pub any_moment : (body : List ℕ) → length body ≡ old.end → Rests clock left_since image old.disk body →
+    pub any_moment : (body : List ℕ) → length body ≡ old.end →
+        Rests clock left_since image old.disk body →
         LeavesOnly clock left_since old.disk new.disk (IsWithOrWithout body (event_spelling event))
     pub told : is_some (image new.disk) ≡ is_some (image old.disk)
     pub never_falls : faults old.disk ≤ faults new.disk
@@ -39,7 +41,8 @@ module _ {D : Type 0} (clock : D → ℕ) (left_since : D → ℕ → List ℕ �
   pub record HasWritten (old new : AreaView D) (event : Event) : Type 0 where
     pub writes : Writes old new event
     pub end : new.end ≡ old.end + length (event_spelling event) + 5
-    pub rests : (body bytes : List ℕ) → length body ≡ old.end → image old.disk ≡ Some bytes → StandsForBody body bytes →
+    pub rests : (body bytes : List ℕ) → length body ≡ old.end → image old.disk ≡ Some bytes →
+        StandsForBody body bytes →
         Rests clock left_since image new.disk (body ++ record_bytes (event_spelling event))
 
   -- The disk failed.
@@ -56,8 +59,13 @@ module _ {D : Type 0} (clock : D → ℕ) (left_since : D → ℕ → List ℕ �
   AppendsEvent old event (Err NoMemory) new = new ≡ old
 
   -- what became of the pending event of a gate: if the disk failed, it is pending still
-  abbrev pub KeepsPending : AreaView D → GateView → Event → Result (Unit {0}) AreaFault → AreaView D → GateView → Type 0
-  KeepsPending old gate event (Ok done) new after = HasWritten old new event × (IsFull old.end (count_of gate) event → ⊥) × (after ≡ with_kept gate event)
-  KeepsPending old gate event (Err DiskFailed) new after = HasFailed old new event × (IsFull old.end (count_of gate) event → ⊥) × (after ≡ gate)
-  KeepsPending old gate event (Err AreaFull) new after = IsFull old.end (count_of gate) event × (new ≡ old) × (after ≡ without_pending gate)
-  KeepsPending old gate event (Err NoMemory) new after = (new ≡ old) × (after ≡ without_pending gate)
+  abbrev pub KeepsPending : AreaView D → GateView → Event → Result (Unit {0}) AreaFault →
+      AreaView D → GateView → Type 0
+  KeepsPending old gate event (Ok done) new after = HasWritten old new event ×
+      (IsFull old.end (count_of gate) event → ⊥) × (after ≡ with_kept gate event)
+  KeepsPending old gate event (Err DiskFailed) new after = HasFailed old new event ×
+      (IsFull old.end (count_of gate) event → ⊥) × (after ≡ gate)
+  KeepsPending old gate event (Err AreaFull) new after = IsFull old.end (count_of gate) event ×
+      (new ≡ old) × (after ≡ without_pending gate)
+  KeepsPending old gate event (Err NoMemory) new after = (new ≡ old) ×
+      (after ≡ without_pending gate)

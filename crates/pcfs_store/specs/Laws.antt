@@ -1,4 +1,5 @@
--- Laws of the definitions: entries say what a store shows, and a step is full exactly if its event does not fit.
+-- Laws of the definitions: entries say what a store shows, and a step is full exactly if its event
+-- does not fit.
 use Rattle.std.specs.Prelude.{◌≡◌, ◌⊎◌, ◌+◌, ℕ, ℤ, List, Option, Some, None}
 use Rattle.access_history.specs.declared.event.Event.{Event}
 use Rattle.access_history.specs.declared.request.StepRequest.{StepRequest}
@@ -27,32 +28,47 @@ EntriesSayUse D = (s : StoreView D) → IsStore s → s.used ≡ used_by (root_o
 
 -- its generation is that of the opened area, and one more for each checkpoint
 abbrev pub EntriesSayGeneration : Type 0 → Type 0
-EntriesSayGeneration D = (s : StoreView D) → IsStore s → s.generation ≡ (root_of s).generation + checkpoints_among (entries_of s)
+EntriesSayGeneration D = (s : StoreView D) → IsStore s
+    → s.generation ≡ (root_of s).generation + checkpoints_among (entries_of s)
 
 -- the events of a store are those among its entries
 abbrev pub EntriesHaveEvents : Type 0 → Type 0
 EntriesHaveEvents D = (s : StoreView D) → events_among (entries_of s) ≡ s.events
 
--- over a store that is not stopped, a request whose answer keeps an event that does not fit is answered Full, if memory does not run out
+-- over a store that is not stopped, a request whose answer keeps an event that does not fit is
+-- answered Full, if memory does not run out
 abbrev pub FullIsExact : (D : Type 0) → (D → ℕ) → Type 0
 FullIsExact D faults =
     (old new : StoreView D) (pass : ℕ) (clock : ℤ) (request : StepRequest) (reply : StepReply) (event : Event) (told : StoreReply)
-    → IsLawful (authority_of_store old) old.base old.events → old.stop ≡ None → AnswersIn old pass clock request reply (Some event) → IsFullFor old event → Steps faults old pass clock request told new
+    → IsLawful (authority_of_store old) old.base old.events → old.stop ≡ None
+    → AnswersIn old pass clock request reply (Some event) → IsFullFor old event
+    → Steps faults old pass clock request told new
     → (told ≡ Full) ⊎ (told ≡ NoMemory)
 
--- over a store that is not stopped, a checkpoint whose image does not fit, or that has no next generation, is answered Full, if memory does not run out
+-- over a store that is not stopped, a checkpoint whose image does not fit, or that has no next
+-- generation, is answered Full, if memory does not run out
 abbrev pub CheckpointFullIsExact : (D : Type 0) → (D → ℕ) → Type 0
 CheckpointFullIsExact D faults =
-    (old new : StoreView D) (pass : ℕ) (told : CheckpointReply) → old.stop ≡ None → IsFullForCheckpoint old → MakesCheckpoint faults old pass told new → (told ≡ checkpoints.Full) ⊎ (told ≡ checkpoints.NoMemory)
+    (old new : StoreView D) (pass : ℕ) (told : CheckpointReply) → old.stop ≡ None
+    → IsFullForCheckpoint old → MakesCheckpoint faults old pass told new
+    → (told ≡ checkpoints.Full) ⊎ (told ≡ checkpoints.NoMemory)
 
 -- what a read of the disks of a current store gives has its history
-abbrev pub CurrentSurvives : (D : Type 0) → (D → ℕ) → (D → ℕ → List ℕ → Type 0) → (D → Option (List ℕ)) → Type 0
+abbrev pub CurrentSurvives : (D : Type 0) → (D → ℕ) → (D → ℕ → List ℕ → Type 0)
+    → (D → Option (List ℕ)) → Type 0
 CurrentSurvives D clock left_since image =
-    (s : StoreView D) (first second : List ℕ) → IsStore s → IsCurrent clock left_since image s → image (first_disk s) ≡ Some first → image (second_disk s) ≡ Some second → SurvivesWhole s.base s.events first second
+    (s : StoreView D) (first second : List ℕ) → IsStore s → IsCurrent clock left_since image s
+    → image (first_disk s) ≡ Some first → image (second_disk s) ≡ Some second
+    → SurvivesWhole s.base s.events first second
 
 -- a store that is ready is current, and a crash now leaves its history
-abbrev pub ReadyIsCurrent : (D : Type 0) → (D → ℕ) → (D → ℕ → List ℕ → Type 0) → (D → Option (List ℕ)) → Type 0
-ReadyIsCurrent D clock left_since image = (s : StoreView D) → IsReady clock left_since image s → IsCurrent clock left_since image s
+abbrev pub ReadyIsCurrent : (D : Type 0) → (D → ℕ) → (D → ℕ → List ℕ → Type 0)
+    → (D → Option (List ℕ)) → Type 0
+ReadyIsCurrent D clock left_since image = (s : StoreView D) → IsReady clock left_since image s
+    → IsCurrent clock left_since image s
 
-abbrev pub ReadySurvives : (D : Type 0) → (D → ℕ) → (D → ℕ → List ℕ → Type 0) → (D → Option (List ℕ)) → Type 0
-ReadySurvives D clock left_since image = (s : StoreView D) → IsStore s → IsReady clock left_since image s → StopsNow clock left_since image s (SurvivesWholeClosed s.base s.events)
+abbrev pub ReadySurvives : (D : Type 0) → (D → ℕ) → (D → ℕ → List ℕ → Type 0)
+    → (D → Option (List ℕ)) → Type 0
+ReadySurvives D clock left_since image = (s : StoreView D) → IsStore s
+    → IsReady clock left_since image s
+    → StopsNow clock left_since image s (SurvivesWholeClosed s.base s.events)

@@ -8,6 +8,8 @@ pub mod Keeping
 pub mod Entries
 pub mod Ready
 pub mod Steps
+pub mod Promises
+pub mod Admitting
 pub mod Checkpoints
 pub mod Moving
 pub mod Formats

@@ -6,7 +6,8 @@ use Rattle.access_history.specs.declared.event.Event.{Event}
 use Rattle.access_history.specs.Base.{BaseView}
 use Rattle.pcfs_store.specs.StoredHistory.{payloads_of, StandsFor, Resumes}
 
--- Whether the second of two areas counts, by their generations: the open one with the greater generation, the first if they are equal; none if neither is open.
+-- Whether the second of two areas counts, by their generations: the open one with the greater
+-- generation, the first if they are equal; none if neither is open.
 abbrev pub newer : Option ℕ → Option ℕ → Option Bool
 newer None None = None
 newer None (Some second) = Some true
@@ -22,7 +23,8 @@ one_of first second true = second
 abbrev pub newest : List ℕ → List ℕ → Option (List ℕ)
 newest first second = option_map (one_of first second) (newer (generation_of first) (generation_of second))
 
--- The newest area of these two disks' bytes stands for a history that resumes the first `kept` of the events.
+-- The newest area of these two disks' bytes stands for a history that resumes the first `kept` of
+-- the events.
 pub record Survives (base : BaseView) (events : List Event) (kept : ℕ) (first second : List ℕ) : Type 0 where
   pub bytes : List ℕ
   pub counts : newest first second ≡ Some bytes
@@ -32,7 +34,8 @@ pub record Survives (base : BaseView) (events : List Event) (kept : ℕ) (first 
   pub stands : StandsFor bytes generation found_base found
   pub resumes : Resumes found_base found base events kept
 
--- The same, and a closed gate follows the area, so that what is opened is ready for the next record.
+-- The same, and a closed gate follows the area, so that what is opened is ready for the next
+-- record.
 pub record SurvivesClosed (base : BaseView) (events : List Event) (kept : ℕ) (first second : List ℕ) : Type 0 where
   pub survives : Survives base events kept first second
   pub gate : length (area_bytes survives.generation survives.stands.image (payloads_of survives.found)) < length survives.bytes

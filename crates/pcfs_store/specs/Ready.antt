@@ -20,16 +20,20 @@ IsBehind second_active generation (Some found) = found + tie second_active ≤ g
 
 -- the history survives, or with it one event that met a fault, in an area with its closed gate
 abbrev pub SurvivesWithOrWithout : BaseView → List Event → Event → List ℕ → List ℕ → Type 0
-SurvivesWithOrWithout base events met first second = SurvivesWholeClosed base events first second ⊎ SurvivesWholeClosed base (events ++ met ∷ []) first second
+SurvivesWithOrWithout base events met first second = SurvivesWholeClosed base events first second ⊎
+    SurvivesWholeClosed base (events ++ met ∷ []) first second
 
--- what a crash leaves of a history when a disk failed: with or without the event that was being kept; and whole if none was
+-- what a crash leaves of a history when a disk failed: with or without the event that was being
+-- kept; and whole if none was
 abbrev pub SurvivesStop : BaseView → List Event → Option Event → List ℕ → List ℕ → Type 0
 SurvivesStop base events None first second = SurvivesWholeClosed base events first second
 SurvivesStop base events (Some met) first second = SurvivesWithOrWithout base events met first second
 
--- Below, `clock d` is the present moment of a disk d, `left_since d t bytes` says that a crash at some moment since t may have left these bytes, and `image d` is what a read gives, if d tells it.
+-- Below, `clock d` is the present moment of a disk d, `left_since d t bytes` says that a crash at
+-- some moment since t may have left these bytes, and `image d` is what a read gives, if d tells it.
 module _ {D : Type 0} (clock : D → ℕ) (left_since : D → ℕ → List ℕ → Type 0) (image : D → Option (List ℕ)) where
-  -- The store is ready: no disk failed; nothing is pending; the area that counts is closed, and stands for its history.
+  -- The store is ready: no disk failed; nothing is pending; the area that counts is closed, and
+  -- stands for its history.
   pub record IsReady (s : StoreView D) : Type 0 where
     pub running : s.stop ≡ None
     pub rests : Rests clock left_since image s.active (body_of s)
@@ -38,22 +42,28 @@ module _ {D : Type 0} (clock : D → ℕ) (left_since : D → ℕ → List ℕ �
     pub other_pinned : IsPinned clock left_since image s.other
     pub behind : IsBehind s.second_active s.generation (generation_of other_bytes)
 
-  -- What a read gives of the area that counts stands for the history, if it is told, whatever is pending.
+  -- What a read gives of the area that counts stands for the history, if it is told, whatever is
+  -- pending.
   pub record IsCurrent (s : StoreView D) : Type 0 where
     pub running : s.stop ≡ None
     pub active : IfSome (image s.active) (StandsForBody (body_of s))
     pub other : IfSome (image s.other) (λ bytes. IsBehind s.second_active s.generation (generation_of bytes))
 
-  -- A crash at any moment of the first disk and at any of the second, from the old store to the new one, leaves only pairs with P.
+  -- A crash at any moment of the first disk and at any of the second, from the old store to the new
+  -- one, leaves only pairs with P.
   abbrev pub StopsLeave : StoreView D → StoreView D → (List ℕ → List ℕ → Type 0) → Type 0
   StopsLeave old new P =
-      (first second : List ℕ) → left_since (first_disk new) (clock (first_disk old)) first → left_since (second_disk new) (clock (second_disk old)) second → P first second
+      (first second : List ℕ) → left_since (first_disk new) (clock (first_disk old)) first →
+      left_since (second_disk new) (clock (second_disk old)) second → P first second
 
   -- a crash now leaves only pairs with P
   abbrev pub StopsNow : StoreView D → (List ℕ → List ℕ → Type 0) → Type 0
   StopsNow s P = StopsLeave s s P
 
-  -- What a store keeps through all its steps and checkpoints: it is ready; or a disk failed, and a crash now leaves its history, or, if it failed in a step, with it the event that the step was keeping.
+  -- What a store keeps through all its steps and checkpoints: it is ready; or a disk failed, and a
+  -- crash now leaves its history, or, if it failed in a step, with it the event that the step was
+  -- keeping.
   pub data Keeps (s : StoreView D) : Type 0 where
     ready : IsReady s → Keeps s
-    halted : (pass : ℕ) → s.stop ≡ Some pass → StopsNow s (SurvivesStop s.base s.events s.met) → Keeps s
+    halted : (pass : ℕ) → s.stop ≡ Some pass → StopsNow s (SurvivesStop s.base s.events s.met) →
+        Keeps s

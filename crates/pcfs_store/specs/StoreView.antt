@@ -16,9 +16,13 @@ use Rattle.pcfs_store.specs.Image.{IsImageOf}
 use Rattle.pcfs_store.specs.StoredHistory.{AreSpellable, state_after, area_since}
 use Rattle.pcfs_store.specs.Newest.{one_of}
 
--- the disk with the area that counts, and the other one; whether it is the second; the area's generation, and how many bytes stand in it before its closed gate;
--- the key of the seal and the ring of those whose signatures are accepted; the base, the image of it with which the store was opened, and the events since,
--- each with its pass, which is 0 if it was read from an area; the checkpoints that were made of them; and, if a disk failed, the pass of the step or checkpoint in which it did, and, if that was a step, the
+-- the disk with the area that counts, and the other one; whether it is the second; the area's
+-- generation, and how many bytes stand in it before its closed gate;
+-- the key of the seal and the ring of those whose signatures are accepted; the base, the image of
+-- it with which the store was opened, and the events since,
+-- each with its pass, which is 0 if it was read from an area; the checkpoints that were made of
+-- them; and, if a disk failed, the pass of the step or checkpoint in which it did, and, if that was
+-- a step, the
 -- event that was being kept, of which only the disk knows whether it was
 pub record StoreView (D : Type 0) : Type 0 where
   pub active : D
@@ -50,7 +54,8 @@ abbrev pub state_of_store : {D : Type 0} → StoreView D → BaseView
 state_of_store s = replay s.base s.events
 
 -- the answer to a request over that state, and the event to keep
-abbrev pub AnswersIn : {D : Type 0} → StoreView D → ℕ → ℤ → StepRequest → StepReply → Option Event → Type 0
+abbrev pub AnswersIn : {D : Type 0} → StoreView D → ℕ → ℤ → StepRequest → StepReply → Option Event →
+    Type 0
 AnswersIn s pass clock request reply event = Answers (authority_of_store s) (state_of_store s) pass clock request reply event
 
 -- after how many events the last of these checkpoints was made, or `since` if there is none
@@ -69,7 +74,8 @@ head_of s = state_after s.base s.events (settled_of s)
 abbrev pub records_of : {D : Type 0} → StoreView D → List Event
 records_of s = drop (settled_of s) s.events
 
--- the image with which the area begins after these checkpoints: the one that was opened if there is none, or what is written of the state at the last of them
+-- the image with which the area begins after these checkpoints: the one that was opened if there is
+-- none, or what is written of the state at the last of them
 abbrev pub image_since : List ℕ → BaseView → List Checkpoint → List ℕ
 image_since opened head [] = opened
 image_since opened head (checkpoint ∷ checkpoints) = image_spelling head
@@ -81,12 +87,15 @@ image_of s = image_since s.opened (head_of s) s.checkpoints
 abbrev pub body_of : {D : Type 0} → StoreView D → List ℕ
 body_of s = area_since s.generation (image_of s) s.events (settled_of s)
 
--- each checkpoint was made after no fewer events than the one before it, and after no more than there are
+-- each checkpoint was made after no fewer events than the one before it, and after no more than
+-- there are
 abbrev pub AreInOrder : ℕ → ℕ → List Checkpoint → Type 0
 AreInOrder least most [] = least ≤ most
-AreInOrder least most (checkpoint ∷ checkpoints) = (least ≤ checkpoint.after) × AreInOrder checkpoint.after most checkpoints
+AreInOrder least most (checkpoint ∷ checkpoints) = (least ≤ checkpoint.after) ×
+    AreInOrder checkpoint.after most checkpoints
 
--- what a store keeps at every moment: its area has the bytes of its history before the closed gate, for which there is room; and each checkpoint took the next generation
+-- what a store keeps at every moment: its area has the bytes of its history before the closed gate,
+-- for which there is room; and each checkpoint took the next generation
 pub record IsStore {D : Type 0} (s : StoreView D) : Type 0 where
   pub generated : IsGeneration s.generation
   pub counted : length s.checkpoints < s.generation

@@ -1,4 +1,5 @@
--- Histories in the bytes of an area, and what an opening finds of a history that was kept. This project's own.
+-- Histories in the bytes of an area, and what an opening finds of a history that was kept. This
+-- project's own.
 use Rattle.std.specs.Prelude.{◌≡◌, ◌⊎◌, ℕ, ◌+◌, ◌-◌, ◌^◌, ◌<◌, ◌≤◌, List, length, take, drop, map}
 use Rattle.std.specs.List.{AllByRecursion}
 use Rattle.journal_core.specs.Area.{area_limit, area_bytes, IsArea}
@@ -21,18 +22,21 @@ AreSpellable events = AllByRecursion IsSpellableEvent events
 abbrev pub state_after : BaseView → List Event → ℕ → BaseView
 state_after base events settled = replay base (take settled events)
 
--- the area that tells a history by an image of the state after its first `settled` events and the records of the others, without its closed gate
+-- the area that tells a history by an image of the state after its first `settled` events and the
+-- records of the others, without its closed gate
 abbrev pub area_since : ℕ → List ℕ → List Event → ℕ → List ℕ
 area_since generation image events settled = area_bytes generation image (payloads_of (drop settled events))
 
--- Bytes stand for a history under a generation: they begin with the area of an image of its base and the records of its events, and what follows is empty or begins with no open gate.
+-- Bytes stand for a history under a generation: they begin with the area of an image of its base
+-- and the records of its events, and what follows is empty or begins with no open gate.
 pub record StandsFor (bytes : List ℕ) (generation : ℕ) (base : BaseView) (events : List Event) : Type 0 where
   pub image : List ℕ
   pub is_image : IsImageOf base image
   pub spelled : AreSpellable events
   pub is_area : IsArea bytes generation image (payloads_of events)
 
--- What is found resumes the first `kept` events of a history: its base is the state after some first of them, and its events are the others without their passes.
+-- What is found resumes the first `kept` events of a history: its base is the state after some
+-- first of them, and its events are the others without their passes.
 pub record Resumes (found_base : BaseView) (found : List Event) (base : BaseView) (events : List Event) (kept : ℕ) : Type 0 where
   pub skipped : ℕ
   pub skipped_few : skipped ≤ kept
@@ -40,6 +44,8 @@ pub record Resumes (found_base : BaseView) (found : List Event) (base : BaseView
   pub base_is : found_base ≡ replay base (take skipped events)
   pub events_are : found ≡ map erase (drop skipped (take kept events))
 
--- The event cannot be kept after so many bytes and so many events: with its record and a closed gate the area would pass its limit, or the event has no number left.
+-- The event cannot be kept after so many bytes and so many events: with its record and a closed
+-- gate the area would pass its limit, or the event has no number left.
 abbrev pub IsFull : ℕ → ℕ → Event → Type 0
-IsFull used count event = (area_limit < used + length (event_spelling event) + 6) ⊎ (2 ^ 48 - 1 ≤ count)
+IsFull used count event = (area_limit < used + length (event_spelling event) + 6) ⊎
+    (2 ^ 48 - 1 ≤ count)

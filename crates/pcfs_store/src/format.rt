@@ -119,7 +119,8 @@ fn format_first<D: Disk>(
     ensures not_already { IfErr result (λ e. e.0 ≢ FormatFault.AlreadyStore) }
     ensures same { IfErr result (λ e. e.0 ≢ FormatFault.Disk → e.1 ≡ a) }
     ensures rests { IfOk result (λ s. (first : List ℕ) → D.image a ≡ Some first → Rests D.clock D.left_since D.image s.active (body_of s)) }
-    ensures any_moment { (first : List ℕ) → D.image a ≡ Some first → IsPinned D.clock D.left_since D.image a →
+    ensures any_moment { (first : List ℕ) → D.image a ≡ Some first →
+        IsPinned D.clock D.left_since D.image a →
         MatchResult result
         (λ s. LeavesOnly D.clock D.left_since a s.active (IsOldOrShutOrNew first (area_bytes 1 fresh_image [])))
         (λ e. LeavesOnly D.clock D.left_since a e.1 (IsOldOrShutOrNew first (area_bytes 1 fresh_image []))) }
@@ -163,18 +164,22 @@ pub fn format_store<D: Disk>(
     ensures a_time { IfErr result (λ e. (first second : List ℕ) → D.image a ≡ Some first → D.image b ≡ Some second →
         (IsShut first × IsShut second → ⊥) → Idles D.clock D.left_since a e.1) }
     ensures kept { IfErr result (λ e. (first second : List ℕ) → D.image a ≡ Some first → D.image b ≡ Some second →
-        (IsShut first × IsShut second → ⊥) → IsPinned D.clock D.left_since D.image a → IsPinned D.clock D.left_since D.image b →
+        (IsShut first × IsShut second → ⊥) → IsPinned D.clock D.left_since D.image a →
+        IsPinned D.clock D.left_since D.image b →
         (D.image e.1 ≡ D.image a) × (D.image e.2 ≡ D.image b)) }
     ensures b_kept { IfErr result (λ e. IsPinned D.clock D.left_since D.image b → D.image e.2 ≡ D.image b) }
 
     // Time goes on.
-    ensures a_later { (first : List ℕ) → D.image a ≡ Some first → IsPinned D.clock D.left_since D.image a →
+    ensures a_later { (first : List ℕ) → D.image a ≡ Some first →
+        IsPinned D.clock D.left_since D.image a →
         MatchResult result (λ s. D.clock a ≤ D.clock s.active) (λ e. D.clock a ≤ D.clock e.1) }
     ensures b_later { MatchResult result (λ s. D.clock b ≤ D.clock s.other) (λ e. D.clock b ≤ D.clock e.2) }
 
     // A crash at any moment leaves no open area, or the one of the new store.
-    ensures any_moment { (first second : List ℕ) → D.image a ≡ Some first → D.image b ≡ Some second →
-        IsPinned D.clock D.left_since D.image a → IsPinned D.clock D.left_since D.image b → IsShut first → IsShut second →
+    ensures any_moment { (first second : List ℕ) → D.image a ≡ Some first →
+        D.image b ≡ Some second →
+        IsPinned D.clock D.left_since D.image a → IsPinned D.clock D.left_since D.image b →
+        IsShut first → IsShut second →
         MatchResult result
         (λ s. PairsLeft D.clock D.left_since IsNoneOrFresh a b s.active s.other)
         (λ e. PairsLeft D.clock D.left_since IsNoneOrFresh a b e.1 e.2) }

@@ -3,21 +3,44 @@
 ghost use Rattle.std.specs.Prelude.{◌≡◌, ◌≢◌, ◌+◌, ◌≤◌, Some, IfOk, IfErr, IfSome, IsSome, length};
 ghost use Rattle.journal_core.specs.Area.{area_limit};
 ghost use Rattle.journal_records.specs.EventSpelling.{event_spelling, IsSpellableEvent, HasFittingFields};
+ghost use Rattle.access_history.specs.Passes.{event_pass};
 ghost use Rattle.pcfs_store.specs.Keeping.{AppendsEvent, KeepsPending};
+ghost use Rattle.pcfs_store.specs.Admitting.{unprepared};
 
+use crate::reply::Admitted;
 use access_history::Event;
 use bl_syntax::Bytes;
-use journal_core::{AREA_LIMIT, Area, AreaFault, Framed, frame_after_four};
+use bl_syntax::limits::{MOST_AREA_BYTES, MOST_EVENTS};
+use journal_core::{Area, AreaFault, Framed, frame_after_four};
 use journal_records::write_event;
-use op_gate::Gate;
+use op_gate::{AdmitFault, Gate};
 use pcfs_ports::Disk;
 use std::alloc::Global;
 
-/// The number of the last event that a store may keep.
-const LAST_EVENT: u64 = 0xffff_ffff_ffff;
-
 /// How many bytes are taken at once for a record; a longer one grows from there.
 const COMMON_SIZE: usize = 256;
+
+/// The pass in whose turn an event was kept.
+pub fn pass_of(event: &Event) -> u64
+    ensures { result ≡ event_pass event.now }
+{
+    match event {
+        Event::Registered { pass, .. } => *pass,
+        Event::Withdrawn { pass, .. } => *pass,
+        Event::Issued { pass, .. } => *pass,
+        Event::Acted { pass, .. } => *pass,
+    }
+}
+
+/// What is reported of an event that was not prepared.
+pub fn unprepared(fault: AdmitFault) -> Admitted
+    ensures { result ≡ unprepared fault }
+{
+    match fault {
+        AdmitFault::Damaged(damage) => Admitted::Damaged(damage),
+        AdmitFault::NoMemory => Admitted::NoMemory,
+    }
+}
 
 // Four bytes for the length of a record, with room for one of common size.
 fn room_of(alloc: Global) -> Result<Bytes, AreaFault>
@@ -35,13 +58,14 @@ fn record_of(alloc: Global, event: &Event) -> Result<Framed, AreaFault>
     ensures ok { IfOk result (λ framed. framed ≡ event_spelling event.now) }
     ensures spelled { IfOk result (λ _. IsSpellableEvent event.now) }
     ensures not_disk { result ≢ Err AreaFault.Disk }
-    ensures full { result ≡ Err AreaFault.AreaFull → area_limit ≤ length (event_spelling event.now) }
+    ensures full { result ≡ Err AreaFault.AreaFull →
+        area_limit ≤ length (event_spelling event.now) }
 {
     let mut bytes = room_of(alloc)?;
     if write_event(event, &mut bytes).is_err() {
         return Err(AreaFault::NoMemory);
     }
-    if AREA_LIMIT + 4 <= bytes.len() as u64 {
+    if MOST_AREA_BYTES + 4 <= bytes.len() as u64 {
         return Err(AreaFault::AreaFull);
     }
     match frame_after_four(bytes) {
@@ -83,7 +107,7 @@ pub fn keep_pending<D: Disk>(
     requires { IsSome gate.old.pending }
     ensures { IfSome gate.old.pending (λ event. KeepsPending D.clock D.left_since D.image D.faults area.old gate.old event result area.new gate.new) }
 {
-    if LAST_EVENT <= gate.history().count() {
+    if MOST_EVENTS <= gate.history().count() {
         gate.forget();
         return Err(AreaFault::AreaFull);
     }

@@ -1,6 +1,7 @@
-//! What is answered to a step, and to a checkpoint.
+//! What is answered to a step, to an event that came from outside, and to a checkpoint.
 
 use access_history::StepReply;
+use op_gate::Damage;
 
 /// The reply of a store to a request.
 #[derive(Debug, Drop)]
@@ -9,9 +10,24 @@ pub enum StoreReply {
     Step(StepReply),
     /// The answer would keep an event that does not fit, and nothing was kept.
     Full,
-    /// A disk failed, now or in an earlier call, and nothing was kept.
+    /// A disk failed, now or in an earlier call. Nothing was added to the history; the event may be on the disk.
     Stopped,
     /// There was no memory, and nothing was decided.
+    NoMemory,
+}
+
+/// What became of an event that came from outside.
+#[derive(Clone, Copy, Debug, PartialEq, Eq)]
+pub enum Admitted {
+    /// It is on the disk and in the history.
+    Kept,
+    /// It may not come next: its first damage. Nothing was kept.
+    Damaged(Damage),
+    /// It may come next and does not fit. Nothing was kept.
+    Full,
+    /// A disk failed, now or in an earlier call. Nothing was added to the history; the event may be on the disk.
+    Stopped,
+    /// There was no memory, and nothing was kept.
     NoMemory,
 }
 

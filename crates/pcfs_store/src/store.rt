@@ -7,10 +7,11 @@ ghost use Rattle.pcfs_store.specs.Image.{IsImageOf};
 ghost use Rattle.pcfs_store.specs.StoredHistory.{payloads_of, AreSpellable};
 
 use crate::checkpoints::{Checkpoint, move_area};
-use crate::keeping::keep_pending;
+use crate::keeping::{keep_pending, pass_of, unprepared};
 use crate::opened::{Opened, opened_with};
-use crate::reply::{CheckpointReply, StoreReply};
-use access_history::StepRequest;
+use crate::reply::{Admitted, CheckpointReply, StoreReply};
+use access_history::{Event, StepRequest};
+use bl_syntax::limits::MOST_EVENTS;
 use bl_syntax::{Bytes, NoMemory};
 use checkpoint::state_image;
 use journal_core::{Area, AreaFault};
@@ -18,9 +19,6 @@ use op_gate::{Decision, Gate};
 use pcfs_ports::Disk;
 use std::alloc::Global;
 use std::marker::Model;
-
-/// The greatest generation that an area may have.
-const LAST_GENERATION: u64 = 0xffff_ffff_ffff;
 
 /// A history on two disks: its area is on the one of them that counts, which is closed at every moment, and the history is
 /// in memory too. A step of it costs, beside its decision, two syncs if it keeps an event.
@@ -60,6 +58,7 @@ impl<D: Disk> Store<D> {
     ghost use Rattle.pcfs_store.specs.StoreView.{IsStore, first_disk, second_disk, state_of_store};
     ghost use Rattle.pcfs_store.specs.Ready.{IsReady, IsCurrent, Keeps, StopsLeave, StopsNow, SurvivesStop};
     ghost use Rattle.pcfs_store.specs.Steps.{Steps, LeavesStep};
+    ghost use Rattle.pcfs_store.specs.Admitting.{Admits, LeavesAdmitting, Admitting};
     ghost use Rattle.pcfs_store.specs.Checkpoints.{MakesCheckpoint, IsNewestCheckpoint, Checkpoints};
     ghost use Rattle.pcfs_store.specs.Newest.{SurvivesWholeClosed};
 
@@ -108,7 +107,7 @@ impl<D: Disk> Store<D> {
     }
 
     /// What a store keeps at every moment.
-    pub fn keeps(&self)
+    pub fn lemma_is_store(&self)
         ensures { IsStore self.now }
     {
         let _ = &self.gate;
@@ -154,17 +153,23 @@ impl<D: Disk> Store<D> {
         ensures answer { Steps D.faults self.old pass clock request result self.new }
 
         // The store stays ready unless a disk fails in this step, and keeps its history even then.
-        ensures ready { IsReady D.clock D.left_since D.image self.old → result ≢ StoreReply.Stopped → IsReady D.clock D.left_since D.image self.new }
-        ensures keeps { Keeps D.clock D.left_since D.image self.old → Keeps D.clock D.left_since D.image self.new }
-        ensures current { IsCurrent D.clock D.left_since D.image self.old → result ≢ StoreReply.Stopped → IsCurrent D.clock D.left_since D.image self.new }
+        ensures ready { IsReady D.clock D.left_since D.image self.old →
+            result ≢ StoreReply.Stopped → IsReady D.clock D.left_since D.image self.new }
+        ensures keeps { Keeps D.clock D.left_since D.image self.old →
+            Keeps D.clock D.left_since D.image self.new }
+        ensures current { IsCurrent D.clock D.left_since D.image self.old →
+            result ≢ StoreReply.Stopped → IsCurrent D.clock D.left_since D.image self.new }
 
         // After an event that is kept a store is ready, also if its area lacked its closed gate before, or something was pending on it.
-        ensures makes_ready { IsCurrent D.clock D.left_since D.image self.old → length self.old.events < length self.new.events → (active other : List ℕ) →
-            D.image self.old.active ≡ Some active → D.image self.old.other ≡ Some other → IsPinned D.clock D.left_since D.image self.old.other →
+        ensures makes_ready { IsCurrent D.clock D.left_since D.image self.old →
+            length self.old.events < length self.new.events → (active other : List ℕ) →
+            D.image self.old.active ≡ Some active → D.image self.old.other ≡ Some other →
+            IsPinned D.clock D.left_since D.image self.old.other →
             IsReady D.clock D.left_since D.image self.new }
 
         // A crash at any moment leaves the history as it was, or with the one event that the answer keeps.
-        ensures any_moment { IsReady D.clock D.left_since D.image self.old → StopsLeave D.clock D.left_since D.image self.old self.new (LeavesStep self.old pass clock request) }
+        ensures any_moment { IsReady D.clock D.left_since D.image self.old →
+            StopsLeave D.clock D.left_since D.image self.old self.new (LeavesStep self.old pass clock request) }
 
         // After a fault of a disk both remain possible: with the event that the answer keeps, and without it.
         ensures met { IsReady D.clock D.left_since D.image self.old → result ≡ StoreReply.Stopped →
@@ -195,6 +200,68 @@ impl<D: Disk> Store<D> {
         }
     }
 
+    /// Keeps an event that came from outside, exactly if it may come next and fits: it is tested as if it came now, an
+    /// operation at its own moment, and it is on the disk before this returns. Otherwise its first damage is reported.
+    ///
+    /// `Full` comes exactly if it may come next and does not fit. `Stopped` comes if a disk failed in an earlier call, and
+    /// then no disk is touched; or if it fails in this one, and only if its count of faults rose. After `Damaged`,
+    /// `Full` and `NoMemory` all is as it was.
+    pub fn admit(&mut self, alloc: Global, event: Event) -> Admitted
+        ensures answer { Admits D.faults self.old event result self.new }
+
+        // The store stays ready unless a disk fails now, and keeps its history even then.
+        ensures ready { IsReady D.clock D.left_since D.image self.old →
+            result ≢ Admitted.Stopped → IsReady D.clock D.left_since D.image self.new }
+        ensures keeps { Keeps D.clock D.left_since D.image self.old →
+            Keeps D.clock D.left_since D.image self.new }
+        ensures current { IsCurrent D.clock D.left_since D.image self.old →
+            result ≢ Admitted.Stopped → IsCurrent D.clock D.left_since D.image self.new }
+
+        // After an event that is kept a store is ready, also if its area lacked its closed gate before, or something was pending on it.
+        ensures makes_ready { IsCurrent D.clock D.left_since D.image self.old →
+            length self.old.events < length self.new.events → (active other : List ℕ) →
+            D.image self.old.active ≡ Some active → D.image self.old.other ≡ Some other →
+            IsPinned D.clock D.left_since D.image self.old.other →
+            IsReady D.clock D.left_since D.image self.new }
+
+        // A crash at any moment leaves the history as it was, or with the event if it may come next.
+        ensures any_moment { IsReady D.clock D.left_since D.image self.old →
+            StopsLeave D.clock D.left_since D.image self.old self.new (LeavesAdmitting self.old event) }
+
+        // After a fault of a disk both remain possible: with the event, and without it.
+        ensures met { IsReady D.clock D.left_since D.image self.old → result ≡ Admitted.Stopped →
+            StopsNow D.clock D.left_since D.image self.new (SurvivesStop self.old.base self.old.events self.new.met) }
+
+        ensures first_told { is_some (D.image (first_disk self.new)) ≡ is_some (D.image (first_disk self.old)) }
+        ensures second_told { is_some (D.image (second_disk self.new)) ≡ is_some (D.image (second_disk self.old)) }
+        ensures first_never_falls { D.faults (first_disk self.old) ≤ D.faults (first_disk self.new) }
+        ensures second_never_falls { D.faults (second_disk self.old) ≤ D.faults (second_disk self.new) }
+    {
+        self.try_admit(alloc, event)
+    }
+
+    // Keeps an event that came from outside, exactly if it may come next and fits.
+    fn try_admit(&mut self, alloc: Global, event: Event) -> Admitted
+        ensures { Admitting D.clock D.left_since D.image D.faults self.old event result self.new }
+    {
+        if self.stop.is_some() {
+            return Admitted::Stopped;
+        }
+        let of_event = pass_of(&event);
+        match self.gate.prepare(alloc, event) {
+            Ok(()) => match keep_pending(alloc, &mut self.active, &mut self.gate) {
+                Ok(()) => Admitted::Kept,
+                Err(AreaFault::AreaFull) => Admitted::Full,
+                Err(AreaFault::NoMemory) => Admitted::NoMemory,
+                Err(AreaFault::Disk) => {
+                    self.stop = Some(of_event);
+                    Admitted::Stopped
+                }
+            },
+            Err(fault) => unprepared(fault),
+        }
+    }
+
     /// Makes a checkpoint: the image of the state is written on the disk that does not count, under the next generation, and
     /// from then on that disk counts, and the records of later events follow this image. The history stays as it is. All
     /// memory is taken before the first of the six calls of that disk.
@@ -206,24 +273,35 @@ impl<D: Disk> Store<D> {
         ensures answer { MakesCheckpoint D.faults self.old pass result self.new }
 
         // The store stays ready unless a disk fails now, and keeps its history even then.
-        ensures ready { IsReady D.clock D.left_since D.image self.old → result ≢ CheckpointReply.Stopped → IsReady D.clock D.left_since D.image self.new }
-        ensures keeps { Keeps D.clock D.left_since D.image self.old → Keeps D.clock D.left_since D.image self.new }
-        ensures current { IsCurrent D.clock D.left_since D.image self.old → result ≢ CheckpointReply.Stopped → IsCurrent D.clock D.left_since D.image self.new }
+        ensures ready { IsReady D.clock D.left_since D.image self.old →
+            result ≢ CheckpointReply.Stopped → IsReady D.clock D.left_since D.image self.new }
+        ensures keeps { Keeps D.clock D.left_since D.image self.old →
+            Keeps D.clock D.left_since D.image self.new }
+        ensures current { IsCurrent D.clock D.left_since D.image self.old →
+            result ≢ CheckpointReply.Stopped → IsCurrent D.clock D.left_since D.image self.new }
 
         // A store whose area lacked its closed gate is ready after it.
-        ensures makes_ready { IsCurrent D.clock D.left_since D.image self.old → result ≡ CheckpointReply.Checkpointed → (active other : List ℕ) →
-            D.image self.old.active ≡ Some active → D.image self.old.other ≡ Some other → IsPinned D.clock D.left_since D.image self.old.active →
+        ensures makes_ready { IsCurrent D.clock D.left_since D.image self.old →
+            result ≡ CheckpointReply.Checkpointed → (active other : List ℕ) →
+            D.image self.old.active ≡ Some active → D.image self.old.other ≡ Some other →
+            IsPinned D.clock D.left_since D.image self.old.active →
             IsReady D.clock D.left_since D.image self.new }
 
         // A crash at any moment leaves the history.
-        ensures any_moment { IsReady D.clock D.left_since D.image self.old → StopsLeave D.clock D.left_since D.image self.old self.new (SurvivesWholeClosed self.old.base self.old.events) }
+        ensures any_moment { IsReady D.clock D.left_since D.image self.old →
+            StopsLeave D.clock D.left_since D.image self.old self.new (SurvivesWholeClosed self.old.base self.old.events) }
 
         // After a fault of a disk it is still there.
-        ensures halts { IsReady D.clock D.left_since D.image self.old → result ≡ CheckpointReply.Stopped → StopsNow D.clock D.left_since D.image self.new (SurvivesWholeClosed self.old.base self.old.events) }
+        ensures halts { IsReady D.clock D.left_since D.image self.old →
+            result ≡ CheckpointReply.Stopped →
+            StopsNow D.clock D.left_since D.image self.new (SurvivesWholeClosed self.old.base self.old.events) }
 
         // What a read gives then is the area of the next generation, with the image of the state.
-        ensures newest { IsCurrent D.clock D.left_since D.image self.old → result ≡ CheckpointReply.Checkpointed → (first second : List ℕ) →
-            D.image (first_disk self.new) ≡ Some first → D.image (second_disk self.new) ≡ Some second → IsNewestCheckpoint self.old first second }
+        ensures newest { IsCurrent D.clock D.left_since D.image self.old →
+            result ≡ CheckpointReply.Checkpointed → (first second : List ℕ) →
+            D.image (first_disk self.new) ≡ Some first →
+            D.image (second_disk self.new) ≡ Some second →
+            IsNewestCheckpoint self.old first second }
 
         ensures first_told { is_some (D.image (first_disk self.new)) ≡ is_some (D.image (first_disk self.old)) }
         ensures second_told { is_some (D.image (second_disk self.new)) ≡ is_some (D.image (second_disk self.old)) }
@@ -240,7 +318,7 @@ impl<D: Disk> Store<D> {
         if self.stop.is_some() {
             return CheckpointReply::Stopped;
         }
-        if LAST_GENERATION <= self.generation {
+        if MOST_EVENTS <= self.generation {
             return CheckpointReply::Full;
         }
         match self.image(alloc) {
@@ -254,7 +332,7 @@ impl<D: Disk> Store<D> {
         ensures { IfOk result (IsWrittenImageOf (state_of_store self.now)) }
     {
         let history = self.gate.history();
-        history.lawful();
+        history.lemma_is_lawful();
         state_image(alloc, history)
     }
 

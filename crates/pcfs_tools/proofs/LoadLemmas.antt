@@ -3,20 +3,20 @@ use Rattle.std.proofs.Common.{◌≡◌, ◌⊎◌, inl, inr, ◌+◌, ◌≤◌
 use Rattle.std.specs.Prelude.{if◌then◌else◌, IfSome}
 use Rattle.access_history.specs.Replay.{replay}
 use Rattle.line_text.specs.Lines.{lines_of}
-use Rattle.pcfs_ports.specs.Told.{with_back}
+use Rattle.pcfs_ports.specs.Observable.{with_back}
 use Rattle.pcfs_secrets.specs.declared.secrets.Secrets.{Secrets}
 use Rattle.pcfs_session.specs.InterpreterView.{InterpreterView, standing_of}
 use Rattle.pcfs_session.specs.ScriptEnds.{RunsOver, ScriptWrites, ScriptEnds, with_line_end}
 use Rattle.pcfs_session.specs.ScriptEnds as ends
-use Rattle.pcfs_session.specs.ScriptRun.{Standing, fresh_start}
+use Rattle.pcfs_session.specs.ScriptRun.{ScriptState, fresh_start}
 use Rattle.pcfs_session.specs.Streams.{Streams}
 use Rattle.pcfs_session.specs.declared.script_end.ScriptEnd.{ScriptEnd}
 use Rattle.pcfs_session.specs.declared.script_end.ScriptEnd.TheVariants.{Done, LineTooLong, ReadFault, WriteFault, NoMemory, InputTooLong, Stopped}
 use Rattle.generated_script.specs.Script.{script_text}
-use Rattle.pcfs_tools.specs.LastLine.{IsTold, IsUntold}
+use Rattle.pcfs_tools.specs.LastLine.{Wrote, WroteNothing}
 use Rattle.pcfs_tools.specs.Load.{IsLoaded, IsRunThrough, begins_with_word, count_of, load_secrets, summary_text}
 use Rattle.pcfs_tools.specs.ScriptStatus.{TellsEnd, AnswersInput}
-use Rattle.pcfs_tools.proofs.TellingLemmas.{Writes, IsTold-line}
+use Rattle.pcfs_tools.proofs.TellingLemmas.{Writes, Wrote-line}
 
 -- ---- counts
 
@@ -67,7 +67,7 @@ done_tells InputTooLong held faults status held_after faults_after is (inr faile
 done_tells Stopped held faults status held_after faults_after is tells = absurd (not_zero status 5 is tells.0 (omega arith))
 
 -- the whole input was run
-done_writes : (start end : Standing) (before after : Streams) (how : ScriptEnd) (whole script : List ℕ) → how ≡ Done → before.left ≡ Some script → ScriptWrites start end before after how whole → RunsOver start (lines_of script) end whole × (end.met ≡ None)
+done_writes : (start end : ScriptState) (before after : Streams) (how : ScriptEnd) (whole script : List ℕ) → how ≡ Done → before.left ≡ Some script → ScriptWrites start end before after how whole → RunsOver start (lines_of script) end whole × (end.met ≡ None)
 done_writes start end before after _ _ script is left (ends.done bytes written reads short runs met) =
     let same : script ≡ bytes = subst (λ (o : Option (List ℕ)). IfSome o (λ l. l ≡ bytes)) left reads.all in
     (subst (λ (b : List ℕ). RunsOver start (lines_of b) end written) (sym same) runs, met)
@@ -76,7 +76,7 @@ done_writes start end before after _ _ script is left (ends.read_fault lines wri
 done_writes start end before after _ _ script is left (ends.input_too_long lines written takes taken runs met) = absurd cc
 done_writes start end before after _ _ script is left (ends.stopped written met way is_met) = absurd cc
 
-done_ends : (start end : Standing) (before after : Streams) (how : ScriptEnd) (script held : List ℕ) → how ≡ Done → before.left ≡ Some script → before.held ≡ Some [] → after.held ≡ Some held → ScriptEnds start end before after how →
+done_ends : (start end : ScriptState) (before after : Streams) (how : ScriptEnd) (script held : List ℕ) → how ≡ Done → before.left ≡ Some script → before.held ≡ Some [] → after.held ≡ Some held → ScriptEnds start end before after how →
     RunsOver start (lines_of script) end held × (end.met ≡ None)
 done_ends start end before after _ script held is left first last (ends.written how whole writes held_is) =
     let both = done_writes start end before after how whole script is left writes in
@@ -98,12 +98,12 @@ module _ {D : Type 0} (clock : D → ℕ) (left_since : D → ℕ → List ℕ �
       record { end = standing_of new answers.met; written = held; runs = r.0; running = r.1; told_is = told_is ∙ ap (summary_text (lines_of held)) events_is }
 
 -- the generated script was run, from before the first event
-pub IsLoaded-run : (rounds seed : ℕ) (secrets : Secrets) (start : Standing) (script told : List ℕ) → secrets ≡ load_secrets → start ≡ fresh_start secrets → script ≡ script_text rounds seed → IsRunThrough start script told → IsLoaded rounds seed told
+pub IsLoaded-run : (rounds seed : ℕ) (secrets : Secrets) (start : ScriptState) (script told : List ℕ) → secrets ≡ load_secrets → start ≡ fresh_start secrets → script ≡ script_text rounds seed → IsRunThrough start script told → IsLoaded rounds seed told
 IsLoaded-run rounds seed secrets start script told secrets_are start_is script_is runs =
-    subst (λ (s : Standing). IsRunThrough s (script_text rounds seed) told) (start_is ∙ ap fresh_start secrets_are) (subst (λ (b : List ℕ). IsRunThrough start b told) script_is runs)
+    subst (λ (s : ScriptState). IsRunThrough s (script_text rounds seed) told) (start_is ∙ ap fresh_start secrets_are) (subst (λ (b : List ℕ). IsRunThrough start b told) script_is runs)
 
 -- its line was written
 pub told_loaded : (rounds seed : ℕ) (told line bytes : List ℕ) (held held_after : Option (List ℕ)) (faults faults_after result : ℕ) → bytes ≡ line → line ≡ with_line_end told → IsLoaded rounds seed told → Writes 0 bytes held faults result held_after faults_after →
-    ((text : List ℕ) × IsLoaded rounds seed text × IsTold 0 text held faults result held_after faults_after) ⊎ IsUntold held result held_after
+    ((text : List ℕ) × IsLoaded rounds seed text × Wrote 0 text held faults result held_after faults_after) ⊎ WroteNothing held result held_after
 told_loaded rounds seed told line bytes held held_after faults faults_after result same is loaded writes =
-    inl (told, loaded, IsTold-line 0 told bytes held held_after faults faults_after result (same ∙ is) writes)
+    inl (told, loaded, Wrote-line 0 told bytes held held_after faults faults_after result (same ∙ is) writes)

@@ -12,13 +12,13 @@ use Rattle.pcfs_audit.specs.declared.report.ReportRow.{ReportRow}
 use Rattle.pcfs_inquiry.specs.Answers.{InquiryEnds}
 use Rattle.pcfs_modes.specs.Answers.{ModesEnds}
 use Rattle.pcfs_ports.specs.Faults.{HasRisen}
-use Rattle.pcfs_ports.specs.Told.{with_back, HoldsSome}
+use Rattle.pcfs_ports.specs.Observable.{with_back, HoldsSome}
 use Rattle.pcfs_session.specs.ScriptEnds.{with_line_end}
 use Rattle.pcfs_session.specs.Streams.{Streams}
 use Rattle.policy_statement.specs.Ring.{KeyView}
 use Rattle.pcfs_tools.specs.Audited.{TellsAudit, reported, unreported, audit_status}
 use Rattle.pcfs_tools.specs.Inquired.{TellsInquiry, answered}
-use Rattle.pcfs_tools.specs.LastLine.{IsTold, IsUntold, IsWritten}
+use Rattle.pcfs_tools.specs.LastLine.{Wrote, WroteNothing, IsWritten}
 use Rattle.pcfs_tools.specs.Signed.{TellsSigning, signed}
 use Rattle.pcfs_tools.specs.Stated.{TellsModes, stated}
 use Rattle.root_signing.specs.Signed.{SigningEnds}
@@ -28,8 +28,8 @@ abbrev pub Writes : ℕ → List ℕ → Option (List ℕ) → ℕ → ℕ → O
 Writes status bytes held faults result held_after faults_after = ((result ≡ status) × (held_after ≡ with_back held bytes)) ⊎ ((result ≡ 7) × HasRisen faults faults_after × HoldsSome held held_after bytes)
 
 -- the bytes are a line
-pub IsTold-line : (status : ℕ) (text bytes : List ℕ) (held held_after : Option (List ℕ)) (faults faults_after result : ℕ) → bytes ≡ with_line_end text → Writes status bytes held faults result held_after faults_after → IsTold status text held faults result held_after faults_after
-IsTold-line status text bytes held held_after faults faults_after result is writes = subst (λ (b : List ℕ). Writes status b held faults result held_after faults_after) is writes
+pub Wrote-line : (status : ℕ) (text bytes : List ℕ) (held held_after : Option (List ℕ)) (faults faults_after result : ℕ) → bytes ≡ with_line_end text → Writes status bytes held faults result held_after faults_after → Wrote status text held faults result held_after faults_after
+Wrote-line status text bytes held held_after faults faults_after result is writes = subst (λ (b : List ℕ). Writes status b held faults result held_after faults_after) is writes
 
 -- ---- audits
 
@@ -56,7 +56,7 @@ status_some [] some = absurd (omega (arith, some))
 status_some (row ∷ rows) some = refl
 
 pub TellsAudit-told : (authority : Authority) (base : BaseView) (events : List Event) (report : Report) (held held_after : Option (List ℕ)) (faults faults_after result : ℕ) → IsReport authority base events report →
-    IsTold (audit_status report.rows) (report_text report) held faults result held_after faults_after ⊎ IsUntold held result held_after → TellsAudit authority base events held faults result held_after faults_after
+    Wrote (audit_status report.rows) (report_text report) held faults result held_after faults_after ⊎ WroteNothing held result held_after → TellsAudit authority base events held faults result held_after faults_after
 TellsAudit-told authority base events report held held_after faults faults_after result is (inl told) = reported report is told
 TellsAudit-told authority base events report held held_after faults faults_after result is (inr untold) = unreported untold
 
@@ -72,7 +72,7 @@ TellsAudit-same authority base base' events events' held held_after faults fault
 pub TellsInquiry-told : (before after : Streams) (status : ℕ) (text line bytes : List ℕ) (result : ℕ) → bytes ≡ line → line ≡ with_line_end text → InquiryEnds before.left after.left before.read_faults after.read_faults status text →
     Writes status bytes before.held before.write_faults result after.held after.write_faults → TellsInquiry before after result
 TellsInquiry-told before after status text line bytes result same is ends writes =
-    answered status text ends (IsTold-line status text line before.held after.held before.write_faults after.write_faults result is
+    answered status text ends (Wrote-line status text line before.held after.held before.write_faults after.write_faults result is
     (subst (λ (b : List ℕ). Writes status b before.held before.write_faults result after.held after.write_faults) same writes))
 
 -- ---- tables of modes

@@ -3,29 +3,32 @@ use Rattle.std.specs.Prelude.{◌≡◌, ℕ, ◌≤◌, List, codes, Option, No
 use Rattle.pcfs_store.specs.Entries.{StoreEntry}
 use Rattle.pcfs_session.specs.InterpreterView.{InterpreterView, standing_of}
 use Rattle.pcfs_session.specs.ScriptEnds.{ScriptEnds}
-use Rattle.pcfs_session.specs.ScriptRun.{Standing}
+use Rattle.pcfs_session.specs.ScriptRun.{ScriptState}
 use Rattle.pcfs_session.specs.Stored.{StoreGoesOn}
 use Rattle.pcfs_session.specs.Streams.{Streams}
 use Rattle.pcfs_session.specs.declared.script_end.ScriptEnd.{ScriptEnd}
 use Rattle.pcfs_session.specs.declared.script_end.ScriptEnd.TheVariants.{Done, LineTooLong, ReadFault, WriteFault, NoMemory, InputTooLong, Stopped}
-use Rattle.pcfs_tools.specs.LastLine.{IsTold}
+use Rattle.pcfs_tools.specs.LastLine.{Wrote}
 
 -- the run ends with this status, and nothing more is written
 abbrev pub IsSilent : ℕ → Option (List ℕ) → ℕ → ℕ → Option (List ℕ) → ℕ → Type 0
-IsSilent status held faults result held_after faults_after = (result ≡ status) × (held_after ≡ held) × (faults_after ≡ faults)
+IsSilent status held faults result held_after faults_after = (result ≡ status) ×
+    (held_after ≡ held) × (faults_after ≡ faults)
 
--- what is written after a script that ended so, and the status. After the last reply, and after `bad 3` and `stopped`, which are replies, nothing is.
+-- what is written after a script that ended so, and the status. After the last reply, and after
+-- `bad 3` and `stopped`, which are replies, nothing is.
 abbrev pub TellsEnd : ScriptEnd → Option (List ℕ) → ℕ → ℕ → Option (List ℕ) → ℕ → Type 0
 TellsEnd Done held faults result held_after faults_after = IsSilent 0 held faults result held_after faults_after
 TellsEnd LineTooLong held faults result held_after faults_after = IsSilent 2 held faults result held_after faults_after
-TellsEnd ReadFault held faults result held_after faults_after = IsTold 6 (codes "readfault") held faults result held_after faults_after
+TellsEnd ReadFault held faults result held_after faults_after = Wrote 6 (codes "readfault") held faults result held_after faults_after
 TellsEnd WriteFault held faults result held_after faults_after = IsSilent 7 held faults result held_after faults_after
 TellsEnd NoMemory held faults result held_after faults_after = IsSilent 9 held faults result held_after faults_after
-TellsEnd InputTooLong held faults result held_after faults_after = IsTold 13 (codes "toolong") held faults result held_after faults_after
+TellsEnd InputTooLong held faults result held_after faults_after = Wrote 13 (codes "toolong") held faults result held_after faults_after
 TellsEnd Stopped held faults result held_after faults_after = IsSilent 5 held faults result held_after faults_after
 
--- a script ended, when the output held these bytes and had had so many faults, and after that its last line was written
-pub record ScriptStatus (start end : Standing) (before after : Streams) (status : ℕ) : Type 0 where
+-- a script ended, when the output held these bytes and had had so many faults, and after that its
+-- last line was written
+pub record ScriptStatus (start end : ScriptState) (before after : Streams) (status : ℕ) : Type 0 where
   pub how : ScriptEnd
   pub held : Option (List ℕ)
   pub write_faults : ℕ
@@ -35,7 +38,8 @@ pub record ScriptStatus (start end : Standing) (before after : Streams) (status 
 
 -- Below `clock`, `left_since`, `image` and `faults` tell of a disk what they do in `Stored`.
 module _ {D : Type 0} (clock : D → ℕ) (left_since : D → ℕ → List ℕ → Type 0) (image : D → Option (List ℕ)) (faults : D → ℕ) where
-  -- the script in the input is answered by an interpreter and ends with this status, and its store goes on
+  -- the script in the input is answered by an interpreter and ends with this status, and its store
+  -- goes on
   pub record AnswersInput (old : InterpreterView D) (before : Streams) (status : ℕ) (new : InterpreterView D) (after : Streams) : Type 0 where
     pub met : Option StoreEntry
     pub ends : ScriptStatus (standing_of old None) (standing_of new met) before after status

@@ -2,10 +2,11 @@
 
 ghost use Rattle.std.specs.Prelude.{◌≡◌, ◌⊎◌, None};
 ghost use Rattle.pcfs_ports.specs.Faults.{HasRisen};
-ghost use Rattle.pcfs_ports.specs.Told.{with_back, HoldsSome};
-ghost use Rattle.pcfs_session.specs.Asker.{Asker, first_asker};
+ghost use Rattle.pcfs_ports.specs.Observable.{with_back, HoldsSome};
+ghost use Rattle.pcfs_session.specs.ScriptContext.{ScriptContext, first_asker};
 ghost use Rattle.pcfs_session.specs.InterpreterView.{standing_over};
 ghost use Rattle.pcfs_session.specs.ScriptRun.{IsLawfulStanding, script_pass};
+ghost use Rattle.pcfs_session.specs.Streams.{streams_of};
 ghost use Rattle.pcfs_tools.specs.ScriptStatus.{TellsEnd, AnswersInput};
 
 use pcfs_ports::{Disk, Sink, Source, write_all};
@@ -35,7 +36,7 @@ pub const OUT_OF_MEMORY: u8 = 9;
 const TOO_LONG: u8 = 13;
 
 /// Writes a last line, and returns the status, or that the output failed.
-pub fn tell<O: Sink>(output: &mut O, line: &[u8], status: u8) -> u8
+pub fn write_last_line<O: Sink>(output: &mut O, line: &[u8], status: u8) -> u8
     ensures { ((result ≡ status) × (O.held output.new ≡ with_back (O.held output.old) line.now))
         ⊎ ((result ≡ WRITE_FAULT) × HasRisen (O.faults output.old) (O.faults output.new) × HoldsSome (O.held output.old) (O.held output.new) line.now) }
 {
@@ -46,16 +47,16 @@ pub fn tell<O: Sink>(output: &mut O, line: &[u8], status: u8) -> u8
 }
 
 // Writes the last line of a script that ended so, if it has one beside its replies, and returns the status to end with.
-fn tell_end<O: Sink>(output: &mut O, end: ScriptEnd) -> u8
+fn write_end<O: Sink>(output: &mut O, end: ScriptEnd) -> u8
     ensures { TellsEnd end (O.held output.old) (O.faults output.old) result (O.held output.new) (O.faults output.new) }
 {
     match end {
         ScriptEnd::Done => DONE,
         ScriptEnd::LineTooLong => LINE_TOO_LONG,
-        ScriptEnd::ReadFault => tell(output, b"readfault\n", READ_FAULT),
+        ScriptEnd::ReadFault => write_last_line(output, b"readfault\n", READ_FAULT),
         ScriptEnd::WriteFault => WRITE_FAULT,
         ScriptEnd::NoMemory => OUT_OF_MEMORY,
-        ScriptEnd::InputTooLong => tell(output, b"toolong\n", TOO_LONG),
+        ScriptEnd::InputTooLong => write_last_line(output, b"toolong\n", TOO_LONG),
         ScriptEnd::Stopped => DISK_FAULT,
     }
 }
@@ -71,10 +72,11 @@ pub fn run_over<D: Disk, I: Source, O: Sink>(
 ) -> (u8, Store<D>)
     requires lawful { IsLawfulStanding (standing_over store None (first_asker script_pass)) }
     requires running { store.stop ≡ None }
-    ensures { (asker : Asker) × AnswersInput D.clock D.left_since D.image D.faults (record { store = store; asker = first_asker script_pass })
-        (record { left = I.left input.old; read_faults = I.faults input.old; held = O.held output.old; write_faults = O.faults output.old }) result.0 (record { store = result.1; asker = asker })
-        (record { left = I.left input.new; read_faults = I.faults input.new; held = O.held output.new; write_faults = O.faults output.new }) }
+    ensures { (asker : ScriptContext) × AnswersInput D.clock D.left_since D.image D.faults (record { store = store; asker = first_asker script_pass })
+        (streams_of I.left I.faults O.held O.faults input.old output.old) result.0
+        (record { store = result.1; asker = asker })
+        (streams_of I.left I.faults O.held O.faults input.new output.new) }
 {
     let (end, store) = script_session(alloc, store, input, enough, output);
-    (tell_end(output, end), store)
+    (write_end(output, end), store)
 }

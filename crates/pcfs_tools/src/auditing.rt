@@ -6,9 +6,9 @@ ghost use Rattle.pcfs_audit.specs.ReportText.{report_text};
 ghost use Rattle.pcfs_session.specs.LineAnswer.{authority_under};
 ghost use Rattle.pcfs_session.specs.ScriptEnds.{with_line_end};
 ghost use Rattle.pcfs_tools.specs.Audited.{TellsAudit, audit_status};
-ghost use Rattle.pcfs_tools.specs.LastLine.{IsTold, IsUntold};
+ghost use Rattle.pcfs_tools.specs.LastLine.{Wrote, WroteNothing};
 
-use crate::answering::{DONE, OUT_OF_MEMORY, tell};
+use crate::answering::{DONE, OUT_OF_MEMORY, write_last_line};
 use access_history::History;
 use bl_syntax::{Bytes, NoMemory};
 use pcfs_audit::{Report, audit, audit_pieces, write_report};
@@ -31,7 +31,7 @@ fn report_on<R: Threads + Sync>(
     requires { IfSome pieces (λ n. 1 ≤ n) }
     ensures { IfOk result (IsReport (authority_under secrets.now) history.now.base history.now.events) }
 {
-    history.lawful();
+    history.lemma_is_lawful();
     let base = history.base();
     let events = history.events();
     let key = secrets.seal_key.as_slice();
@@ -62,11 +62,13 @@ fn status_of(report: &Report) -> u8
 }
 
 // Writes the report, and returns the status to end with.
-fn tell_report<O: Sink>(alloc: Global, output: &mut O, report: &Report) -> u8
-    ensures { IsTold (audit_status report.now.rows) (report_text report.now) (O.held output.old) (O.faults output.old) result (O.held output.new) (O.faults output.new) ⊎ IsUntold (O.held output.old) result (O.held output.new) }
+fn write_report_lines<O: Sink>(alloc: Global, output: &mut O, report: &Report) -> u8
+    ensures { Wrote (audit_status report.now.rows) (report_text report.now) (O.held output.old)
+        (O.faults output.old) result (O.held output.new) (O.faults output.new)
+        ⊎ WroteNothing (O.held output.old) result (O.held output.new) }
 {
     match report_lines(alloc, report) {
-        Ok(lines) => tell(output, lines.as_slice(), status_of(report)),
+        Ok(lines) => write_last_line(output, lines.as_slice(), status_of(report)),
         Err(_) => OUT_OF_MEMORY,
     }
 }
@@ -82,10 +84,11 @@ pub fn audit_history<R: Threads + Sync, O: Sink>(
     output: &mut O,
 ) -> u8
     requires { IfSome pieces (λ n. 1 ≤ n) }
-    ensures { TellsAudit (authority_under secrets.now) history.now.base history.now.events (O.held output.old) (O.faults output.old) result (O.held output.new) (O.faults output.new) }
+    ensures { TellsAudit (authority_under secrets.now) history.now.base history.now.events
+        (O.held output.old) (O.faults output.old) result (O.held output.new) (O.faults output.new) }
 {
     match report_on(rt, alloc, secrets, history, pieces) {
-        Ok(report) => tell_report(alloc, output, &report),
+        Ok(report) => write_report_lines(alloc, output, &report),
         Err(_) => OUT_OF_MEMORY,
     }
 }

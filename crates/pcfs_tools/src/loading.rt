@@ -2,14 +2,14 @@
 
 ghost use Rattle.std.specs.Prelude.{◌≡◌, ◌≤◌, ◌<◌, ◌+◌, ◌-◌, ◌^◌, ◌++◌, ◌⊎◌, [], ℕ, List, None, IfOk, OnOk, length, if◌then◌else◌};
 ghost use Rattle.line_text.specs.Lines.{lines_of};
-ghost use Rattle.pcfs_session.specs.Asker.{first_asker};
+ghost use Rattle.pcfs_session.specs.ScriptContext.{first_asker};
 ghost use Rattle.pcfs_session.specs.InterpreterView.{standing_over};
 ghost use Rattle.pcfs_session.specs.ScriptEnds.{with_line_end};
 ghost use Rattle.pcfs_session.specs.ScriptRun.{IsLawfulStanding, script_pass};
-ghost use Rattle.pcfs_tools.specs.LastLine.{IsTold, IsUntold};
+ghost use Rattle.pcfs_tools.specs.LastLine.{Wrote, WroteNothing};
 ghost use Rattle.pcfs_tools.specs.Load.{IsLoaded, IsRunThrough, begins_with_word, count_of, load_secrets, summary_of, summary_text};
 
-use crate::answering::{DONE, OUT_OF_MEMORY, run_over, tell};
+use crate::answering::{DONE, OUT_OF_MEMORY, run_over, write_last_line};
 use crate::memory::{ENOUGH, memory_store};
 use bl_syntax::decimal::put_counted;
 use bl_syntax::{Bytes, NoMemory, Numbers, Principal};
@@ -139,7 +139,9 @@ fn run_bytes<D: Disk + Drop>(
 ) -> (u8, u64)
     requires lawful { IsLawfulStanding (standing_over store None (first_asker script_pass)) }
     requires running { store.stop ≡ None }
-    ensures { (told : List ℕ) → output.old.held ≡ [] → result.0 ≡ 0 → told ≡ summary_text (lines_of output.new.held) result.1 → IsRunThrough (standing_over store None (first_asker script_pass)) script told }
+    ensures { (told : List ℕ) → output.old.held ≡ [] → result.0 ≡ 0 →
+        told ≡ summary_text (lines_of output.new.held) result.1 →
+        IsRunThrough (standing_over store None (first_asker script_pass)) script told }
 {
     let mut input = MemorySource::new(alloc, script, Numbers::new(alloc));
     let (status, after) = run_over(alloc, store, &mut input, ENOUGH, output);
@@ -155,7 +157,8 @@ fn run_script<D: Disk + Drop>(
 ) -> Result<Bytes, NoMemory>
     requires lawful { IsLawfulStanding (standing_over store None (first_asker script_pass)) }
     requires running { store.stop ≡ None }
-    ensures { IfOk result (λ line. (told : List ℕ) × (line ≡ with_line_end told) × IsRunThrough (standing_over store None (first_asker script_pass)) script told) }
+    ensures { IfOk result (λ line. (told : List ℕ) × (line ≡ with_line_end told)
+        × IsRunThrough (standing_over store None (first_asker script_pass)) script told) }
 {
     let mut output = MemorySink::new(alloc, Numbers::new(alloc));
     let (status, events) = run_bytes(alloc, store, script, &mut output);
@@ -183,10 +186,12 @@ fn run_generated(alloc: Global, rounds: u64, seed: u64) -> Result<Bytes, NoMemor
 /// it had, and returns the status to end with.
 pub fn load<O: Sink>(alloc: Global, rounds: u64, seed: u64, output: &mut O) -> u8
     requires { rounds ≤ 20000 }
-    ensures { ((told : List ℕ) × IsLoaded rounds seed told × IsTold 0 told (O.held output.old) (O.faults output.old) result (O.held output.new) (O.faults output.new)) ⊎ IsUntold (O.held output.old) result (O.held output.new) }
+    ensures { ((told : List ℕ) × IsLoaded rounds seed told × Wrote 0 told (O.held output.old)
+        (O.faults output.old) result (O.held output.new) (O.faults output.new))
+        ⊎ WroteNothing (O.held output.old) result (O.held output.new) }
 {
     match run_generated(alloc, rounds, seed) {
-        Ok(line) => tell(output, line.as_slice(), DONE),
+        Ok(line) => write_last_line(output, line.as_slice(), DONE),
         Err(_) => OUT_OF_MEMORY,
     }
 }

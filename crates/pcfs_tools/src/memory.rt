@@ -3,6 +3,7 @@
 ghost use Rattle.std.specs.Prelude.{◌≡◌, ◌⊎◌, IfOk};
 ghost use Rattle.pcfs_store.specs.Formats.{IsNewStore};
 ghost use Rattle.pcfs_tools.specs.Memory.{MemoryEnds};
+ghost use Rattle.pcfs_session.specs.Streams.{streams_of};
 
 use crate::answering::{DISK_FAULT, OUT_OF_MEMORY, run_over};
 use bl_syntax::{Bytes, NoMemory, Numbers};
@@ -46,8 +47,8 @@ pub fn run_in_memory<I: Source, O: Sink>(
     output: &mut O,
 ) -> u8
     ensures { MemoryEnds secrets.now
-        (record { left = I.left input.old; read_faults = I.faults input.old; held = O.held output.old; write_faults = O.faults output.old })
-        (record { left = I.left input.new; read_faults = I.faults input.new; held = O.held output.new; write_faults = O.faults output.new }) result }
+        (streams_of I.left I.faults O.held O.faults input.old output.old)
+        (streams_of I.left I.faults O.held O.faults input.new output.new) result }
 {
     match memory_store(alloc, secrets) {
         Ok(store) => {

@@ -2,8 +2,9 @@
 
 ghost use Rattle.std.specs.Prelude.{◌≤◌, ◌^◌};
 ghost use Rattle.pcfs_tools.specs.Signed.{TellsSigning};
+ghost use Rattle.pcfs_session.specs.Streams.{streams_of};
 
-use crate::answering::{OUT_OF_MEMORY, tell};
+use crate::answering::{OUT_OF_MEMORY, write_last_line};
 use pcfs_ports::{Sink, Source};
 use root_signing::answer_signing;
 use std::alloc::Global;
@@ -20,11 +21,11 @@ pub fn sign_statements<I: Source, O: Sink>(
     requires low { height ≤ 8 }
     requires within { from ≤ 2 ^ height }
     ensures { TellsSigning height from
-        (record { left = I.left input.old; read_faults = I.faults input.old; held = O.held output.old; write_faults = O.faults output.old })
-        (record { left = I.left input.new; read_faults = I.faults input.new; held = O.held output.new; write_faults = O.faults output.new }) result }
+        (streams_of I.left I.faults O.held O.faults input.old output.old)
+        (streams_of I.left I.faults O.held O.faults input.new output.new) result }
 {
     match answer_signing(alloc, height, from, input) {
-        Ok(end) => tell(output, end.lines.as_slice(), end.status),
+        Ok(end) => write_last_line(output, end.lines.as_slice(), end.status),
         Err(_) => OUT_OF_MEMORY,
     }
 }

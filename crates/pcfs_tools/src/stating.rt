@@ -2,8 +2,9 @@
 
 ghost use Rattle.std.specs.Prelude.{◌≤◌};
 ghost use Rattle.pcfs_tools.specs.Stated.{TellsModes};
+ghost use Rattle.pcfs_session.specs.Streams.{streams_of};
 
-use crate::answering::{OUT_OF_MEMORY, tell};
+use crate::answering::{OUT_OF_MEMORY, write_last_line};
 use pcfs_modes::answer_table;
 use pcfs_ports::{Sink, Source};
 use std::alloc::Global;
@@ -20,11 +21,11 @@ pub fn state_table<I: Source, O: Sink>(
     requires from { from ≤ 253402300799 }
     requires to { to ≤ 253402300799 }
     ensures { TellsModes from to
-        (record { left = I.left input.old; read_faults = I.faults input.old; held = O.held output.old; write_faults = O.faults output.old })
-        (record { left = I.left input.new; read_faults = I.faults input.new; held = O.held output.new; write_faults = O.faults output.new }) result }
+        (streams_of I.left I.faults O.held O.faults input.old output.old)
+        (streams_of I.left I.faults O.held O.faults input.new output.new) result }
 {
     match answer_table(alloc, from, to, input) {
-        Ok(end) => tell(output, end.lines.as_slice(), end.status),
+        Ok(end) => write_last_line(output, end.lines.as_slice(), end.status),
         Err(_) => OUT_OF_MEMORY,
     }
 }

@@ -8,7 +8,6 @@ use Rattle.std.proofs.lemmas.Int.{ints}
 use Rattle.pcfs_ports.specs.Faults.{HasRisen}
 use Rattle.pcfs_ports.specs.Disk.{IsPinned}
 use Rattle.journal_core.specs.Area.{IsShut, Closed, StandsForBody, area_bytes, generation_of}
-use Rattle.access_history.specs.Replay.{fresh}
 use Rattle.access_history.specs.declared.event.Event.{Event}
 use Rattle.access_history.specs.History.{authority_with}
 use Rattle.access_history.specs.Lawful.{IsLawful}
@@ -33,7 +32,7 @@ use Rattle.recover.specs.declared.fault.OpenFault.{OpenFault}
 use Rattle.recover.specs.declared.fault.OpenFault.TheVariants as opens
 use Rattle.recover.specs.Opening.{IsNotOpened, IsNewestClosed}
 use Rattle.recover.specs.Opening as opening
-use Rattle.pcfs_session.specs.Asker.{Asker, first_asker}
+use Rattle.pcfs_session.specs.ScriptContext.{ScriptContext, first_asker}
 use Rattle.pcfs_session.specs.InterpreterView.{standing_over}
 use Rattle.pcfs_session.specs.LineAnswer.{authority_under}
 use Rattle.pcfs_session.specs.Streams.{Streams}
@@ -42,12 +41,12 @@ use Rattle.command_words.specs.Tasks.{AskForNoRun, AsksFor}
 use Rattle.command_words.specs.declared.words.Task.TheVariants.{Stored, Init, Audit, Load}
 use Rattle.command_words.specs.declared.words.Task.TheVariants as tasks
 use Rattle.pcfs_tools.specs.Audited.{TellsAudit, reported, unreported, audit_status}
-use Rattle.pcfs_tools.specs.LastLine.{IsTold, IsUntold}
+use Rattle.pcfs_tools.specs.LastLine.{Wrote, WroteNothing}
 use Rattle.pcfs_tools.specs.Load.{IsLoaded}
 use Rattle.pcfs_tools.specs.ScriptStatus.{AnswersInput}
 use Rattle.pcfs_tools.proofs.MemoryLemmas.{secrets_of}
 use Rattle.pcfs_top.specs.Ports.{Disks, Ports, Rests, AreBytesKept, IfTold}
-use Rattle.pcfs_top.specs.Run.{AreOfStore, of_script, of_checkpoint, of_audit, HasNoArea, IsNotLost, IsOpened, IsNewestOf, IsNewestImage, NewestStays, Returns, HasCause, EndsWith, TellsCheckpoint, TellsUnopened, TellsUnmade, damaged_text}
+use Rattle.pcfs_top.specs.Run.{AreOfStore, of_script, of_checkpoint, HasNoArea, IsNotLost, IsOpened, IsNewestOf, IsNewestImage, NewestStays, Returns, HasCause, EndsWith, TellsCheckpoint, TellsUnopened, TellsUnmade, damaged_text}
 use Rattle.pcfs_top.specs.Run as run
 use Rattle.pcfs_session.specs.ScriptRun.{IsLawfulStanding, script_pass}
 use Rattle.pcfs_session.specs.Stored.{StoreGoesOn}
@@ -62,17 +61,17 @@ lawful_start s lawful = record { lawful = lawful; asker = record { moment = reco
 -- ---- a last line
 
 told_as : (words : List (String Global)) (secrets : Secrets) (rests : Rests) (before after : Ports) (status : ℕ) (line : List ℕ) (result : ℕ) → HasCause secrets words rests before.disks after.disks status line → after.streams.left ≡ before.streams.left →
-    IsTold status line before.streams.held before.streams.write_faults result after.streams.held after.streams.write_faults → EndsWith secrets words rests before after result
+    Wrote status line before.streams.held before.streams.write_faults result after.streams.held after.streams.write_faults → EndsWith secrets words rests before after result
 told_as words secrets rests before after status line result cause left (inl told) = subst (EndsWith secrets words rests before after) (sym told.0) (run.told status line cause left told.1)
 told_as words secrets rests before after status line result cause left (inr failed) = subst (EndsWith secrets words rests before after) (sym failed.0) (run.cut_short status line cause left failed.1 failed.2)
 
 untold_as : (words : List (String Global)) (secrets : Secrets) (rests : Rests) (before after : Ports) (result : ℕ) → AreBytesKept before.disks after.disks → after.streams.left ≡ before.streams.left →
-    IsUntold before.streams.held result after.streams.held → EndsWith secrets words rests before after result
+    WroteNothing before.streams.held result after.streams.held → EndsWith secrets words rests before after result
 untold_as words secrets rests before after result kept left untold = subst (EndsWith secrets words rests before after) (sym untold.0) (run.out_of_memory kept left untold.1)
 
 -- the words are no command
 pub EndsWith-usage : (words : List (String Global)) (secrets : Secrets) (rests : Rests) (before after : Ports) (result : ℕ) → AskForNoRun words → after.disks ≡ before.disks → after.streams.left ≡ before.streams.left →
-    IsTold 1 (codes "usage") before.streams.held before.streams.write_faults result after.streams.held after.streams.write_faults → EndsWith secrets words rests before after result
+    Wrote 1 (codes "usage") before.streams.held before.streams.write_faults result after.streams.held after.streams.write_faults → EndsWith secrets words rests before after result
 EndsWith-usage words secrets rests before after result unknown same left told = told_as words secrets rests before after 1 (codes "usage") result (run.usage unknown same) left told
 
 -- ---- areas
@@ -227,7 +226,7 @@ module _ {D : Type 0} (clock : D → ℕ) (left_since : D → ℕ → List ℕ �
 
     pub EndsWith-made : (before after : Streams) (result : ℕ) (s : StoreView D) (a' b' : D) → IsNewStore secrets.seal_key secrets.ring s →
         ((first second : List ℕ) → image a ≡ Some first → image b ≡ Some second → IsReady clock left_since image s) → ((first second : List ℕ) → image a ≡ Some first → image b ≡ Some second → IsShut first × IsShut second) → image s.other ≡ image b →
-        a' ≡ first_disk s → b' ≡ second_disk s → after.left ≡ before.left → IsTold 0 (codes "ok") before.held before.write_faults result after.held after.write_faults →
+        a' ≡ first_disk s → b' ≡ second_disk s → after.left ≡ before.left → Wrote 0 (codes "ok") before.held before.write_faults result after.held after.write_faults →
         EndsWith secrets words (rests_of a b a' b') (record { streams = before; disks = disks_of a b }) (record { streams = after; disks = disks_of a' b' }) result
     EndsWith-made before after result s a' b' new ready shut b_same a_is b_is left tells =
         told_as words secrets (rests_of a b a' b') (record { streams = before; disks = disks_of a b }) (record { streams = after; disks = disks_of a' b' }) 0 (codes "ok") result
@@ -456,7 +455,7 @@ module _ {D : Type 0} (clock : D → ℕ) (left_since : D → ℕ → List ℕ �
   -- ---- a script over a store that is opened
 
   module _ (words : List (String Global)) (secrets : Secrets) (a b : D) (is : AsksFor words Stored) where
-    returns_of : (may_stay : (d : D) (bytes : List ℕ) → image d ≡ Some bytes → left_since d (clock d) bytes) (s s' : StoreView D) (met : Option StoreEntry) (asker : Asker) → IsStore s → IsStore s' → opening.IsOpened clock left_since image faults a b secrets.seal_key secrets.ring s →
+    returns_of : (may_stay : (d : D) (bytes : List ℕ) → image d ≡ Some bytes → left_since d (clock d) bytes) (s s' : StoreView D) (met : Option StoreEntry) (asker : ScriptContext) → IsStore s → IsStore s' → opening.IsOpened clock left_since image faults a b secrets.seal_key secrets.ring s →
         StoreGoesOn clock left_since image faults s s' met → Returns (rests_of a b (first_disk s') (second_disk s')) s.generation s.opened (disks_of a b) (disks_of (first_disk s') (second_disk s')) (standing_over s None (first_asker script_pass)) (standing_over s' met asker)
     returns_of may_stay s s' met asker store store' opened goes =
         let added : List Checkpoint = goes.checkpoints_go_on.0 in
@@ -482,7 +481,7 @@ module _ {D : Type 0} (clock : D → ℕ) (left_since : D → ℕ → List ℕ �
               (other_is secrets a b s s' opened (goes.other_stays (all ∙ none) untried) (place_kept added s.second_active s'.second_active (all ∙ none) goes.place_is));
         }
 
-    pub EndsWith-stored : (may_stay : (d : D) (bytes : List ℕ) → image d ≡ Some bytes → left_since d (clock d) bytes) (before after : Streams) (result : ℕ) (s s' : StoreView D) (asker : Asker) (a' b' : D) → IsStore s → IsStore s' →
+    pub EndsWith-stored : (may_stay : (d : D) (bytes : List ℕ) → image d ≡ Some bytes → left_since d (clock d) bytes) (before after : Streams) (result : ℕ) (s s' : StoreView D) (asker : ScriptContext) (a' b' : D) → IsStore s → IsStore s' →
         opening.IsOpened clock left_since image faults a b secrets.seal_key secrets.ring s → AnswersInput clock left_since image faults (record { store = s; asker = first_asker script_pass }) before result (record { store = s'; asker = asker }) after →
         a' ≡ first_disk s' → b' ≡ second_disk s' → EndsWith secrets words (rests_of a b a' b') (record { streams = before; disks = disks_of a b }) (record { streams = after; disks = disks_of a' b' }) result
     EndsWith-stored may_stay before after result s s' asker a' b' store store' opened answers a_is b_is =
@@ -498,7 +497,7 @@ EndsWith-unasked words secrets rests before after same left held = run.out_of_me
 -- ---- a large run
 
 pub EndsWith-loaded : (words : List (String Global)) (secrets : Secrets) (rests : Rests) (before after : Ports) (rounds seed result : ℕ) → AsksFor words (Load rounds seed) → after.disks ≡ before.disks → after.streams.left ≡ before.streams.left →
-    ((told : List ℕ) × IsLoaded rounds seed told × IsTold 0 told before.streams.held before.streams.write_faults result after.streams.held after.streams.write_faults) ⊎ IsUntold before.streams.held result after.streams.held →
+    ((told : List ℕ) × IsLoaded rounds seed told × Wrote 0 told before.streams.held before.streams.write_faults result after.streams.held after.streams.write_faults) ⊎ WroteNothing before.streams.held result after.streams.held →
     EndsWith secrets words rests before after result
 EndsWith-loaded words secrets rests before after rounds seed result is same left (inl loaded) =
     told_as words secrets rests before after 0 loaded.0 result (run.loaded rounds seed loaded.0 is loaded.1 same) left loaded.2

@@ -1,7 +1,7 @@
 -- What the ports of a run tell at one moment (this project's own).
 use Rattle.std.specs.Prelude.{◌≡◌, ◌⊎◌, ℕ, List, Option, Some}
 use Rattle.pcfs_ports.specs.Faults.{HasRisen}
-use Rattle.pcfs_session.specs.Streams.{Streams}
+use Rattle.pcfs_session.specs.Streams.{Streams, streams_of}
 
 -- the bytes of the two disks, if they are told; and how many faults each has had
 pub record Disks : Type 0 where
@@ -20,7 +20,8 @@ IfTold disks P = (x y : List ℕ) → disks.a ≡ Some x → disks.b ≡ Some y 
 
 -- a count of faults of one of the disks rose
 abbrev pub HasDiskFailed : Disks → Disks → Type 0
-HasDiskFailed before after = HasRisen before.a_faults after.a_faults ⊎ HasRisen before.b_faults after.b_faults
+HasDiskFailed before after = HasRisen before.a_faults after.a_faults ⊎
+    HasRisen before.b_faults after.b_faults
 
 -- the bytes are as they were
 pub record AreBytesKept (before after : Disks) : Type 0 where
@@ -31,3 +32,28 @@ pub record AreBytesKept (before after : Disks) : Type 0 where
 pub record Rests : Type 1 where
   pub before : Type 0
   pub after : Type 0
+
+-- what these two disks tell, by what each tells of itself
+abbrev pub disks_of : {D : Type 0} → (D → Option (List ℕ)) → (D → ℕ) → D → D → Disks
+disks_of image faults a b = record { a = image a; b = image b; a_faults = faults a; b_faults = faults b }
+
+-- what these streams and disks tell
+abbrev pub ports_of : {I O D : Type 0} → (I → Option (List ℕ)) → (I → ℕ) → (O → Option (List ℕ))
+    → (O → ℕ)
+    → (D → Option (List ℕ)) → (D → ℕ) → I → O → D → D → Ports
+ports_of left read_faults held write_faults image faults input output a b = record {
+  streams = streams_of left read_faults held write_faults input output;
+  disks = disks_of image faults a b;
+}
+
+-- what an output and two disks tell beside an input that tells this
+abbrev pub ports_beside : {O D : Type 0} → Option (List ℕ) → ℕ → (O → Option (List ℕ)) → (O → ℕ)
+    → (D → Option (List ℕ)) → (D → ℕ) → O → D → D → Ports
+ports_beside left read_faults held write_faults image faults output a b = record {
+  streams = record { left = left; read_faults = read_faults; held = held output; write_faults = write_faults output };
+  disks = disks_of image faults a b;
+}
+
+-- whether nothing is pending on two disks before, and on two after
+abbrev pub rests_of : {D : Type 0} → (D → Type 0) → D → D → D → D → Rests
+rests_of rests a b first second = record { before = rests a × rests b; after = rests first × rests second }

@@ -7,6 +7,7 @@ ghost use Rattle.pcfs_session.specs.ScriptEnds.{with_line_end};
 ghost use Rattle.command_words.specs.Tasks.{AreKnown, AsksFor, IsFit};
 ghost use Rattle.command_words.specs.declared.words.Task.TheVariants.{Stored, Init, Checkpoint, Audit};
 ghost use Rattle.pcfs_top.specs.Run.{EndsWith, TellsCheckpoint, TellsUnopened, TellsUnmade, damage_number, damaged_text};
+ghost use Rattle.pcfs_top.specs.Ports.{ports_beside, ports_of, rests_of};
 
 use bl_syntax::decimal::put_counted;
 use bl_syntax::{Bytes, NoMemory};
@@ -15,7 +16,7 @@ use op_gate::Damage;
 use pcfs_ports::{Disk, Sink, Source};
 use pcfs_secrets::Secrets;
 use pcfs_store::{CheckpointReply, FormatFault, format_store};
-use pcfs_tools::answering::{DISK_FAULT, DONE, OUT_OF_MEMORY, run_over, tell};
+use pcfs_tools::answering::{DISK_FAULT, DONE, OUT_OF_MEMORY, run_over, write_last_line};
 use pcfs_tools::{audit_history, inquire, load, run_in_memory, sign_statements, state_table};
 use recover::{OpenFault, open_store};
 use std::alloc::Global;
@@ -72,23 +73,24 @@ fn damaged_line(alloc: Global, record_number: u64, damage: Damage) -> Result<Byt
 }
 
 // Writes the line that reports the damage of a record, and returns the status to end with.
-fn tell_damage<O: Sink>(alloc: Global, output: &mut O, record_number: u64, damage: Damage) -> u8
-    ensures { TellsUnopened (OpenFault.Damaged record_number damage) (O.held output.old) (O.faults output.old) result (O.held output.new) (O.faults output.new) }
+fn write_damage<O: Sink>(alloc: Global, output: &mut O, record_number: u64, damage: Damage) -> u8
+    ensures { TellsUnopened (OpenFault.Damaged record_number damage) (O.held output.old)
+        (O.faults output.old) result (O.held output.new) (O.faults output.new) }
 {
     match damaged_line(alloc, record_number, damage) {
-        Ok(line) => tell(output, line.as_slice(), DAMAGED),
+        Ok(line) => write_last_line(output, line.as_slice(), DAMAGED),
         Err(_) => OUT_OF_MEMORY,
     }
 }
 
 /// Writes why no store was opened, and returns the status to end with.
-pub fn tell_unopened<O: Sink>(alloc: Global, output: &mut O, fault: OpenFault) -> u8
+pub fn write_unopened<O: Sink>(alloc: Global, output: &mut O, fault: OpenFault) -> u8
     ensures { TellsUnopened fault (O.held output.old) (O.faults output.old) result (O.held output.new) (O.faults output.new) }
 {
     match fault {
-        OpenFault::NoStore => tell(output, b"nostore\n", NO_STORE),
-        OpenFault::Damaged(number, damage) => tell_damage(alloc, output, number, damage),
-        OpenFault::Disk => tell(output, b"stopped\n", DISK_FAULT),
+        OpenFault::NoStore => write_last_line(output, b"nostore\n", NO_STORE),
+        OpenFault::Damaged(number, damage) => write_damage(alloc, output, number, damage),
+        OpenFault::Disk => write_last_line(output, b"stopped\n", DISK_FAULT),
         OpenFault::NoMemory => OUT_OF_MEMORY,
     }
 }
@@ -102,9 +104,12 @@ fn run_stored<I: Source, O: Sink, D: Disk>(
     a: D,
     b: D,
 ) -> Ended<D>
-    ensures { (words : List (String Global)) → AsksFor words Stored → EndsWith secrets.now words (record { before = IsPinned D.clock D.left_since D.image a × IsPinned D.clock D.left_since D.image b; after = IsPinned D.clock D.left_since D.image result.a × IsPinned D.clock D.left_since D.image result.b })
-        (record { streams = record { left = I.left input.old; read_faults = I.faults input.old; held = O.held output.old; write_faults = O.faults output.old }; disks = record { a = D.image a; b = D.image b; a_faults = D.faults a; b_faults = D.faults b } })
-        (record { streams = record { left = I.left input.new; read_faults = I.faults input.new; held = O.held output.new; write_faults = O.faults output.new }; disks = record { a = D.image result.a; b = D.image result.b; a_faults = D.faults result.a; b_faults = D.faults result.b } }) result.status }
+    ensures { (words : List (String Global)) → AsksFor words Stored →
+        EndsWith secrets.now words
+        (rests_of (IsPinned D.clock D.left_since D.image) a b result.a result.b)
+        (ports_of I.left I.faults O.held O.faults D.image D.faults input.old output.old a b)
+        (ports_of I.left I.faults O.held O.faults D.image D.faults input.new output.new result.a result.b)
+        result.status }
 {
     let ring = match secrets.ring.copy(alloc) {
         Ok(ring) => ring,
@@ -116,14 +121,14 @@ fn run_stored<I: Source, O: Sink, D: Disk>(
     };
     match open_store(alloc, a, b, secrets.seal_key.as_slice(), ring) {
         Ok(store) => {
-            store.keeps();
+            store.lemma_is_store();
             let (status, store) = run_over(alloc, store, input, 1, output);
-            store.keeps();
+            store.lemma_is_store();
             let (a, b) = store.into_disks();
             Ended { status, a, b }
         }
         Err((fault, a, b)) => Ended {
-            status: tell_unopened(alloc, output, fault),
+            status: write_unopened(alloc, output, fault),
             a,
             b,
         },
@@ -131,13 +136,13 @@ fn run_stored<I: Source, O: Sink, D: Disk>(
 }
 
 // Writes what a checkpoint answered, and returns the status to end with.
-fn tell_checkpoint<O: Sink>(output: &mut O, reply: CheckpointReply) -> u8
+fn write_checkpoint<O: Sink>(output: &mut O, reply: CheckpointReply) -> u8
     ensures { TellsCheckpoint reply (O.held output.old) (O.faults output.old) result (O.held output.new) (O.faults output.new) }
 {
     match reply {
-        CheckpointReply::Checkpointed => tell(output, b"ok checkpoint\n", DONE),
-        CheckpointReply::Full => tell(output, b"full\n", FULL),
-        CheckpointReply::Stopped => tell(output, b"stopped\n", DISK_FAULT),
+        CheckpointReply::Checkpointed => write_last_line(output, b"ok checkpoint\n", DONE),
+        CheckpointReply::Full => write_last_line(output, b"full\n", FULL),
+        CheckpointReply::Stopped => write_last_line(output, b"stopped\n", DISK_FAULT),
         CheckpointReply::NoMemory => OUT_OF_MEMORY,
     }
 }
@@ -150,9 +155,13 @@ fn checkpoint_stored<O: Sink, D: Disk>(
     a: D,
     b: D,
 ) -> Ended<D>
-    ensures { (words : List (String Global)) (left : Option (List ℕ)) (read_faults : ℕ) → AsksFor words Checkpoint → EndsWith secrets.now words (record { before = IsPinned D.clock D.left_since D.image a × IsPinned D.clock D.left_since D.image b; after = IsPinned D.clock D.left_since D.image result.a × IsPinned D.clock D.left_since D.image result.b })
-        (record { streams = record { left = left; read_faults = read_faults; held = O.held output.old; write_faults = O.faults output.old }; disks = record { a = D.image a; b = D.image b; a_faults = D.faults a; b_faults = D.faults b } })
-        (record { streams = record { left = left; read_faults = read_faults; held = O.held output.new; write_faults = O.faults output.new }; disks = record { a = D.image result.a; b = D.image result.b; a_faults = D.faults result.a; b_faults = D.faults result.b } }) result.status }
+    ensures { (words : List (String Global)) (left : Option (List ℕ)) (read_faults : ℕ) →
+        AsksFor words Checkpoint →
+        EndsWith secrets.now words
+        (rests_of (IsPinned D.clock D.left_since D.image) a b result.a result.b)
+        (ports_beside left read_faults O.held O.faults D.image D.faults output.old a b)
+        (ports_beside left read_faults O.held O.faults D.image D.faults output.new result.a result.b)
+        result.status }
 {
     let ring = match secrets.ring.copy(alloc) {
         Ok(ring) => ring,
@@ -164,9 +173,9 @@ fn checkpoint_stored<O: Sink, D: Disk>(
     };
     match open_store(alloc, a, b, secrets.seal_key.as_slice(), ring) {
         Ok(mut store) => {
-            store.keeps();
+            store.lemma_is_store();
             let reply = store.checkpoint(alloc, 0);
-            let status = tell_checkpoint(output, reply);
+            let status = write_checkpoint(output, reply);
             let (first_after, second_after) = store.into_disks();
             Ended {
                 status,
@@ -175,7 +184,7 @@ fn checkpoint_stored<O: Sink, D: Disk>(
             }
         }
         Err((fault, a, b)) => Ended {
-            status: tell_unopened(alloc, output, fault),
+            status: write_unopened(alloc, output, fault),
             a,
             b,
         },
@@ -193,9 +202,13 @@ fn audit_stored<R: Threads + Sync, O: Sink, D: Disk>(
     b: D,
 ) -> Ended<D>
     requires some { IfSome pieces (λ n. 1 ≤ n) }
-    ensures { (words : List (String Global)) (left : Option (List ℕ)) (read_faults : ℕ) → AsksFor words (Audit pieces) → EndsWith secrets.now words (record { before = IsPinned D.clock D.left_since D.image a × IsPinned D.clock D.left_since D.image b; after = IsPinned D.clock D.left_since D.image result.a × IsPinned D.clock D.left_since D.image result.b })
-        (record { streams = record { left = left; read_faults = read_faults; held = O.held output.old; write_faults = O.faults output.old }; disks = record { a = D.image a; b = D.image b; a_faults = D.faults a; b_faults = D.faults b } })
-        (record { streams = record { left = left; read_faults = read_faults; held = O.held output.new; write_faults = O.faults output.new }; disks = record { a = D.image result.a; b = D.image result.b; a_faults = D.faults result.a; b_faults = D.faults result.b } }) result.status }
+    ensures { (words : List (String Global)) (left : Option (List ℕ)) (read_faults : ℕ) →
+        AsksFor words (Audit pieces) →
+        EndsWith secrets.now words
+        (rests_of (IsPinned D.clock D.left_since D.image) a b result.a result.b)
+        (ports_beside left read_faults O.held O.faults D.image D.faults output.old a b)
+        (ports_beside left read_faults O.held O.faults D.image D.faults output.new result.a result.b)
+        result.status }
 {
     let ring = match secrets.ring.copy(alloc) {
         Ok(ring) => ring,
@@ -207,7 +220,7 @@ fn audit_stored<R: Threads + Sync, O: Sink, D: Disk>(
     };
     match open_store(alloc, a, b, secrets.seal_key.as_slice(), ring) {
         Ok(store) => {
-            store.keeps();
+            store.lemma_is_store();
             let status = audit_history(rt, alloc, secrets, store.gate().history(), pieces, output);
             let (first, second) = store.into_disks();
             Ended {
@@ -217,7 +230,7 @@ fn audit_stored<R: Threads + Sync, O: Sink, D: Disk>(
             }
         }
         Err((fault, a, b)) => Ended {
-            status: tell_unopened(alloc, output, fault),
+            status: write_unopened(alloc, output, fault),
             a,
             b,
         },
@@ -225,21 +238,25 @@ fn audit_stored<R: Threads + Sync, O: Sink, D: Disk>(
 }
 
 // Writes why no store was made, and returns the status to end with.
-fn tell_unmade<O: Sink>(output: &mut O, fault: FormatFault) -> u8
+fn write_unmade<O: Sink>(output: &mut O, fault: FormatFault) -> u8
     ensures { TellsUnmade fault (O.held output.old) (O.faults output.old) result (O.held output.new) (O.faults output.new) }
 {
     match fault {
-        FormatFault::AlreadyStore => tell(output, b"exists\n", ALREADY_STORE),
-        FormatFault::Disk => tell(output, b"stopped\n", DISK_FAULT),
+        FormatFault::AlreadyStore => write_last_line(output, b"exists\n", ALREADY_STORE),
+        FormatFault::Disk => write_last_line(output, b"stopped\n", DISK_FAULT),
         FormatFault::NoMemory => OUT_OF_MEMORY,
     }
 }
 
 // Makes a store before its first event on the first disk.
 fn init<O: Sink, D: Disk>(alloc: Global, secrets: &Secrets, output: &mut O, a: D, b: D) -> Ended<D>
-    ensures { (words : List (String Global)) (left : Option (List ℕ)) (read_faults : ℕ) → AsksFor words Init → EndsWith secrets.now words (record { before = IsPinned D.clock D.left_since D.image a × IsPinned D.clock D.left_since D.image b; after = IsPinned D.clock D.left_since D.image result.a × IsPinned D.clock D.left_since D.image result.b })
-        (record { streams = record { left = left; read_faults = read_faults; held = O.held output.old; write_faults = O.faults output.old }; disks = record { a = D.image a; b = D.image b; a_faults = D.faults a; b_faults = D.faults b } })
-        (record { streams = record { left = left; read_faults = read_faults; held = O.held output.new; write_faults = O.faults output.new }; disks = record { a = D.image result.a; b = D.image result.b; a_faults = D.faults result.a; b_faults = D.faults result.b } }) result.status }
+    ensures { (words : List (String Global)) (left : Option (List ℕ)) (read_faults : ℕ) →
+        AsksFor words Init →
+        EndsWith secrets.now words
+        (rests_of (IsPinned D.clock D.left_since D.image) a b result.a result.b)
+        (ports_beside left read_faults O.held O.faults D.image D.faults output.old a b)
+        (ports_beside left read_faults O.held O.faults D.image D.faults output.new result.a result.b)
+        result.status }
 {
     let ring = match secrets.ring.copy(alloc) {
         Ok(ring) => ring,
@@ -253,13 +270,13 @@ fn init<O: Sink, D: Disk>(alloc: Global, secrets: &Secrets, output: &mut O, a: D
         Ok(store) => {
             let (a, b) = store.into_disks();
             Ended {
-                status: tell(output, b"ok\n", DONE),
+                status: write_last_line(output, b"ok\n", DONE),
                 a,
                 b,
             }
         }
         Err((fault, a, b)) => Ended {
-            status: tell_unmade(output, fault),
+            status: write_unmade(output, fault),
             a,
             b,
         },
@@ -278,15 +295,12 @@ fn run_task<R: Threads + Wait + Sync, I: Source, O: Sink, D: Disk>(
     b: D,
 ) -> Ended<D>
     requires fit { IsFit task }
-    ensures { (words : List (String Global)) → AsksFor words task → EndsWith secrets.now words (record { before = IsPinned D.clock D.left_since D.image a × IsPinned D.clock D.left_since D.image b; after = IsPinned D.clock D.left_since D.image result.a × IsPinned D.clock D.left_since D.image result.b })
-        (record {
-          streams = record { left = I.left input.old; read_faults = I.faults input.old; held = O.held output.old; write_faults = O.faults output.old };
-          disks = record { a = D.image a; b = D.image b; a_faults = D.faults a; b_faults = D.faults b };
-        })
-        (record {
-          streams = record { left = I.left input.new; read_faults = I.faults input.new; held = O.held output.new; write_faults = O.faults output.new };
-          disks = record { a = D.image result.a; b = D.image result.b; a_faults = D.faults result.a; b_faults = D.faults result.b };
-        }) result.status }
+    ensures { (words : List (String Global)) → AsksFor words task →
+        EndsWith secrets.now words
+        (rests_of (IsPinned D.clock D.left_since D.image) a b result.a result.b)
+        (ports_of I.left I.faults O.held O.faults D.image D.faults input.old output.old a b)
+        (ports_of I.left I.faults O.held O.faults D.image D.faults input.new output.new result.a result.b)
+        result.status }
 {
     match task {
         Task::Script => Ended {
@@ -319,7 +333,7 @@ fn run_task<R: Threads + Wait + Sync, I: Source, O: Sink, D: Disk>(
             b,
         },
         Task::Serve(_, _) => Ended {
-            status: tell(output, b"usage\n", USAGE),
+            status: write_last_line(output, b"usage\n", USAGE),
             a,
             b,
         },
@@ -339,20 +353,18 @@ pub fn run_asked<R: Threads + Wait + Sync, I: Source, O: Sink, D: Disk>(
     b: D,
 ) -> Ended<D>
     requires fit { IfSome asked IsFit }
-    ensures { (words : List (String Global)) → MatchOption asked (AreKnown words → ⊥) (AsksFor words) → EndsWith secrets.now words (record { before = IsPinned D.clock D.left_since D.image a × IsPinned D.clock D.left_since D.image b; after = IsPinned D.clock D.left_since D.image result.a × IsPinned D.clock D.left_since D.image result.b })
-        (record {
-          streams = record { left = I.left input.old; read_faults = I.faults input.old; held = O.held output.old; write_faults = O.faults output.old };
-          disks = record { a = D.image a; b = D.image b; a_faults = D.faults a; b_faults = D.faults b };
-        })
-        (record {
-          streams = record { left = I.left input.new; read_faults = I.faults input.new; held = O.held output.new; write_faults = O.faults output.new };
-          disks = record { a = D.image result.a; b = D.image result.b; a_faults = D.faults result.a; b_faults = D.faults result.b };
-        }) result.status }
+    ensures { (words : List (String Global)) →
+        MatchOption asked (AreKnown words → ⊥) (AsksFor words) →
+        EndsWith secrets.now words
+        (rests_of (IsPinned D.clock D.left_since D.image) a b result.a result.b)
+        (ports_of I.left I.faults O.held O.faults D.image D.faults input.old output.old a b)
+        (ports_of I.left I.faults O.held O.faults D.image D.faults input.new output.new result.a result.b)
+        result.status }
 {
     match asked {
         Some(task) => run_task(rt, alloc, task, secrets, input, output, a, b),
         None => Ended {
-            status: tell(output, b"usage\n", USAGE),
+            status: write_last_line(output, b"usage\n", USAGE),
             a,
             b,
         },
@@ -390,15 +402,11 @@ pub fn run_alone<R: Threads + Wait + Sync, I: Source, O: Sink, D: Disk>(
     a: D,
     b: D,
 ) -> Ended<D>
-    ensures { EndsWith secrets.now words.now.items (record { before = IsPinned D.clock D.left_since D.image a × IsPinned D.clock D.left_since D.image b; after = IsPinned D.clock D.left_since D.image result.a × IsPinned D.clock D.left_since D.image result.b })
-        (record {
-          streams = record { left = I.left input.old; read_faults = I.faults input.old; held = O.held output.old; write_faults = O.faults output.old };
-          disks = record { a = D.image a; b = D.image b; a_faults = D.faults a; b_faults = D.faults b };
-        })
-        (record {
-          streams = record { left = I.left input.new; read_faults = I.faults input.new; held = O.held output.new; write_faults = O.faults output.new };
-          disks = record { a = D.image result.a; b = D.image result.b; a_faults = D.faults result.a; b_faults = D.faults result.b };
-        }) result.status }
+    ensures { EndsWith secrets.now words.now.items
+        (rests_of (IsPinned D.clock D.left_since D.image) a b result.a result.b)
+        (ports_of I.left I.faults O.held O.faults D.image D.faults input.old output.old a b)
+        (ports_of I.left I.faults O.held O.faults D.image D.faults input.new output.new result.a result.b)
+        result.status }
 {
     match task_of(alloc, words) {
         Ok(asked) => run_asked(rt, alloc, asked, secrets, input, output, a, b),

@@ -1,4 +1,5 @@
--- A number that is the same for the same statement, so that most statements are told apart at once. This project's own; nothing but speed depends on it.
+-- A number that is the same for the same statement, so that most statements are told apart at once.
+-- This project's own; nothing but speed depends on it.
 use Rattle.std.specs.Prelude.{◌*◌, ◌+◌, ◌%◌, ◌^◌, ℕ, List, [], ◌∷◌, fold}
 use Rattle.std.specs.Int.{w64, cast_unsigned}
 use Rattle.bl_syntax.specs.declared.terms.TimePoint.{TimePoint}

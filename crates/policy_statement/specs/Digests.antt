@@ -1,4 +1,5 @@
--- The digests of what is registered, and whether anything was withdrawn. This project's own; nothing but speed depends on it.
+-- The digests of what is registered, and whether anything was withdrawn. This project's own;
+-- nothing but speed depends on it.
 use Rattle.std.specs.Prelude.{◌≡◌, ◌≢◌, ◌<◌, ◌≤◌, ℕ, List, Bool, length, slice_index, Some}
 use Rattle.std.specs.List.Sorted.{IsNonDecreasing}
 use Rattle.bl_syntax.specs.Statement.{StatementView}
@@ -19,9 +20,11 @@ pub record IsPlace (rising : List ℕ) (digest place : ℕ) : Type 0 where
 
 -- no digest of what is registered is missing
 abbrev pub HasDigests : List RegisteredView → List ℕ → Type 0
-HasDigests entries digests = (number : ℕ) (s : StatementView) → statement_of_number entries number ≡ Some s → IsMissing digests (digest_of s) → ⊥
+HasDigests entries digests = (number : ℕ) (s : StatementView) →
+    statement_of_number entries number ≡ Some s → IsMissing digests (digest_of s) → ⊥
 
--- there are at most 4,096 entries, these are their digests in rising order, and this is whether one of them was withdrawn
+-- there are at most 4,096 entries, these are their digests in rising order, and this is whether one
+-- of them was withdrawn
 pub record IsIndexed (entries : List RegisteredView) (digests : List ℕ) (ended : Bool) : Type 0 where
   pub few : length entries ≤ 4096
   pub rising : IsNonDecreasing digests

@@ -1,4 +1,5 @@
--- A ring of names, each with a key or with the root of a tree of hashes, and the signatures that it accepts: the tag of HMAC-SHA256 of the message under
+-- A ring of names, each with a key or with the root of a tree of hashes, and the signatures that it
+-- accepts: the tag of HMAC-SHA256 of the message under
 -- the key of who signs, or what the root accepts. This project's own.
 use Rattle.std.specs.Prelude.{ℕ, List, Bool, false, ◌&&◌, nat_le, Option, Some, None, IsSome, find, option_and_then}
 use Rattle.std.specs.Option.{option_map, option_map_or}
@@ -33,11 +34,13 @@ tag_by message (rooted height root) = None
 abbrev pub tag_of : List KeyView → List ℕ → List ℕ → Option (List ℕ)
 tag_of ring who message = option_and_then (tag_by message) (credential_of ring who)
 
--- whether a signature is the tag of the message under the key, or the root accepts it; no ring has a tree of a height over 8
+-- whether a signature is the tag of the message under the key, or the root accepts it; no ring has
+-- a tree of a height over 8
 abbrev pub accepts_by : List ℕ → List ℕ → Credential → Bool
 accepts_by message signature (keyed key) = bytes_eq (hmac key message) signature
 accepts_by message signature (rooted height root) = nat_le height 8 && accepts_root root height message signature
 
--- whether a signature is accepted from a name: by its key, by its root, or not at all where it has neither
+-- whether a signature is accepted from a name: by its key, by its root, or not at all where it has
+-- neither
 abbrev pub is_accepted : List KeyView → List ℕ → List ℕ → List ℕ → Bool
 is_accepted ring who message signature = option_map_or (accepts_by message signature) (credential_of ring who) false

@@ -46,11 +46,16 @@ withdrawn_from number [] = []
 withdrawn_from number (entry ∷ entries) = if entry.withdrawn then (number ∷ withdrawn_from (number + 1) entries) else (withdrawn_from (number + 1) entries)
 
 -- the statement of the number stands, and who said it signed its withdrawal, or did not
-abbrev pub IsLiveSigned : (List ℕ → List ℕ → List ℕ → Bool) → List RegisteredView → ℕ → List ℕ → Bool → Type 0
-IsLiveSigned accepts entries number signature signed = (s : StatementView) × (live_of_number entries number ≡ Some s) × (accepts s.who (withdraw_message s) signature ≡ signed)
+abbrev pub IsLiveSigned : (List ℕ → List ℕ → List ℕ → Bool) → List RegisteredView → ℕ → List ℕ →
+    Bool → Type 0
+IsLiveSigned accepts entries number signature signed = (s : StatementView) ×
+    (live_of_number entries number ≡ Some s) ×
+    (accepts s.who (withdraw_message s) signature ≡ signed)
 
--- whether and why not the statement of a number may be withdrawn under a signature: first it has to stand, then its withdrawal has to be signed by who said it
-abbrev pub MayWithdraw : (List ℕ → List ℕ → List ℕ → Bool) → List RegisteredView → ℕ → List ℕ → Result (Unit {0}) WithdrawFault → Type 0
+-- whether and why not the statement of a number may be withdrawn under a signature: first it has to
+-- stand, then its withdrawal has to be signed by who said it
+abbrev pub MayWithdraw : (List ℕ → List ℕ → List ℕ → Bool) → List RegisteredView → ℕ → List ℕ →
+    Result (Unit {0}) WithdrawFault → Type 0
 MayWithdraw accepts entries number signature (Ok done) = IsLiveSigned accepts entries number signature true
 MayWithdraw accepts entries number signature (Err Absent) = live_of_number entries number ≡ None
 MayWithdraw accepts entries number signature (Err BadSignature) = IsLiveSigned accepts entries number signature false

@@ -29,7 +29,8 @@ pub fn add_digest(rising: &mut Vec<u64>, digest: u64)
     requires room { vec_len rising.old < vec_capacity rising.old }
     requires rising { IsNonDecreasing rising.old.items }
     ensures rising { IsNonDecreasing rising.new.items }
-    ensures missing { (d : ℕ) → IsMissing rising.new.items d → IsMissing rising.old.items d × (digest ≢ d) }
+    ensures missing { (d : ℕ) → IsMissing rising.new.items d →
+        IsMissing rising.old.items d × (digest ≢ d) }
     ensures spare { spare_of rising.new + 1 ≡ spare_of rising.old }
 {
     let place = insertion_place(rising.as_slice(), digest);

@@ -1,5 +1,7 @@
--- Reading grants from their canonical bytes, from the left: the value and the bytes after it, or the first fault. The order of the faults is this project's
--- own. A condition is read whole, and then tested as one field; the number of conditions is tested as soon as it is there, and so
+-- Reading grants from their canonical bytes, from the left: the value and the bytes after it, or
+-- the first fault. The order of the faults is this project's
+-- own. A condition is read whole, and then tested as one field; the number of conditions is tested
+-- as soon as it is there, and so
 -- is that of the statements that a grant names.
 use Rattle.std.specs.Prelude.{ℕ, zero, suc, ◌-◌, List, [], ◌∷◌, ◌++◌, length, Bool, not, ◌&&◌, ◌||◌, nat_lt, nat_le, ◌==◌, if◌then◌else◌, Result, Ok, Err}
 use Rattle.std.specs.List.{list_any}
@@ -31,7 +33,8 @@ goal_at input bytes = do
   Ok (record { who = who.0; file = record { 0 = file.0 }; perm = perm.0 }, perm.1)
 
 -- one, and then another
-unfoldable pub both_at : {A B : Type 0} → (ℕ → List ℕ → Reading A) → (ℕ → List ℕ → Reading B) → ℕ → List ℕ → Reading (A × B)
+unfoldable pub both_at : {A B : Type 0} → (ℕ → List ℕ → Reading A) → (ℕ → List ℕ → Reading B) → ℕ →
+    List ℕ → Reading (A × B)
 both_at first_at second_at input bytes = do
   first ← first_at input bytes
   second ← second_at input first.1
@@ -70,7 +73,8 @@ abbrev pub may_follow_states : List StatePred → StatePred → Bool
 may_follow_states before s = is_state_condition s && not (is_state_among before s)
 
 -- so many conditions after those before; each may follow
-unfoldable pub items_at : {A : Type 0} → (ℕ → List ℕ → Reading A) → (List A → A → Bool) → ℕ → ℕ → List A → List ℕ → Reading (List A)
+unfoldable pub items_at : {A : Type 0} → (ℕ → List ℕ → Reading A) → (List A → A → Bool) → ℕ → ℕ →
+    List A → List ℕ → Reading (List A)
 items_at one_at may_follow zero input before bytes = Ok (before, bytes)
 items_at one_at may_follow (suc count) input before bytes = do
   one ← one_at input bytes
@@ -82,7 +86,8 @@ count_at most input [] = Err Short
 count_at most input (count ∷ rest) = if nat_lt most count then Err (NotCanonical (place input (count ∷ rest))) else Ok (count, rest)
 
 -- how many conditions there are, and each
-unfoldable pub conditions_at : {A : Type 0} → (ℕ → List ℕ → Reading A) → (List A → A → Bool) → ℕ → ℕ → List ℕ → Reading (List A)
+unfoldable pub conditions_at : {A : Type 0} → (ℕ → List ℕ → Reading A) → (List A → A → Bool) → ℕ →
+    ℕ → List ℕ → Reading (List A)
 conditions_at one_at may_follow most input bytes = do
   count ← count_at most input bytes
   items_at one_at may_follow count.0 input [] count.1

@@ -1,4 +1,5 @@
--- Canonical bytes of grants: the one spelling of each. The format is this project's own. Its numbers are big-endian.
+-- Canonical bytes of grants: the one spelling of each. The format is this project's own. Its
+-- numbers are big-endian.
 use Rattle.std.specs.Prelude.{ℕ, ◌<◌, ◌^◌, List, [], ◌∷◌, ◌++◌, length, IsTrue}
 use Rattle.std.specs.List.{flat_map, AllByRecursion}
 use Rattle.std.specs.Int.{w32, w64, to_be_bytes}
@@ -32,7 +33,8 @@ version_of (number ∷ numbers) = 2
 abbrev pub name_spelling : ℕ → List ℕ
 name_spelling number = to_be_bytes w32 number
 
--- the statements that a grant names: how many, and the number of each; nothing at all if it names none
+-- the statements that a grant names: how many, and the number of each; nothing at all if it names
+-- none
 abbrev pub names_spelling : List ℕ → List ℕ
 names_spelling [] = []
 names_spelling (number ∷ numbers) = list_spelling name_spelling (number ∷ numbers)

@@ -1,4 +1,5 @@
--- Procaps: a grant with its tag; their one spelling, and their reading (after procaps: Garg and Pfenning, A proof-carrying file system, 2010). The format is this
+-- Procaps: a grant with its tag; their one spelling, and their reading (after procaps: Garg and
+-- Pfenning, A proof-carrying file system, 2010). The format is this
 -- project's own.
 use Rattle.std.specs.Prelude.{◌≡◌, ℕ, List, [], ◌∷◌, ◌++◌, length, take, drop, nat_lt, if◌then◌else◌, Result, Ok, Err, IfOk, IfErr}
 use Rattle.bl_syntax.specs.declared.codec_fault.CodecFault.{CodecFault}
@@ -37,7 +38,8 @@ at_end input (x, byte ∷ rest) = Err (faults.NotCanonical (place input (byte �
 unfoldable pub whole_procap : List ℕ → Result Procap CodecFault
 whole_procap bytes = procap_at (length bytes) bytes >>= at_end (length bytes)
 
--- what a call read of the whole bytes: the value of which they are the spelling, or a fault, which comes only if they spell none, or because memory runs out
+-- what a call read of the whole bytes: the value of which they are the spelling, or a fault, which
+-- comes only if they spell none, or because memory runs out
 pub record ReadsWholeProcap {A : Type 0} (IsSpelled : A → Type 0) (spelling : A → List ℕ) (bytes : List ℕ) (result : Result A CodecFault) : Type 0 where
   pub found : IfOk result (λ x. IsSpelled x × (bytes ≡ spelling x))
   pub refused : IfErr result (λ fault. (fault ≡ faults.NoMemory → ⊥) → (x : A) → IsSpelled x → bytes ≡ spelling x → ⊥)

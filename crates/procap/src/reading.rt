@@ -231,7 +231,8 @@ fn add_times_at<'a>(
     bytes: &'a [u8],
 ) -> Result<&'a [u8], CodecFault>
     requires { length grant.old.times + length grant.old.states + count ≤ MOST_CONDITIONS }
-    ensures read { GivesReadingOrReports (λ rest. (grant.new.times, rest.now)) result (items_at time_condition_at may_follow_times count input grant.old.times bytes.now) }
+    ensures read { GivesReadingOrReports (λ rest. (grant.new.times, rest.now)) result
+        (items_at time_condition_at may_follow_times count input grant.old.times bytes.now) }
     ensures others { IfOk result (λ _. grant.new ≡ record grant.old { times = grant.new.times }) }
     ensures counted { IfOk result (λ _. length grant.new.times ≡ length grant.old.times + count) }
 {
@@ -258,7 +259,8 @@ fn add_states_at<'a>(
     bytes: &'a [u8],
 ) -> Result<&'a [u8], CodecFault>
     requires { length grant.old.times + length grant.old.states + count ≤ MOST_CONDITIONS }
-    ensures read { GivesReadingOrReports (λ rest. (grant.new.states, rest.now)) result (items_at state_condition_at may_follow_states count input grant.old.states bytes.now) }
+    ensures read { GivesReadingOrReports (λ rest. (grant.new.states, rest.now)) result
+        (items_at state_condition_at may_follow_states count input grant.old.states bytes.now) }
     ensures others { IfOk result (λ _. grant.new ≡ record grant.old { states = grant.new.states }) }
     ensures counted { IfOk result (λ _. length grant.new.states ≡ length grant.old.states + count) }
 {
@@ -281,7 +283,8 @@ fn add_states_at<'a>(
 fn times_at<'a>(grant: &mut Grant, input: usize, bytes: &'a [u8]) -> Result<&'a [u8], CodecFault>
     requires no_times { grant.old.times ≡ [] }
     requires no_states { grant.old.states ≡ [] }
-    ensures read { GivesReadingOrReports (λ rest. (grant.new.times, rest.now)) result (conditions_at time_condition_at may_follow_times MOST_CONDITIONS input bytes.now) }
+    ensures read { GivesReadingOrReports (λ rest. (grant.new.times, rest.now)) result
+        (conditions_at time_condition_at may_follow_times MOST_CONDITIONS input bytes.now) }
     ensures others { IfOk result (λ _. grant.new ≡ record grant.old { times = grant.new.times }) }
     ensures few { IfOk result (λ _. length grant.new.times ≤ MOST_CONDITIONS) }
 {
@@ -298,7 +301,9 @@ fn times_at<'a>(grant: &mut Grant, input: usize, bytes: &'a [u8]) -> Result<&'a 
 fn states_at<'a>(grant: &mut Grant, input: usize, bytes: &'a [u8]) -> Result<&'a [u8], CodecFault>
     requires few { length grant.old.times ≤ MOST_CONDITIONS }
     requires no_states { grant.old.states ≡ [] }
-    ensures read { GivesReadingOrReports (λ rest. (grant.new.states, rest.now)) result (conditions_at state_condition_at may_follow_states (MOST_CONDITIONS - length grant.old.times) input bytes.now) }
+    ensures read { GivesReadingOrReports (λ rest. (grant.new.states, rest.now)) result
+        (conditions_at state_condition_at may_follow_states
+        (MOST_CONDITIONS - length grant.old.times) input bytes.now) }
     ensures others { IfOk result (λ _. grant.new ≡ record grant.old { states = grant.new.states }) }
 {
     let left = MOST_CONDITIONS - grant.times().len();

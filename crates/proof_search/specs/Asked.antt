@@ -11,7 +11,8 @@ use Rattle.proof_search.specs.declared.asked.Moments.TheVariants as moments
 -- the conditions on time hold at some moment, or at each one that is asked for
 abbrev pub AreMet : Moments → List Constraint → Type 0
 AreMet moments.Some times = AreSatisfiable times
-AreMet (moments.Each from to) times = (second : ℤ) → LiesBetween (At from) (At to) second → MeetsConditions times second
+AreMet (moments.Each from to) times = (second : ℤ) → LiesBetween (At from) (At to) second →
+    MeetsConditions times second
 
 -- the conditions on the state are facts, or may be left over
 abbrev pub AreLeft : List StatePred → Bool → List StatePred → Type 0

@@ -1,7 +1,6 @@
 -- What a proof that was found keeps (this project's own).
 use Rattle.std.specs.Prelude.{◌≡◌, ℕ, List, map, Contains}
 use Rattle.std.specs.List.{AllByRecursion}
-use Rattle.bl_syntax.specs.declared.grant.Goal.{Goal}
 use Rattle.proof_verifier.specs.declared.cites.Cite.{Cite}
 use Rattle.proof_verifier.specs.Cited.{AreCited}
 use Rattle.proof_verifier.specs.CheckedView.{IsChecked}
@@ -14,8 +13,10 @@ pub record AreAmong (statements : List Cite) (numbers : List ℕ) (cites : List 
   pub numbers_are : numbers ≡ map (λ (c : Cite). c.number) cites
   pub among : AllByRecursion (Contains statements) cites
 
--- The proof is one of the goal that is asked for, from statements of the list under these numbers. It has a verdict: a grant, which is sound for them.
--- Its conditions on time hold at the moments that are asked for, and those on the state are facts, or may be left over.
+-- The proof is one of the goal that is asked for, from statements of the list under these numbers.
+-- It has a verdict: a grant, which is sound for them.
+-- Its conditions on time hold at the moments that are asked for, and those on the state are facts,
+-- or may be left over.
 pub record IsProved (statements : List Cite) (asked : Asked) (proved : Proved) : Type 0 where
   pub goal_is : proved.checked.goal ≡ asked.goal
   pub cited : AreAmong statements proved.numbers proved.checked.cited

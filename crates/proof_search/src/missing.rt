@@ -9,6 +9,7 @@ use crate::asked::{Asked, Moments};
 use crate::confirming::confirm;
 use crate::searching::{machine_for, numbers_of};
 use crate::spelling::proof_of;
+use bl_syntax::limits::MOST_CITED;
 use bl_syntax::{
     Bytes, Formula, NoMemory, Numbers, Principal, Sort, Statement, Term, Terms, TimePoint, Word,
 };
@@ -25,9 +26,6 @@ const MOST_COMPARED: usize = 24;
 
 /// So far is what something else could give as well.
 const FAR: usize = 10;
-
-/// A proof cites at most so many statements.
-const MOST_CITED: usize = 64;
 
 /// What the numbers of a search stand for.
 #[derive(Drop)]

@@ -30,7 +30,8 @@ size (says_l h p) = 1 + size p
 size (claim h p) = 1 + size p
 size (at_l h p) = 1 + size p
 
--- the number of nodes from the root down to the farthest node, both counted: a rule without premises has depth 1
+-- the number of nodes from the root down to the farthest node, both counted: a rule without
+-- premises has depth 1
 abbrev pub depth : ProofView → ℕ
 depth (init h) = 1
 depth cons_r = 1
@@ -75,7 +76,8 @@ HasTimesInRange (inter_l h p) = HasTimesInRange p
 HasTimesInRange (and_l h p) = HasTimesInRange p
 HasTimesInRange (or_l h p q) = HasTimesInRange p × HasTimesInRange q
 HasTimesInRange (false_l h) = Unit {0}
-HasTimesInRange (imp_l h t1 t2 p q) = (HasTimeInRange t1 × HasTimeInRange t2) × (HasTimesInRange p × HasTimesInRange q)
+HasTimesInRange (imp_l h t1 t2 p q) = (HasTimeInRange t1 × HasTimeInRange t2) ×
+    (HasTimesInRange p × HasTimesInRange q)
 HasTimesInRange (forall_l h t p) = HasTimeInRange t × HasTimesInRange p
 HasTimesInRange (exists_l h p) = HasTimesInRange p
 HasTimesInRange (says_l h p) = HasTimesInRange p

@@ -1,6 +1,9 @@
--- Proofs as plain data, without where their parts lie in memory: one constructor a rule, with its fields in order (after the sequent calculus of BL: Garg,
--- Proof theory for authorization logic and its application to a practical file system; the choice of rules and of what each names is this project's own).
--- A right rule proves the goal from its form; a left rule uses a hypothesis, which it names by its number.
+-- Proofs as plain data, without where their parts lie in memory: one constructor a rule, with its
+-- fields in order (after the sequent calculus of BL: Garg,
+-- Proof theory for authorization logic and its application to a practical file system; the choice
+-- of rules and of what each names is this project's own).
+-- A right rule proves the goal from its form; a left rule uses a hypothesis, which it names by its
+-- number.
 use Rattle.std.specs.Prelude.{ℕ}
 use Rattle.bl_syntax.specs.declared.terms.Term.{Term}
 use Rattle.proof_term.specs.declared.proof.Proof.{Proof}

@@ -57,7 +57,8 @@ abbrev by_term : (Term → ProofView → ProofView) → List Term → List Proof
 by_term f (t ∷ []) proofs = wrap (f t) proofs
 by_term f _ proofs = []
 
-abbrev by_terms : (Term → Term → ProofView → ProofView → ProofView) → List Term → List ProofView → List ProofView
+abbrev by_terms : (Term → Term → ProofView → ProofView → ProofView) → List Term → List ProofView →
+    List ProofView
 by_terms f (t1 ∷ t2 ∷ []) proofs = join (f t1 t2) proofs
 by_terms f _ proofs = []
 
@@ -94,14 +95,20 @@ build (n ∷ ns) proofs = build ns (after_node n proofs)
 
 -- the nodes of a proof make it
 abbrev MakesProof : ProofView → Type 0
-MakesProof d = (rest : List ProofNode) (proofs : List ProofView) → build (nodes d ++ rest) proofs ≡ build rest (d ∷ proofs)
+MakesProof d = (rest : List ProofNode) (proofs : List ProofView) →
+    build (nodes d ++ rest) proofs ≡ build rest (d ∷ proofs)
 
-after_two : (p q : ProofView) (n : ProofNode) → MakesProof p → MakesProof q → (rest : List ProofNode) (proofs : List ProofView) → build ((nodes p ++ (nodes q ++ n ∷ [])) ++ rest) proofs ≡ build rest (after_node n (q ∷ p ∷ proofs))
+after_two : (p q : ProofView) (n : ProofNode) → MakesProof p → MakesProof q →
+    (rest : List ProofNode) (proofs : List ProofView) →
+    build ((nodes p ++ (nodes q ++ n ∷ [])) ++ rest) proofs ≡ build rest (after_node n (q ∷ p ∷ proofs))
 after_two p q n makes_p makes_q rest proofs =
-    ap (λ (ns : List ProofNode). build ns proofs) (append_assoc (nodes p) (nodes q ++ n ∷ []) rest ∙ ap (λ (ns : List ProofNode). nodes p ++ ns) (append_assoc (nodes q) (n ∷ []) rest))
+    ap (λ (ns : List ProofNode). build ns proofs) (append_assoc (nodes p) (nodes q ++ n ∷ []) rest
+    ∙ ap (λ (ns : List ProofNode). nodes p ++ ns) (append_assoc (nodes q) (n ∷ []) rest))
     ∙ makes_p (nodes q ++ (n ∷ rest)) proofs ∙ makes_q (n ∷ rest) (p ∷ proofs)
 
-after_one : (p : ProofView) (n : ProofNode) → MakesProof p → (rest : List ProofNode) (proofs : List ProofView) → build ((nodes p ++ n ∷ []) ++ rest) proofs ≡ build rest (after_node n (p ∷ proofs))
+after_one : (p : ProofView) (n : ProofNode) → MakesProof p →
+    (rest : List ProofNode) (proofs : List ProofView) →
+    build ((nodes p ++ n ∷ []) ++ rest) proofs ≡ build rest (after_node n (p ∷ proofs))
 after_one p n makes_p rest proofs =
     ap (λ (ns : List ProofNode). build ns proofs) (append_assoc (nodes p) (n ∷ []) rest) ∙ makes_p (n ∷ rest) proofs
 

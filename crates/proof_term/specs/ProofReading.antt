@@ -1,5 +1,7 @@
--- Reading a proof's canonical bytes from the left: the proof and the bytes after it, or the first fault. The order of the faults is this project's own.
--- At a node the tag is tested first, then the number of nodes, then the depth, and then the fields in order.
+-- Reading a proof's canonical bytes from the left: the proof and the bytes after it, or the first
+-- fault. The order of the faults is this project's own.
+-- At a node the tag is tested first, then the number of nodes, then the depth, and then the fields
+-- in order.
 use Rattle.std.specs.Prelude.{◌≡◌, ◌-◌, ℕ, zero, suc, List, [], ◌∷◌, length, Bool, ◌&&◌, ◌||◌, nat_le, ◌==◌, if◌then◌else◌, Result, Ok, Err}
 use Rattle.std.specs.Int.{w16}
 use Rattle.bl_syntax.specs.declared.limits.TheConstants.{MOST_PROOF_NODES, MOST_PROOF_LEVELS}
@@ -19,7 +21,8 @@ use Rattle.proof_term.specs.Faults.{of_field}
 
 -- one reading, and then another of the bytes after it, unless the first has a fault
 infixl 10 ◌>>=◌
-abbrev pub ◌>>=◌ : {A B : Type 0} → Result A ProofFault → (A → Result B ProofFault) → Result B ProofFault
+abbrev pub ◌>>=◌ : {A B : Type 0} → Result A ProofFault → (A → Result B ProofFault) →
+    Result B ProofFault
 (Ok x) >>= f = f x
 (Err e) >>= f = Err e
 
@@ -101,7 +104,8 @@ left_rule_at input start tag rest =
 unfoldable pub rule_at : ℕ → ℕ → ℕ → List ℕ → RuleReading
 rule_at input start tag rest = if is_right tag then right_rule_at input start tag rest else left_rule_at input start tag rest
 
--- a proof, how many nodes are left of those that may still be read, and the bytes after it, or a fault
+-- a proof, how many nodes are left of those that may still be read, and the bytes after it, or a
+-- fault
 abbrev pub ProofReading : Type 0
 ProofReading = Result (ProofView × (ℕ × List ℕ)) ProofFault
 
@@ -149,6 +153,7 @@ ReportsProofFault (TooLarge at) read = read ≡ Err (TooLarge at)
 ReportsProofFault (TooDeep at) read = read ≡ Err (TooDeep at)
 ReportsProofFault (BadTerm fault) read = read ≡ Err (BadTerm fault)
 
-abbrev pub GivesProofReading : {X Y : Type 0} → (X → Y) → Result X ProofFault → Result Y ProofFault → Type 0
+abbrev pub GivesProofReading : {X Y : Type 0} → (X → Y) → Result X ProofFault →
+    Result Y ProofFault → Type 0
 GivesProofReading view (Ok x) read = read ≡ Ok (view x)
 GivesProofReading view (Err e) read = ReportsProofFault e read

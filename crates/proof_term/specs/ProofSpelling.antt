@@ -1,5 +1,7 @@
--- Canonical bytes of proofs: the one spelling of each proof. The format is this project's own. Its numbers are big-endian.
--- A rule has a tag and then its hypothesis and its terms; the spellings of its premises follow in order.
+-- Canonical bytes of proofs: the one spelling of each proof. The format is this project's own. Its
+-- numbers are big-endian.
+-- A rule has a tag and then its hypothesis and its terms; the spellings of its premises follow in
+-- order.
 use Rattle.std.specs.Prelude.{◌<◌, ◌^◌, ℕ, List, [], ◌∷◌, ◌++◌}
 use Rattle.std.specs.Int.{w16, to_be_bytes}
 use Rattle.bl_syntax.specs.Spelling.{IsSpellable, term_spelling}
@@ -50,7 +52,8 @@ two_spelling (ImpL h t1 t2) = 0x16 ∷ hypothesis h ++ (term_spelling t1 ++ term
 abbrev pub proof_spelling : ProofView → List ℕ
 proof_spelling d = fold_proof axiom_spelling (λ r p. one_spelling r ++ p) (λ r p q. two_spelling r ++ (p ++ q)) d
 
--- what the rule names has a spelling: a hypothesis whose number fits two bytes, and terms that have one
+-- what the rule names has a spelling: a hypothesis whose number fits two bytes, and terms that have
+-- one
 abbrev pub IsSpellableHypothesis : ℕ → Type 0
 IsSpellableHypothesis h = h < 2 ^ 16
 

@@ -1,4 +1,5 @@
--- Rules with what they name, apart from the proofs of their premises, and what is made of a proof from its rules.
+-- Rules with what they name, apart from the proofs of their premises, and what is made of a proof
+-- from its rules.
 use Rattle.proof_term.specs.declared.rule.Axiom.{Axiom}
 use Rattle.proof_term.specs.declared.rule.Axiom.TheVariants as axioms
 use Rattle.proof_term.specs.declared.rule.OnePremise.{OnePremise}
@@ -40,7 +41,8 @@ by_two (two.OrL h) p q = or_l h p q
 by_two (two.ImpL h t1 t2) p q = imp_l h t1 t2 p q
 
 -- what is made of a proof: of its rule, and of what is made of its premises
-abbrev pub fold_proof {ℓ} : {A : Type ℓ} → (Axiom → A) → (OnePremise → A → A) → (TwoPremises → A → A → A) → ProofView → A
+abbrev pub fold_proof {ℓ} : {A : Type ℓ} → (Axiom → A) → (OnePremise → A → A) →
+    (TwoPremises → A → A → A) → ProofView → A
 fold_proof a f g (init h) = a (axioms.Init h)
 fold_proof a f g cons_r = a axioms.ConsR
 fold_proof a f g inter_r = a axioms.InterR

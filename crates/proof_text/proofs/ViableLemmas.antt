@@ -183,24 +183,24 @@ opened_further {f = f} {g} {fs} o s c = record {
 -- ---- readings, by what they give and what they stop at
 
 -- what it gives is so, and what it stops at is so
-record Told {A : Type 0} (G : A → Type 0) (F : TextFault → Type 0) (r : Result A TextFault) : Type 0 where
+record Reported {A : Type 0} (G : A → Type 0) (F : TextFault → Type 0) (r : Result A TextFault) : Type 0 where
   it : MatchResult r G F
 
-told_then : {A B : Type 0} {G : A → Type 0} {H : B → Type 0} {F E : TextFault → Type 0} {r : Result A TextFault} (k : A → Result B TextFault) → Told G F r → ((e : TextFault) → F e → E e) → ((x : A) → G x → Told H E (k x)) → Told H E (r >>= k)
+told_then : {A B : Type 0} {G : A → Type 0} {H : B → Type 0} {F E : TextFault → Type 0} {r : Result A TextFault} (k : A → Result B TextFault) → Reported G F r → ((e : TextFault) → F e → E e) → ((x : A) → G x → Reported H E (k x)) → Reported H E (r >>= k)
 told_then {r = Ok x} k told stops goes = goes x told.it
 told_then {r = Err e} k told stops goes = record { it = stops e told.it }
 
-told_ok : {A : Type 0} {G : A → Type 0} {F : TextFault → Type 0} {r : Result A TextFault} {x : A} → r ≡ Ok x → Told G F r → G x
-told_ok {A} {G} {F} h told = (subst (Told G F) h told).it
+told_ok : {A : Type 0} {G : A → Type 0} {F : TextFault → Type 0} {r : Result A TextFault} {x : A} → r ≡ Ok x → Reported G F r → G x
+told_ok {A} {G} {F} h told = (subst (Reported G F) h told).it
 
-told_err : {A : Type 0} {G : A → Type 0} {F : TextFault → Type 0} {r : Result A TextFault} {e : TextFault} → r ≡ Err e → Told G F r → F e
-told_err {A} {G} {F} h told = (subst (Told G F) h told).it
+told_err : {A : Type 0} {G : A → Type 0} {F : TextFault → Type 0} {r : Result A TextFault} {e : TextFault} → r ≡ Err e → Reported G F r → F e
+told_err {A} {G} {F} h told = (subst (Reported G F) h told).it
 
-told_if : {A : Type 0} {G : A → Type 0} {F : TextFault → Type 0} (b : Bool) (x : A) (e : TextFault) → (b ≡ true → G x) → F e → Told G F (if b then Ok x else Err e)
+told_if : {A : Type 0} {G : A → Type 0} {F : TextFault → Type 0} (b : Bool) (x : A) (e : TextFault) → (b ≡ true → G x) → F e → Reported G F (if b then Ok x else Err e)
 told_if true x e good stops = record { it = good refl }
 told_if false x e good stops = record { it = stops }
 
-told_as : {A : Type 0} {G H : A → Type 0} {F E : TextFault → Type 0} {r : Result A TextFault} → Told G F r → ((x : A) → G x → H x) → ((e : TextFault) → F e → E e) → Told H E r
+told_as : {A : Type 0} {G H : A → Type 0} {F E : TextFault → Type 0} {r : Result A TextFault} → Reported G F r → ((x : A) → G x → H x) → ((e : TextFault) → F e → E e) → Reported H E r
 told_as {r = Ok x} told good stops = record { it = good x told.it }
 told_as {r = Err e} told good stops = record { it = stops e told.it }
 
@@ -218,14 +218,14 @@ at_token text here e is = is ∙ ap Some (token_next text here)
 one_token : (text : List ℕ) (here : ProofCursor) → AreWordsAt text here.from (token_at text here).end (token (token_at text here).token ∷ [])
 one_token text here = token_there here (token_at text here).end [] (nothing (token_at text here).end)
 
-sign_told : (text : List ℕ) (sign : Sign') (here : ProofCursor) → Told (λ there. HasSign text sign here.from there.from) (Next text here) (cursor_after_sign text sign here)
+sign_told : (text : List ℕ) (sign : Sign') (here : ProofCursor) → Reported (λ there. HasSign text sign here.from there.from) (Next text here) (cursor_after_sign text sign here)
 unfolding cursor_after_sign
 sign_told text sign here =
     told_if (is_sign sign (token_at text here).token) (cursor_after_token (token_at text here)) (Unexpected (token_at text here).at)
     (λ is. record { found = (token_at text here).token; is = is; stands = one_token text here })
     (at_token text here (Unexpected (token_at text here).at) refl)
 
-token_told : (at : ℕ) (t : Token) (end left : ℕ) → Told (λ u. IsTerm [] t) (λ e. fault_place e ≡ Some at) (term_of [] (record { at = at; token = t; end = end; left = left }))
+token_told : (at : ℕ) (t : Token) (end left : ℕ) → Reported (λ u. IsTerm [] t) (λ e. fault_place e ≡ Some at) (term_of [] (record { at = at; token = t; end = end; left = left }))
 unfolding term_of
 token_told at (Name name) end left = record { it = principal name }
 token_told at (Constant u) end left = record { it = constant u }
@@ -239,7 +239,7 @@ token_told at End end left = record { it = refl }
 token_told at Bad end left = record { it = refl }
 
 -- a term, and the place after it
-term_told : (text : List ℕ) (here : ProofCursor) → Told (λ x. Spelled text here.from x.1.from (term ∷ [])) (Next text here) (term_at text here)
+term_told : (text : List ℕ) (here : ProofCursor) → Reported (λ x. Spelled text here.from x.1.from (term ∷ [])) (Next text here) (term_at text here)
 unfolding term_at
 term_told text here =
     let found = token_at text here in
@@ -253,7 +253,7 @@ time_by found = term_of [] found >>= (λ t. require_sort [] sorts.Time found.at 
 abbrev IsTimed : Token → ℕ → Term × ProofCursor → Type 0
 IsTimed t end x = (x.1.from ≡ end) × ProofSentence (time ∷ []) (token t ∷ [])
 
-timed_told : (at : ℕ) (t : Token) (end left : ℕ) → Told (IsTimed t end) (λ e. fault_place e ≡ Some at) (time_by (record { at = at; token = t; end = end; left = left }))
+timed_told : (at : ℕ) (t : Token) (end left : ℕ) → Reported (IsTimed t end) (λ e. fault_place e ≡ Some at) (time_by (record { at = at; token = t; end = end; left = left }))
 unfolding term_of require_sort
 timed_told at (Constant u) end left =
     told_then {G = λ _. is_of_wanted_sort [] sorts.Time u ≡ true} {F = λ e. fault_place e ≡ Some at} (λ _. Ok (u, cursor_at end left)) (told_if (is_of_wanted_sort [] sorts.Time u) tt (faults.Sort at) (λ h. h) refl) (λ e is. is)
@@ -269,7 +269,7 @@ timed_told at End end left = record { it = refl }
 timed_told at Bad end left = record { it = refl }
 
 -- a time, and the place after it
-time_told : (text : List ℕ) (here : ProofCursor) → Told (λ x. Spelled text here.from x.1.from (time ∷ [])) (Next text here) (time_at text here)
+time_told : (text : List ℕ) (here : ProofCursor) → Reported (λ x. Spelled text here.from x.1.from (time ∷ [])) (Next text here) (time_at text here)
 unfolding time_at
 time_told text here =
     let found = token_at text here in
@@ -279,48 +279,48 @@ time_told text here =
 
 -- ---- hypotheses and rules
 
-by_number : (text : List ℕ) (here : ProofCursor) (r : Result (ℕ × ProofCursor) TextFault) → hypothesis_at text here ≡ r → Told (λ x. Unit {0}) (Next text here) r → Told (λ x. Spelled text here.from x.1.from (hypothesis ∷ [])) (Next text here) r
+by_number : (text : List ℕ) (here : ProofCursor) (r : Result (ℕ × ProofCursor) TextFault) → hypothesis_at text here ≡ r → Reported (λ x. Unit {0}) (Next text here) r → Reported (λ x. Spelled text here.from x.1.from (hypothesis ∷ [])) (Next text here) r
 by_number text here (Ok (h, there)) is told = record { it = record { words = number h ∷ []; stands = number_there here there there.from h [] is (nothing there.from); sentence = a_hypothesis h } }
 by_number text here (Err e) is told = record { it = told.it }
 
-numbered_told : (at size left : ℕ) (o : Option ℕ) → Told (λ x. Unit {0}) (λ e. fault_place e ≡ Some at) (hypothesis_reading at size left o)
+numbered_told : (at size left : ℕ) (o : Option ℕ) → Reported (λ x. Unit {0}) (λ e. fault_place e ≡ Some at) (hypothesis_reading at size left o)
 numbered_told at size left None = record { it = refl }
 numbered_told at size left (Some n) = record { it = tt }
 
-number_stops : (text : List ℕ) (here : ProofCursor) → Told (λ x. Unit {0}) (Next text here) (hypothesis_at text here)
+number_stops : (text : List ℕ) (here : ProofCursor) → Reported (λ x. Unit {0}) (Next text here) (hypothesis_at text here)
 unfolding hypothesis_at
 number_stops text here =
     let digits = take_while (is_in classes.Digit) (drop (first_byte text here) text) in numbered_told (first_byte text here) (length digits) here.left (numeral_below (2 ^ 16) digits)
 
-number_told : (text : List ℕ) (here : ProofCursor) → Told (λ x. Spelled text here.from x.1.from (hypothesis ∷ [])) (Next text here) (hypothesis_at text here)
+number_told : (text : List ℕ) (here : ProofCursor) → Reported (λ x. Spelled text here.from x.1.from (hypothesis ∷ [])) (Next text here) (hypothesis_at text here)
 number_told text here = by_number text here (hypothesis_at text here) refl (number_stops text here)
 
 -- the name of a rule stands there
 record HasName (text : List ℕ) (from to : ℕ) (rule : RuleName) : Type 0 where
   stands : AreWordsAt text from to (rule_name rule ∷ [])
 
-by_name : (text : List ℕ) (here : ProofCursor) (r : Result (RuleName × ProofCursor) TextFault) → rule_at text here ≡ r → Told (λ x. Unit {0}) (Next text here) r → Told (λ x. HasName text here.from x.1.from x.0) (Next text here) r
+by_name : (text : List ℕ) (here : ProofCursor) (r : Result (RuleName × ProofCursor) TextFault) → rule_at text here ≡ r → Reported (λ x. Unit {0}) (Next text here) r → Reported (λ x. HasName text here.from x.1.from x.0) (Next text here) r
 by_name text here (Ok (rule, there)) is told = record { it = record { stands = rule_there here there there.from rule [] is (nothing there.from) } }
 by_name text here (Err e) is told = record { it = told.it }
 
-named_told : (at size left : ℕ) (o : Option RuleName) → Told (λ x. Unit {0}) (λ e. fault_place e ≡ Some at) (rule_reading at size left o)
+named_told : (at size left : ℕ) (o : Option RuleName) → Reported (λ x. Unit {0}) (λ e. fault_place e ≡ Some at) (rule_reading at size left o)
 named_told at size left None = record { it = refl }
 named_told at size left (Some n) = record { it = tt }
 
-name_stops_by : (b : Bool) (at : ℕ) (r : Result (RuleName × ProofCursor) TextFault) → Told (λ x. Unit {0}) (λ e. fault_place e ≡ Some at) r → Told (λ x. Unit {0}) (λ e. fault_place e ≡ Some at) (if b then r else Err (Unexpected at))
+name_stops_by : (b : Bool) (at : ℕ) (r : Result (RuleName × ProofCursor) TextFault) → Reported (λ x. Unit {0}) (λ e. fault_place e ≡ Some at) r → Reported (λ x. Unit {0}) (λ e. fault_place e ≡ Some at) (if b then r else Err (Unexpected at))
 name_stops_by true at r told = told
 name_stops_by false at r told = record { it = refl }
 
-name_stops : (text : List ℕ) (here : ProofCursor) → Told (λ x. Unit {0}) (Next text here) (rule_at text here)
+name_stops : (text : List ℕ) (here : ProofCursor) → Reported (λ x. Unit {0}) (Next text here) (rule_at text here)
 unfolding rule_at
 name_stops text here =
     let bytes = drop (first_byte text here) text in
     let word = take_while (is_in classes.Word) bytes in name_stops_by (is_word_start bytes) (first_byte text here) (rule_reading (first_byte text here) (length word) here.left (rule_named word)) (named_told (first_byte text here) (length word) here.left (rule_named word))
 
-name_told : (text : List ℕ) (here : ProofCursor) → Told (λ x. HasName text here.from x.1.from x.0) (Next text here) (rule_at text here)
+name_told : (text : List ℕ) (here : ProofCursor) → Reported (λ x. HasName text here.from x.1.from x.0) (Next text here) (rule_at text here)
 name_told text here = by_name text here (rule_at text here) refl (name_stops text here)
 
-room_told : (text : List ℕ) (levels : ℕ) (here : ProofCursor) → Told (λ x. Unit {0}) (Next text here) (room text levels here)
+room_told : (text : List ℕ) (levels : ℕ) (here : ProofCursor) → Reported (λ x. Unit {0}) (Next text here) (room text levels here)
 unfolding room
 room_told text levels here = told_if (nat_le 1 here.left && nat_le 1 levels) tt (TooLarge (first_byte text here)) (λ h. tt) refl
 
@@ -356,31 +356,31 @@ name_viable {mid = mid} rule f fs same n is = record {
 
 module _ (text : List ℕ) (from : ℕ) where
   abbrev Tells : Result (Rule × ProofCursor) TextFault → Type 0
-  Tells r = Told (Headed text from) (Stopped text from) r
+  Tells r = Reported (Headed text from) (Stopped text from) r
 
   -- the parenthesis after a rule's name
   open_told : {B : Type 0} {H : B → Type 0} (rule : RuleName) (f : Field) (fs : List Field) (here : ProofCursor) (k : ProofCursor → Result B TextFault) → fields rule ≡ f ∷ fs → HasName text from here.from rule
-      → ((there : ProofCursor) → Opened text from there.from (f ∷ fs) → Told H (Stopped text from) (k there)) → Told H (Stopped text from) (cursor_after_sign text signs.Open here >>= k)
+      → ((there : ProofCursor) → Opened text from there.from (f ∷ fs) → Reported H (Stopped text from) (k there)) → Reported H (Stopped text from) (cursor_after_sign text signs.Open here >>= k)
   open_told rule f fs here k same n goes =
       told_then k (sign_told text signs.Open here) (λ e is. name_viable {e = e} rule f fs same n is)
       (λ there o. goes there (subst (Opened text from there.from) same (name_opened n o)))
 
   -- the comma after a field
   comma_told : {B : Type 0} {H : B → Type 0} {mid : ℕ} (f g : Field) (fs : List Field) (here : ProofCursor) (k : ProofCursor → Result B TextFault) → Opened text from mid (f ∷ g ∷ fs) → Spelled text mid here.from (f ∷ [])
-      → ((there : ProofCursor) → Opened text from there.from (g ∷ fs) → Told H (Stopped text from) (k there)) → Told H (Stopped text from) (cursor_after_sign text signs.Comma here >>= k)
+      → ((there : ProofCursor) → Opened text from there.from (g ∷ fs) → Reported H (Stopped text from) (k there)) → Reported H (Stopped text from) (cursor_after_sign text signs.Comma here >>= k)
   comma_told f g fs here k o s goes =
       told_then k (sign_told text signs.Comma here) (λ e is. opened_viable {e = e} o (comma_viable {e = e} g fs s is)) (λ there c. goes there (opened_further o s c))
 
   -- the parenthesis after the last field
   close_told : {B : Type 0} {H : B → Type 0} {mid : ℕ} (fs : List Field) (here : ProofCursor) (k : ProofCursor → Result B TextFault) → Opened text from mid fs → Spelled text mid here.from fs
-      → ((there : ProofCursor) → Spelled text from there.from (premise ∷ []) → Told H (Stopped text from) (k there)) → Told H (Stopped text from) (cursor_after_sign text signs.Close here >>= k)
+      → ((there : ProofCursor) → Spelled text from there.from (premise ∷ []) → Reported H (Stopped text from) (k there)) → Reported H (Stopped text from) (cursor_after_sign text signs.Close here >>= k)
   close_told fs here k o s goes =
       told_then k (sign_told text signs.Close here) (λ e is. close_viable {e = e} o s is) (λ there c. goes there (closed_spelled o s c))
 
   -- a field that is a term
   field_told : {A B : Type 0} {H : B → Type 0} {f : Field} (fs : List Field) (here : ProofCursor) (place : A → ProofCursor) (r : Result A TextFault) (k : A → Result B TextFault) → Opened text from here.from (f ∷ fs)
-      → Told (λ x. Spelled text here.from (place x).from (f ∷ [])) (Next text here) r
-      → ((x : A) → Spelled text here.from (place x).from (f ∷ []) → Told H (Stopped text from) (k x)) → Told H (Stopped text from) (r >>= k)
+      → Reported (λ x. Spelled text here.from (place x).from (f ∷ [])) (Next text here) r
+      → ((x : A) → Spelled text here.from (place x).from (f ∷ []) → Reported H (Stopped text from) (k x)) → Reported H (Stopped text from) (r >>= k)
   field_told {f = f} fs here place r k o told goes = told_then k told (λ e is. opened_viable {e = e} o (viable_here {e = e} f fs is)) goes
 
   premise_told : (rule : Rule) (f g : Field) (fs : List Field) {mid : ℕ} (here : ProofCursor) → Opened text from mid (f ∷ g ∷ fs) → Spelled text mid here.from (f ∷ []) → ((there : ProofCursor) → Opened text from there.from (g ∷ fs) → Headed text from (rule, there))
@@ -479,7 +479,7 @@ module _ (text : List ℕ) (from : ℕ) where
   rule_told (Plain rule) here n = plain_told rule here n
   rule_told (Citing rule) here n = with_hypothesis_told rule here n
 
-head_told : (text : List ℕ) (levels : ℕ) (here : ProofCursor) → Told (Headed text here.from) (Stopped text here.from) (head text levels here)
+head_told : (text : List ℕ) (levels : ℕ) (here : ProofCursor) → Reported (Headed text here.from) (Stopped text here.from) (head text levels here)
 unfolding head
 head_told text levels here =
     told_then (λ name. room text levels here >>= (λ _. named_head text name.0 (take_rule name.1))) (name_told text here) (λ e is. viable_here {e = e} premise [] is)

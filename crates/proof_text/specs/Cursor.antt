@@ -1,5 +1,8 @@
--- The parts of a proof's text that hold no proof themselves, each with its first fault (this project's own). A part takes a token at a time, from the left. What token is read depends on the place: a rule is
--- the longest run of letters, digits and `_` that begins with a letter, the number of a hypothesis the longest run of digits; everything else is a token of formulas.
+-- The parts of a proof's text that hold no proof themselves, each with its first fault (this
+-- project's own). A part takes a token at a time, from the left. What token is read depends on the
+-- place: a rule is
+-- the longest run of letters, digits and `_` that begins with a letter, the number of a hypothesis
+-- the longest run of digits; everything else is a token of formulas.
 use Rattle.std.specs.Prelude.{ℕ, ◌+◌, ◌-◌, ◌^◌, List, [], ◌∷◌, length, drop, Bool, false, nat_le, ◌&&◌, ◌||◌, Option, Some, None, Result, Ok, Err, if◌then◌else◌}
 use Rattle.std.specs.List.{prefix_len, take_while}
 use Rattle.bl_syntax.specs.Names.{is_lower_case, is_upper_case}
@@ -35,7 +38,8 @@ cursor_after_token token = cursor_at token.end token.left
 
 -- what stands after the sign, if it is there
 unfoldable pub cursor_after_sign : List ℕ → Sign → ProofCursor → Result ProofCursor TextFault
-cursor_after_sign text sign here = if is_sign sign (token_at text here).token then Ok (cursor_after_token (token_at text here)) else Err (Unexpected (token_at text here).at)
+cursor_after_sign text sign here = if is_sign sign (token_at text here).token
+    then Ok (cursor_after_token (token_at text here)) else Err (Unexpected (token_at text here).at)
 
 -- ---- terms and hypotheses
 
@@ -59,7 +63,8 @@ hypothesis_reading at size left (Some number) = Ok (number, cursor_at (at + size
 abbrev pub hypothesis_in : ℕ → ℕ → List ℕ → Result (ℕ × ProofCursor) TextFault
 hypothesis_in at left digits = hypothesis_reading at (length digits) left (numeral_below (2 ^ 16) digits)
 
--- the number of a hypothesis at that place, below 65,536 and without leading zeros, and what follows it
+-- the number of a hypothesis at that place, below 65,536 and without leading zeros, and what
+-- follows it
 unfoldable pub hypothesis_at : List ℕ → ProofCursor → Result (ℕ × ProofCursor) TextFault
 hypothesis_at text here = hypothesis_in (first_byte text here) here.left (take_while (is_in classes.Digit) (drop (first_byte text here) text))
 

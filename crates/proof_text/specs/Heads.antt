@@ -1,4 +1,6 @@
--- The head of a proof's text: its rule and the fields before the proofs of its premises (this project's own). The fields stand in parentheses, with commas between them, in their order: the number of a
+-- The head of a proof's text: its rule and the fields before the proofs of its premises (this
+-- project's own). The fields stand in parentheses, with commas between them, in their order: the
+-- number of a
 -- hypothesis, terms, proofs. A rule without fields stands alone.
 use Rattle.std.specs.Prelude.{ℕ, List, Result, Ok}
 use Rattle.bl_tokens.specs.declared.faults.TextFault.{TextFault}
@@ -103,7 +105,8 @@ unfoldable pub named_head : List ℕ → RuleName → ProofCursor → HeadReadin
 named_head text (Plain rule) here = plain_head text rule here
 named_head text (Citing rule) here = with_hypothesis text rule here
 
--- the rule at that place with its fields before the premises, if so many levels are left, and what follows
+-- the rule at that place with its fields before the premises, if so many levels are left, and what
+-- follows
 unfoldable pub head : List ℕ → ℕ → ProofCursor → HeadReading
 head text levels here = do
   name ← rule_at text here

@@ -1,4 +1,6 @@
--- The text that a proof is written as (this project's own): the name of its rule and, in parentheses, its fields with commas between them and no spaces; the bare name where there are none.
+-- The text that a proof is written as (this project's own): the name of its rule and, in
+-- parentheses, its fields with commas between them and no spaces; the bare name where there are
+-- none.
 use Rattle.std.specs.Prelude.{ℕ, List, ◌++◌, codes}
 use Rattle.std.specs.Fmt.{decimal}
 use Rattle.bl_syntax.specs.declared.terms.Term.{Term}

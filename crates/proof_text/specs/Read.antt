@@ -1,4 +1,5 @@
--- What a reading of a part of a text gives: the part is a text of the proof, the place after it lies within the text, and the proof is within the limits, with its times in the range of moments.
+-- What a reading of a part of a text gives: the part is a text of the proof, the place after it
+-- lies within the text, and the proof is within the limits, with its times in the range of moments.
 use Rattle.std.specs.Prelude.{◌≡◌, ◌≤◌, ◌+◌, ℕ, List, length}
 use Rattle.proof_term.specs.declared.rule.Rule.{Rule}
 use Rattle.proof_term.specs.declared.rule.Rule.TheVariants.{Axiom, One, Two}

@@ -67,13 +67,15 @@ IsSayableOne (AtL h) = IsHypothesisNumber h
 abbrev pub IsSayableTwo : TwoPremises → Type 0
 IsSayableTwo AndR = Unit {0}
 IsSayableTwo (OrL h) = IsHypothesisNumber h
-IsSayableTwo (ImpL h t1 t2) = IsHypothesisNumber h × ((IsSpellable t1 × IsTimeTerm t1) × (IsSpellable t2 × IsTimeTerm t2))
+IsSayableTwo (ImpL h t1 t2) = IsHypothesisNumber h ×
+    ((IsSpellable t1 × IsTimeTerm t1) × (IsSpellable t2 × IsTimeTerm t2))
 
 -- a text can say what all rules of the proof name
 abbrev pub NamesSayable : ProofView → Type 0
 NamesSayable d = fold_proof IsSayableAxiom (λ r P. IsSayableOne r × P) (λ r P Q. IsSayableTwo r × (P × Q)) d
 
--- a text can say the proof: it is within the limits, its terms have a spelling and are no variables, and those of an implication are times
+-- a text can say the proof: it is within the limits, its terms have a spelling and are no
+-- variables, and those of an implication are times
 pub record IsPrintableProof (d : ProofView) : Type 0 where
   pub within_limits : IsProofWithinLimits d
   pub names : NamesSayable d

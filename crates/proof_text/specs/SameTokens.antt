@@ -14,11 +14,13 @@ fault_place (Sort at) = Some at
 fault_place (TooLarge at) = Some at
 fault_place NoMemory = None
 
--- from that byte on both texts have the same next token: in the place of a rule, in that of a hypothesis, and elsewhere
+-- from that byte on both texts have the same next token: in the place of a rule, in that of a
+-- hypothesis, and elsewhere
 pub record SameNext (text other : List ℕ) (from : ℕ) : Type 0 where
   pub token : (left : ℕ) → token_from text from left ≡ token_from other from left
   pub rule : (left : ℕ) → rule_at text (cursor_at from left) ≡ rule_at other (cursor_at from left)
-  pub hypothesis : (left : ℕ) → hypothesis_at text (cursor_at from left) ≡ hypothesis_at other (cursor_at from left)
+  pub hypothesis : (left : ℕ) →
+      hypothesis_at text (cursor_at from left) ≡ hypothesis_at other (cursor_at from left)
 
 -- so they have from each byte on, up to that one
 abbrev pub SameUpTo : List ℕ → List ℕ → ℕ → Type 0

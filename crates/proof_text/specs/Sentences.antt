@@ -1,5 +1,8 @@
--- The grammar of proofs over lists of words (this project's own): a rule's name and, in parentheses, its fields in their order, with commas between them; the bare name where there are none. It has no
--- limits: of these alone a text's fault may speak where the words before it can still be completed to a sentence.
+-- The grammar of proofs over lists of words (this project's own): a rule's name and, in
+-- parentheses, its fields in their order, with commas between them; the bare name where there are
+-- none. It has no
+-- limits: of these alone a text's fault may speak where the words before it can still be completed
+-- to a sentence.
 use Rattle.std.specs.Prelude.{◌≡◌, ℕ, List, [], ◌∷◌, ◌++◌, true, Some, Ok}
 use Rattle.bl_syntax.specs.declared.terms.Sort.TheVariants as sorts
 use Rattle.bl_syntax.specs.declared.terms.Term.{Term}
@@ -18,7 +21,8 @@ use Rattle.proof_text.specs.declared.cursor.ProofCursor.{ProofCursor}
 use Rattle.proof_text.specs.Cursor.{cursor_at, first_byte, token_at, hypothesis_at, rule_at}
 use Rattle.proof_text.specs.SameTokens.{fault_place}
 
--- what stands at a place of a proof's text: a rule's name, the number of a hypothesis, or a token of formulas
+-- what stands at a place of a proof's text: a rule's name, the number of a hypothesis, or a token
+-- of formulas
 pub data ProofWord : Type 0 where
   rule_name : RuleName → ProofWord
   number : ℕ → ProofWord
@@ -61,11 +65,14 @@ fields (Citing AtL) = hypothesis ∷ premise ∷ []
 pub data ProofSentence : List Field → List ProofWord → Type 0 where
   a_hypothesis : (h : ℕ) → ProofSentence (hypothesis ∷ []) (number h ∷ [])
   a_term : (t : Token) → IsTerm [] t → ProofSentence (term ∷ []) (token t ∷ [])
-  a_time : (t : Term) → is_of_wanted_sort [] sorts.Time t ≡ true → ProofSentence (time ∷ []) (token (Constant t) ∷ [])
+  a_time : (t : Term) → is_of_wanted_sort [] sorts.Time t ≡ true
+      → ProofSentence (time ∷ []) (token (Constant t) ∷ [])
   bare : (rule : RuleName) → fields rule ≡ [] → ProofSentence (premise ∷ []) (rule_name rule ∷ [])
-  with_fields : (rule : RuleName) (ws : List ProofWord) (open_ close : Token) → IsSign signs.Open open_ → ProofSentence (fields rule) ws → IsSign signs.Close close
+  with_fields : (rule : RuleName) (ws : List ProofWord) (open_ close : Token)
+      → IsSign signs.Open open_ → ProofSentence (fields rule) ws → IsSign signs.Close close
       → ProofSentence (premise ∷ []) (rule_name rule ∷ token open_ ∷ (ws ++ token close ∷ []))
-  further : (f g : Field) (fs : List Field) (ws vs : List ProofWord) (comma : Token) → ProofSentence (f ∷ []) ws → IsSign signs.Comma comma → ProofSentence (g ∷ fs) vs
+  further : (f g : Field) (fs : List Field) (ws vs : List ProofWord) (comma : Token)
+      → ProofSentence (f ∷ []) ws → IsSign signs.Comma comma → ProofSentence (g ∷ fs) vs
       → ProofSentence (f ∷ g ∷ fs) (ws ++ token comma ∷ vs)
 
 -- a sentence of the grammar of proofs
@@ -75,9 +82,15 @@ IsProofSentence ws = ProofSentence (premise ∷ []) ws
 -- these words stand in the text from the one byte up to the other, each read as what it is
 pub data AreWordsAt (text : List ℕ) : ℕ → ℕ → List ProofWord → Type 0 where
   nothing : (from : ℕ) → AreWordsAt text from from []
-  rule_there : (here there : ProofCursor) (to : ℕ) (rule : RuleName) (ws : List ProofWord) → rule_at text here ≡ Ok (rule, there) → AreWordsAt text there.from to ws → AreWordsAt text here.from to (rule_name rule ∷ ws)
-  number_there : (here there : ProofCursor) (to h : ℕ) (ws : List ProofWord) → hypothesis_at text here ≡ Ok (h, there) → AreWordsAt text there.from to ws → AreWordsAt text here.from to (number h ∷ ws)
-  token_there : (here : ProofCursor) (to : ℕ) (ws : List ProofWord) → AreWordsAt text (token_at text here).end to ws → AreWordsAt text here.from to (token (token_at text here).token ∷ ws)
+  rule_there : (here there : ProofCursor) (to : ℕ) (rule : RuleName) (ws : List ProofWord)
+      → rule_at text here ≡ Ok (rule, there) → AreWordsAt text there.from to ws
+      → AreWordsAt text here.from to (rule_name rule ∷ ws)
+  number_there : (here there : ProofCursor) (to h : ℕ) (ws : List ProofWord)
+      → hypothesis_at text here ≡ Ok (h, there) → AreWordsAt text there.from to ws
+      → AreWordsAt text here.from to (number h ∷ ws)
+  token_there : (here : ProofCursor) (to : ℕ) (ws : List ProofWord)
+      → AreWordsAt text (token_at text here).end to ws
+      → AreWordsAt text here.from to (token (token_at text here).token ∷ ws)
 
 -- the fault is at the next byte that is no space
 abbrev pub IsNext : List ℕ → ℕ → TextFault → Type 0

@@ -19,9 +19,11 @@ at_end text here = if is_end (token_at text here).token then Ok tt else Err (Une
 
 -- the whole text is one of the proof, which has at most 200 levels
 pub data IsProofText (text : List ℕ) (d : ProofView) : Type 0 where
-  whole_proof : (there : ProofCursor) → IsProof text 200 beginning there d → at_end text there ≡ Ok tt → IsProofText text d
+  whole_proof : (there : ProofCursor) → IsProof text 200 beginning there d →
+      at_end text there ≡ Ok tt → IsProofText text d
 
 -- the text is none of a proof, and this is its first fault
 pub data ProofTextFault (text : List ℕ) : TextFault → Type 0 where
   in_proof : (e : TextFault) → ProofHasFirstFault text 200 beginning e → ProofTextFault text e
-  behind_proof : (there : ProofCursor) (d : ProofView) (e : TextFault) → IsProof text 200 beginning there d → at_end text there ≡ Err e → ProofTextFault text e
+  behind_proof : (there : ProofCursor) (d : ProofView) (e : TextFault) →
+      IsProof text 200 beginning there d → at_end text there ≡ Err e → ProofTextFault text e

@@ -19,7 +19,8 @@ pub fn one_proof()
 
 /// A text of a proof has no fault, out of memory aside.
 pub fn no_fault_of_a_proof()
-    ensures { (text : List ℕ) (p : ProofView) (e : TextFault) → IsProofText text p → ProofTextFault text e
+    ensures { (text : List ℕ) (p : ProofView) (e : TextFault) → IsProofText text p
+        → ProofTextFault text e
         → e ≡ TextFault.NoMemory }
 {}
 
@@ -33,14 +34,17 @@ pub fn one_fault_of_a_proof()
 /// limits aside: so it is not reported too late. A text that has the same next token from each byte on,
 /// up to that place, has the fault too: so it is not reported too early.
 pub fn exact_fault_of_a_proof()
-    ensures { (text : List ℕ) (e : TextFault) → ProofTextFault text e → (e ≡ TextFault.NoMemory) ⊎ IsExactInProof text e }
+    ensures { (text : List ℕ) (e : TextFault) → ProofTextFault text e
+        → (e ≡ TextFault.NoMemory) ⊎ IsExactInProof text e }
 {}
 
 /// Where a fault other than one of size is, no sentence of the grammar goes on: no text with the same
 /// tokens up to and with that one has the words of one.
 pub fn no_proof_goes_on()
-    ensures { (text : List ℕ) (e : TextFault) → ((at : ℕ) → e ≢ TextFault.TooLarge at) → (x : IsExactInProof text e)
-        → (other : List ℕ) → SameUpTo text other (first_byte text (cursor_at x.prefix.behind 0)) → IsProofSentenceText other → ⊥ }
+    ensures { (text : List ℕ) (e : TextFault) → ((at : ℕ) → e ≢ TextFault.TooLarge at)
+        → (x : IsExactInProof text e)
+        → (other : List ℕ) → SameUpTo text other (first_byte text (cursor_at x.prefix.behind 0))
+        → IsProofSentenceText other → ⊥ }
 {}
 
 /// The words of a proof's text are a sentence of the grammar.
@@ -51,7 +55,8 @@ pub fn sentence_of_a_proof()
 /// A text whose words are a sentence of the grammar is one of a proof, or it is too large.
 pub fn text_of_a_sentence()
     ensures { (text : List ℕ) → IsProofSentenceText text
-        → ((p : ProofView) × IsProofText text p) ⊎ ((at : ℕ) × ProofTextFault text (TextFault.TooLarge at)) }
+        → ((p : ProofView) × IsProofText text p)
+        ⊎ ((at : ℕ) × ProofTextFault text (TextFault.TooLarge at)) }
 {}
 
 /// The text that a proof is written as is a text of it, if it is within the limits, its hypotheses have

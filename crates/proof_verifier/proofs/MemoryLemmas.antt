@@ -40,23 +40,23 @@ IsNamed (TooManyConditions node) = Unit {0}
 IsNamed NoMemory = ⊥
 
 -- the step's fault, if it has one, is not out of memory
-record Told {A : Type 0} (step : Result A CheckFault) : Type 0 where
+record Reported {A : Type 0} (step : Result A CheckFault) : Type 0 where
   pub fault : IfErr step IsNamed
 
-told : {A : Type 0} (step : Result A CheckFault) → IfErr step IsNamed → Told step
+told : {A : Type 0} (step : Result A CheckFault) → IfErr step IsNamed → Reported step
 told step named = record { fault = named }
 
 abbrev passed : {A : Type 0} → A → Result A CheckFault
 passed found = Ok found
 
-given : {A : Type 0} (found : A) → Told (passed found)
+given : {A : Type 0} (found : A) → Reported (passed found)
 given found = record { fault = tt }
 
-chain : {A B : Type 0} {step : Result A CheckFault} {later : A → Result B CheckFault} → Told step → ((found : A) → Told (later found)) → Told (and_then step later)
+chain : {A B : Type 0} {step : Result A CheckFault} {later : A → Result B CheckFault} → Reported step → ((found : A) → Reported (later found)) → Reported (and_then step later)
 chain {step = Ok found} {later = later} first next = next found
 chain {step = Err fault} {later = later} first next = record { fault = first.fault }
 
-either_way : {A : Type 0} (test : Bool) (step other : Result A CheckFault) → Told step → Told other → Told (if test then step else other)
+either_way : {A : Type 0} (test : Bool) (step other : Result A CheckFault) → Reported step → Reported other → Reported (if test then step else other)
 either_way true step other first second = first
 either_way false step other first second = second
 
@@ -74,129 +74,129 @@ told_claim : (node : ℕ) (x : Hypothesis) → IfErr (as_claim node x) IsNamed
 told_claim node (holds a u v) = tt
 told_claim node (claims k a u v) = tt
 
-truth_told : (node : ℕ) (s : Sequent) (h : ℕ) → Told (truth_at node s.hypotheses h)
+truth_told : (node : ℕ) (s : Sequent) (h : ℕ) → Reported (truth_at node s.hypotheses h)
 truth_told node s h = chain (told (cited_hypothesis node s.hypotheses h) (told_cited node s.hypotheses h)) (λ x. told (as_truth node x) (told_truth node x))
 
-claim_told : (node : ℕ) (s : Sequent) (h : ℕ) → Told (claim_at node s.hypotheses h)
+claim_told : (node : ℕ) (s : Sequent) (h : ℕ) → Reported (claim_at node s.hypotheses h)
 claim_told node s h = chain (told (cited_hypothesis node s.hypotheses h) (told_cited node s.hypotheses h)) (λ x. told (as_claim node x) (told_claim node x))
 
 is_atom : (node : ℕ) (f : FormulaView) → IfErr (as_atom node f) IsNamed
 is_atom node (atom name terms) = tt
 is_atom node _ = tt
 
-told_atom : (node : ℕ) (f : FormulaView) → Told (as_atom node f)
+told_atom : (node : ℕ) (f : FormulaView) → Reported (as_atom node f)
 told_atom node f = told (as_atom node f) (is_atom node f)
 
 is_constraint : (node : ℕ) (f : FormulaView) → IfErr (as_constraint node f) IsNamed
 is_constraint node (compare c) = tt
 is_constraint node _ = tt
 
-told_constraint : (node : ℕ) (f : FormulaView) → Told (as_constraint node f)
+told_constraint : (node : ℕ) (f : FormulaView) → Reported (as_constraint node f)
 told_constraint node f = told (as_constraint node f) (is_constraint node f)
 
 is_state : (node : ℕ) (f : FormulaView) → IfErr (as_state node f) IsNamed
 is_state node (state s) = tt
 is_state node _ = tt
 
-told_state : (node : ℕ) (f : FormulaView) → Told (as_state node f)
+told_state : (node : ℕ) (f : FormulaView) → Reported (as_state node f)
 told_state node f = told (as_state node f) (is_state node f)
 
 is_both : (node : ℕ) (f : FormulaView) → IfErr (as_both node f) IsNamed
 is_both node (both a b) = tt
 is_both node _ = tt
 
-told_both : (node : ℕ) (f : FormulaView) → Told (as_both node f)
+told_both : (node : ℕ) (f : FormulaView) → Reported (as_both node f)
 told_both node f = told (as_both node f) (is_both node f)
 
 is_either : (node : ℕ) (f : FormulaView) → IfErr (as_either node f) IsNamed
 is_either node (either a b) = tt
 is_either node _ = tt
 
-told_either : (node : ℕ) (f : FormulaView) → Told (as_either node f)
+told_either : (node : ℕ) (f : FormulaView) → Reported (as_either node f)
 told_either node f = told (as_either node f) (is_either node f)
 
 is_implies : (node : ℕ) (f : FormulaView) → IfErr (as_implies node f) IsNamed
 is_implies node (implies a b) = tt
 is_implies node _ = tt
 
-told_implies : (node : ℕ) (f : FormulaView) → Told (as_implies node f)
+told_implies : (node : ℕ) (f : FormulaView) → Reported (as_implies node f)
 told_implies node f = told (as_implies node f) (is_implies node f)
 
 is_true : (node : ℕ) (f : FormulaView) → IfErr (as_true node f) IsNamed
 is_true node truth = tt
 is_true node _ = tt
 
-told_true : (node : ℕ) (f : FormulaView) → Told (as_true node f)
+told_true : (node : ℕ) (f : FormulaView) → Reported (as_true node f)
 told_true node f = told (as_true node f) (is_true node f)
 
 is_false : (node : ℕ) (f : FormulaView) → IfErr (as_false node f) IsNamed
 is_false node falsity = tt
 is_false node _ = tt
 
-told_false : (node : ℕ) (f : FormulaView) → Told (as_false node f)
+told_false : (node : ℕ) (f : FormulaView) → Reported (as_false node f)
 told_false node f = told (as_false node f) (is_false node f)
 
 is_forall : (node : ℕ) (f : FormulaView) → IfErr (as_forall node f) IsNamed
 is_forall node (forall_ s a) = tt
 is_forall node _ = tt
 
-told_forall : (node : ℕ) (f : FormulaView) → Told (as_forall node f)
+told_forall : (node : ℕ) (f : FormulaView) → Reported (as_forall node f)
 told_forall node f = told (as_forall node f) (is_forall node f)
 
 is_exists : (node : ℕ) (f : FormulaView) → IfErr (as_exists node f) IsNamed
 is_exists node (exists_ s a) = tt
 is_exists node _ = tt
 
-told_exists : (node : ℕ) (f : FormulaView) → Told (as_exists node f)
+told_exists : (node : ℕ) (f : FormulaView) → Reported (as_exists node f)
 told_exists node f = told (as_exists node f) (is_exists node f)
 
 is_says : (node : ℕ) (f : FormulaView) → IfErr (as_says node f) IsNamed
 is_says node (says k a) = tt
 is_says node _ = tt
 
-told_says : (node : ℕ) (f : FormulaView) → Told (as_says node f)
+told_says : (node : ℕ) (f : FormulaView) → Reported (as_says node f)
 told_says node f = told (as_says node f) (is_says node f)
 
 is_on : (node : ℕ) (f : FormulaView) → IfErr (as_on node f) IsNamed
 is_on node (on a u v) = tt
 is_on node _ = tt
 
-told_on : (node : ℕ) (f : FormulaView) → Told (as_on node f)
+told_on : (node : ℕ) (f : FormulaView) → Reported (as_on node f)
 told_on node f = told (as_on node f) (is_on node f)
 
-told_same_atom : (node : ℕ) (a b : FormulaView) → Told (as_same_atom node a b)
+told_same_atom : (node : ℕ) (a b : FormulaView) → Reported (as_same_atom node a b)
 told_same_atom node a b =
     chain (told_atom node a) λ x.
     chain (told_atom node b) λ y.
     either_way (bytes_eq x.0 y.0 && are_same x.1 y.1) _ _ (given tt) (told (Err (WrongShape node)) tt)
 
-told_term : (node : ℕ) (sorts : List Sort) (sort : Sort) (t : Term) → Told (term_condition node sorts sort t)
+told_term : (node : ℕ) (sorts : List Sort) (sort : Sort) (t : Term) → Reported (term_condition node sorts sort t)
 told_term node sorts sort t = either_way (of_sort sort (sort_of sorts [] t)) _ _ (given tt) (told (Err (BadTerm node)) tt)
 
-told_strength : (node : ℕ) (k other : Term) → Told (strength_condition node k other)
+told_strength : (node : ℕ) (k other : Term) → Reported (strength_condition node k other)
 told_strength node k other = either_way (is_as_strong k other) _ _ (given tt) (told (Err (ViewTooWeak node)) tt)
 
-told_keep_time : (node : ℕ) (c : Constraint) (g : GrantView) → Told (keep_time node c g)
+told_keep_time : (node : ℕ) (c : Constraint) (g : GrantView) → Reported (keep_time node c g)
 told_keep_time node c g =
     either_way (has_constraint g.times c) _ _ (given g) (either_way (is_full g) _ _ (told (Err (TooManyConditions node)) tt) (told (Ok _) tt))
 
-told_keep_state : (node : ℕ) (s : StatePred) (g : GrantView) → Told (keep_state node s g)
+told_keep_state : (node : ℕ) (s : StatePred) (g : GrantView) → Reported (keep_state node s g)
 told_keep_state node s g =
     either_way (has_state g.states s) _ _ (given g) (either_way (is_full g) _ _ (told (Err (TooManyConditions node)) tt) (told (Ok _) tt))
 
-told_time : (left_over : LeftOver) (node : ℕ) (constraints : List Constraint) (u v : Term) (g : GrantView) → Told (time_condition left_over node constraints u v g)
+told_time : (left_over : LeftOver) (node : ℕ) (constraints : List Constraint) (u v : Term) (g : GrantView) → Reported (time_condition left_over node constraints u v g)
 told_time left_over node constraints u v g =
     either_way (is_entailed constraints u v) _ _ (given g)
     (either_way (left_over.time (record { low = u; high = v })) _ _ (told_keep_time node (record { low = u; high = v }) g) (told (Err (NotEntailed node)) tt))
 
-told_fact : (left_over : LeftOver) (node : ℕ) (facts : List StatePred) (s : StatePred) (g : GrantView) → Told (state_condition left_over node facts s g)
+told_fact : (left_over : LeftOver) (node : ℕ) (facts : List StatePred) (s : StatePred) (g : GrantView) → Reported (state_condition left_over node facts s g)
 told_fact left_over node facts s g =
     either_way (has_state facts s) _ _ (given g)
     (either_way (left_over.state s) _ _ (told_keep_state node s g) (told (Err (NotInState node)) tt))
 
 -- whatever the proof answers at a node
 record Tells (p : Answer) : Type 0 where
-  pub step : (node : ℕ) (s : Sequent) (g : GrantView) → Told (p node s g)
+  pub step : (node : ℕ) (s : Sequent) (g : GrantView) → Reported (p node s g)
 
 by_init-told : (left_over : LeftOver) (h : ℕ) → Tells (by_init left_over h)
 by_init-told left_over h = record {

@@ -1,4 +1,5 @@
--- Cited statements and checked proofs can be told apart: each is given back by the tuple of its fields.
+-- Cited statements and checked proofs can be told apart: each is given back by the tuple of its
+-- fields.
 use Rattle.std.specs.Prelude.{ℕ, List, refl}
 use Rattle.std.specs.Coded.{Coded, code_by, coded×, coded_ℕ, coded_list}
 use Rattle.bl_syntax.specs.declared.terms.Constraint.{Constraint}
@@ -16,7 +17,8 @@ use Rattle.proof_verifier.specs.declared.cites.Cite.{Cite}
 use Rattle.proof_verifier.specs.CheckedView.{CheckedView}
 
 abbrev cite_code : Coded Cite
-cite_code = code_by (ℕ × StatementView) (coded× coded_ℕ statement_code) (λ c. (c.number, c.statement)) (λ p. record { number = p.0; statement = p.1 }) (λ _. refl)
+cite_code = code_by (ℕ × StatementView) (coded× coded_ℕ statement_code) (λ c.
+    (c.number, c.statement)) (λ p. record { number = p.0; statement = p.1 }) (λ _. refl)
 
 abbrev pub cites_code : Coded (List Cite)
 cites_code = coded_list cite_code

@@ -1,4 +1,5 @@
--- What a checked proof keeps: the cited statements, the goal, the proof and the grant, which is the verdict on them and sound for the statements.
+-- What a checked proof keeps: the cited statements, the goal, the proof and the grant, which is the
+-- verdict on them and sound for the statements.
 use Rattle.std.specs.Prelude.{◌≡◌, List, Ok}
 use Rattle.bl_syntax.specs.declared.grant.Goal.{Goal}
 use Rattle.bl_syntax.specs.Statement.{StatementView}
@@ -9,7 +10,8 @@ use Rattle.proof_verifier.specs.declared.cites.Cite.{Cite}
 use Rattle.proof_verifier.specs.Cited.{statements_of}
 use Rattle.proof_verifier.specs.Verdict.{verdict}
 
--- the grant is the verdict on the proof of the goal from the statements, and sound for them; it grants that goal, by conditions that a grant may have
+-- the grant is the verdict on the proof of the goal from the statements, and sound for them; it
+-- grants that goal, by conditions that a grant may have
 pub record IsGranted (statements : List StatementView) (goal : Goal) (proof : ProofView) (granted : GrantView) : Type 0 where
   pub verdict_is : verdict statements goal proof ≡ Ok granted
   pub sound : SoundGrant statements granted

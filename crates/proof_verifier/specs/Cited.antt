@@ -8,7 +8,8 @@ use Rattle.proof_verifier.specs.declared.cites.Cite.{Cite}
 abbrev pub DoCitesRise : List Cite → Type 0
 DoCitesRise [] = Unit {0}
 DoCitesRise (first ∷ []) = Unit {0}
-DoCitesRise (first ∷ second ∷ others) = (first.number < second.number) × DoCitesRise (second ∷ others)
+DoCitesRise (first ∷ second ∷ others) = (first.number < second.number) ×
+    DoCitesRise (second ∷ others)
 
 -- 1 to 64 statements, by strictly rising numbers
 pub record AreCited (cites : List Cite) : Type 0 where

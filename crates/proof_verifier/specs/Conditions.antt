@@ -1,4 +1,5 @@
--- What becomes of a rule's condition: it is met, it is left over as a condition of the grant, or it is a fault at the node. `LeftOver` says which are left over.
+-- What becomes of a rule's condition: it is met, it is left over as a condition of the grant, or it
+-- is a fault at the node. `LeftOver` says which are left over.
 use Rattle.std.specs.Prelude.{ℕ, ◌+◌, Bool, false, List, [], ◌∷◌, ◌++◌, length, Result, Ok, Err, ◌==◌, if◌then◌else◌, Option, Some, None}
 use Rattle.bl_syntax.specs.declared.limits.TheConstants.{MOST_CONDITIONS}
 use Rattle.bl_syntax.specs.declared.terms.Sort.{Sort}
@@ -32,15 +33,19 @@ keep_state node s g =
     if is_full g then Err (TooManyConditions node) else
     Ok (record g { states = g.states ++ s ∷ [] })
 
--- that u is not after v: passed over if the constraints entail it, kept if it is left over, else a fault
-abbrev pub time_condition : LeftOver → ℕ → List Constraint → Term → Term → GrantView → Result GrantView CheckFault
+-- that u is not after v: passed over if the constraints entail it, kept if it is left over, else a
+-- fault
+abbrev pub time_condition : LeftOver → ℕ → List Constraint → Term → Term → GrantView →
+    Result GrantView CheckFault
 time_condition left_over node constraints u v g =
     if is_entailed constraints u v then Ok g else
     if left_over.time (record { low = u; high = v }) then keep_time node (record { low = u; high = v }) g else
     Err (NotEntailed node)
 
--- that the predicate is true of the state: passed over if it is a fact, kept if it is left over, else a fault
-abbrev pub state_condition : LeftOver → ℕ → List StatePred → StatePred → GrantView → Result GrantView CheckFault
+-- that the predicate is true of the state: passed over if it is a fact, kept if it is left over,
+-- else a fault
+abbrev pub state_condition : LeftOver → ℕ → List StatePred → StatePred → GrantView →
+    Result GrantView CheckFault
 state_condition left_over node facts s g =
     if has_state facts s then Ok g else
     if left_over.state s then keep_state node s g else

@@ -1,4 +1,5 @@
--- Entailment between times, computed: whether links lead from one term to another, where each constraint is passed at most once on the way. It takes exponential time, and says the
+-- Entailment between times, computed: whether links lead from one term to another, where each
+-- constraint is passed at most once on the way. It takes exponential time, and says the
 -- same as the relation of entailment.
 use Rattle.std.specs.Prelude.{List, [], ◌∷◌, Bool, false, not, ◌&&◌, ◌||◌}
 use Rattle.std.specs.List.{list_any}
@@ -31,7 +32,9 @@ has_chain (c ∷ others) u v = has_chain others u v || (has_chain others u c.low
 -- whether the constraints lead from a constant to a lesser one
 abbrev pub is_contradictory : List Constraint → Bool
 is_contradictory constraints =
-    list_any (λ (first : Constraint). list_any (λ (last : Constraint). are_out_of_order first.low last.high && has_chain constraints first.low last.high) constraints) constraints
+    list_any (λ (first : Constraint).
+    list_any (λ (last : Constraint). are_out_of_order first.low last.high
+    && has_chain constraints first.low last.high) constraints) constraints
 
 -- whether the constraints entail that the first term is not after the second
 unfoldable pub is_entailed : List Constraint → Term → Term → Bool

@@ -1,4 +1,5 @@
--- A proof for each rule that the verdict accepts, and for each rule one with each fault that its tests can give. Each is a proof that alice may write file 1, from one statement of
+-- A proof for each rule that the verdict accepts, and for each rule one with each fault that its
+-- tests can give. Each is a proof that alice may write file 1, from one statement of
 -- `admin` from 0 to 200.
 use Rattle.std.specs.Prelude.{◌≡◌, ℕ, List, [], ◌∷◌, Result, Ok, Err, codes}
 use Rattle.bl_syntax.specs.declared.terms.NodeId.{NodeId}
@@ -80,7 +81,9 @@ accepted =
     ∷ example (implies (either falsity truth) may_write) (behind (or_r2 true_r)) plainly
     ∷ example (implies (implies known known) may_write) (behind (imp_r (init 2))) plainly
     ∷ example (implies (forall_ sorts.Text (implies known known)) may_write) (behind (forall_r (imp_r (init 2)))) plainly
-    ∷ example (implies (exists_ sorts.Principal (state (Owner (File file) (Bound 0)))) may_write) (behind (exists_r alice inter_r)) (Ok (record (between writing 0 200) { states = Owner (File file) alice ∷ [] }))
+    ∷ example (implies (exists_ sorts.Principal (state (Owner (File file) (Bound 0)))) may_write)
+    (behind (exists_r alice inter_r))
+    (Ok (record (between writing 0 200) { states = Owner (File file) alice ∷ [] }))
     ∷ example (implies (on truth (second 0) (second 1)) may_write) (behind (at_r true_r)) plainly
     ∷ example (implies (compare (order 0 1)) may_write) (behind cons_r) plainly
     ∷ example (implies (both truth truth) may_write) (behind (and_r true_r true_r)) plainly

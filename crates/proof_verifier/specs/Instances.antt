@@ -1,5 +1,7 @@
--- What the formulas of the program stand for at a node: a formula with terms for the variables of the binders around it. A term in scope holds no variable, so the order in which they
--- are put in does not matter; the innermost binder's is put in last, as the rules for quantifiers do.
+-- What the formulas of the program stand for at a node: a formula with terms for the variables of
+-- the binders around it. A term in scope holds no variable, so the order in which they
+-- are put in does not matter; the innermost binder's is put in last, as the rules for quantifiers
+-- do.
 use Rattle.std.specs.Prelude.{ℕ, suc}
 use Rattle.bl_syntax.specs.declared.terms.Term.{Term}
 use Rattle.bl_syntax.specs.declared.terms.Constraint.{Constraint}

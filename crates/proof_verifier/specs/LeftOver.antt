@@ -10,7 +10,8 @@ pub record LeftOver : Type 0 where
   pub time : Constraint → Bool
   pub state : StatePred → Bool
 
--- the rule: a condition on time that names the current time and no parameter, and one on the state without a parameter
+-- the rule: a condition on time that names the current time and no parameter, and one on the state
+-- without a parameter
 abbrev pub by_rule : LeftOver
 by_rule = record { time = names_ctime_and_no_parameter; state = names_no_parameter }
 

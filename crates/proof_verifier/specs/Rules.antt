@@ -1,7 +1,10 @@
--- The rules of proofs: what each asks of its node, in order, and what its premises are checked on (after the sequent calculus of BL: Garg, Proof theory for authorization logic and its
--- application to a practical file system; Garg and Pfenning, A proof-carrying file system, 2010). The numbers, the order of tests and the conditions left over are this project's own.
+-- The rules of proofs: what each asks of its node, in order, and what its premises are checked on
+-- (after the sequent calculus of BL: Garg, Proof theory for authorization logic and its
+-- application to a practical file system; Garg and Pfenning, A proof-carrying file system, 2010).
+-- The numbers, the order of tests and the conditions left over are this project's own.
 --
--- A rule tests first what it cites, then forms, terms and the order of principals, then its conditions from left to right; then come its premises from left to right.
+-- A rule tests first what it cites, then forms, terms and the order of principals, then its
+-- conditions from left to right; then come its premises from left to right.
 use Rattle.std.specs.Prelude.{ℕ, ◌+◌, Result, Ok}
 use Rattle.bl_syntax.specs.declared.terms.Sort.TheVariants.{Time}
 use Rattle.bl_syntax.specs.declared.terms.Term.{Term}
@@ -14,7 +17,8 @@ use Rattle.proof_verifier.specs.Shapes.{and_then, truth_at, claim_at, as_same_at
 use Rattle.proof_verifier.specs.LeftOver.{LeftOver}
 use Rattle.proof_verifier.specs.Conditions.{time_condition, state_condition, term_condition, strength_condition}
 
--- what a proof answers at a node of that number, on a sequent, with the grant so far: the grant then, or the first fault
+-- what a proof answers at a node of that number, on a sequent, with the grant so far: the grant
+-- then, or the first fault
 abbrev pub Answer : Type 0
 Answer = ℕ → Sequent → GrantView → Result GrantView CheckFault
 
@@ -144,7 +148,8 @@ by_says_l h p node s g =
     and_then (as_says node said) (λ (k, a).
     p (1 + node) (learn (claims k a from to) s) g))
 
--- a claim, of a principal that is strong enough for the view, on an interval that holds the view's: p has the truth
+-- a claim, of a principal that is strong enough for the view, on an interval that holds the view's:
+-- p has the truth
 abbrev pub by_claim : LeftOver → ℕ → Answer → Answer
 by_claim left_over h p node s g =
     and_then (claim_at node s.hypotheses h) (λ (k, a, from, to).

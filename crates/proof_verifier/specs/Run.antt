@@ -30,7 +30,8 @@ sequent checker place = record {
   to = place.to.now;
 }
 
--- the numbers at a node leave room for a proof of that size and depth, and the hypotheses are counted
+-- the numbers at a node leave room for a proof of that size and depth, and the hypotheses are
+-- counted
 pub record HasProofRoom (checker : Checker) (place : Position) (proof_size proof_depth : ℕ) : Type 0 where
   pub counted : place.count ≡ length (hypotheses_by_number place.hypotheses.now)
   pub hypotheses : place.count + 2 * proof_depth ≤ 464
@@ -52,7 +53,8 @@ pub record HasRoomForClaims (checker : Checker) (place : Position) (claims : ℕ
   pub proof_size : size proof ≤ 4096
   pub proof_depth : depth proof ≤ 200
 
--- the proof was followed to its end: this is the grant, the next node has that number, and what had grown is cut back
+-- the proof was followed to its end: this is the grant, the next node has that number, and what had
+-- grown is cut back
 pub record IsPassed (before after : Checker) (next reached : ℕ) (expected : Result GrantView CheckFault) : Type 0 where
   pub granted : expected ≡ Ok after.grant
   pub counted : reached ≡ next
@@ -76,8 +78,10 @@ pub record IsConditionMet (before after : Checker) (expected : Result GrantView 
 abbrev pub IsFault : CheckFault → Result GrantView CheckFault → Type 0
 IsFault fault expected = (fault ≡ NoMemory) ⊎ (expected ≡ Err fault)
 
-abbrev pub GivesFollowed : Checker → Checker → ℕ → Result ℕ CheckFault → Result GrantView CheckFault → Type 0
+abbrev pub GivesFollowed : Checker → Checker → ℕ → Result ℕ CheckFault →
+    Result GrantView CheckFault → Type 0
 GivesFollowed before after next result expected = MatchResult result (λ reached. IsPassed before after next reached expected) (λ fault. IsFault fault expected)
 
-abbrev pub GivesMet : Checker → Checker → Result (Unit {0}) CheckFault → Result GrantView CheckFault → Type 0
+abbrev pub GivesMet : Checker → Checker → Result (Unit {0}) CheckFault →
+    Result GrantView CheckFault → Type 0
 GivesMet before after result expected = MatchResult result (λ _. IsConditionMet before after expected) (λ fault. IsFault fault expected)

@@ -1,5 +1,7 @@
--- A sequent as a proof meets it: hypotheses keep their numbers, also those that were struck out. What a rule adds goes to the ends of lists (after the sequent calculus of BL: Garg,
--- Proof theory for authorization logic and its application to a practical file system; the numbers are this project's own).
+-- A sequent as a proof meets it: hypotheses keep their numbers, also those that were struck out.
+-- What a rule adds goes to the ends of lists (after the sequent calculus of BL: Garg,
+-- Proof theory for authorization logic and its application to a practical file system; the numbers
+-- are this project's own).
 use Rattle.std.specs.Prelude.{List, [], ◌∷◌, ◌++◌, Option, Some, None, map, length}
 use Rattle.bl_syntax.specs.declared.terms.Sort.{Sort}
 use Rattle.bl_syntax.specs.declared.terms.Sort.TheVariants.{Time}
@@ -10,7 +12,8 @@ use Rattle.bl_syntax.specs.declared.terms.Constraint.{Constraint}
 use Rattle.bl_syntax.specs.Formula.{FormulaView}
 use Rattle.bl_rules.specs.Sequent.{Hypothesis, holds, claims, View}
 
--- the sorts of the parameters 0, 1 and so on, the constraints, the facts, the hypotheses by their numbers from 0 (none if one was struck out), the view, and the goal on its
+-- the sorts of the parameters 0, 1 and so on, the constraints, the facts, the hypotheses by their
+-- numbers from 0 (none if one was struck out), the view, and the goal on its
 -- interval
 pub record Sequent : Type 0 where
   pub sorts : List Sort
@@ -67,6 +70,7 @@ unless_truth None = None
 unless_truth (Some (holds a u v)) = None
 unless_truth (Some (claims k a u v)) = Some (claims k a u v)
 
--- what the principal k may reason from, about the goal's interval: the truths are struck out, and the view is its own
+-- what the principal k may reason from, about the goal's interval: the truths are struck out, and
+-- the view is its own
 abbrev pub speak : Term → Sequent → Sequent
 speak k s = record s { hypotheses = map unless_truth s.hypotheses; view = record { who = k; from = s.from; to = s.to } }

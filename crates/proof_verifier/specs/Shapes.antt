@@ -1,4 +1,5 @@
--- The forms that rules ask for: the parts of a formula or hypothesis that has the form, or a fault at the node.
+-- The forms that rules ask for: the parts of a formula or hypothesis that has the form, or a fault
+-- at the node.
 use Rattle.std.specs.Prelude.{ℕ, List, Option, Result, Ok, Err, option_and_then, ◌&&◌, if◌then◌else◌}
 use Rattle.std.specs.Option.{ok_or}
 use Rattle.std.specs.List.{slice_get}
@@ -14,7 +15,8 @@ use Rattle.proof_verifier.specs.declared.fault.CheckFault.{CheckFault}
 use Rattle.proof_verifier.specs.declared.fault.CheckFault.TheVariants.{NoHypothesis, WrongShape}
 
 -- one step, and then another that goes by what the first gave; the first fault ends both
-abbrev pub and_then : {A B : Type 0} → Result A CheckFault → (A → Result B CheckFault) → Result B CheckFault
+abbrev pub and_then : {A B : Type 0} → Result A CheckFault → (A → Result B CheckFault) →
+    Result B CheckFault
 and_then (Ok found) later = later found
 and_then (Err fault) later = Err fault
 
@@ -33,11 +35,13 @@ as_claim node (holds a u v) = Err (WrongShape node)
 as_claim node (claims k a u v) = Ok (k, a, u, v)
 
 -- the truth with that number
-abbrev pub truth_at : ℕ → List (Option Hypothesis) → ℕ → Result (FormulaView × Term × Term) CheckFault
+abbrev pub truth_at : ℕ → List (Option Hypothesis) → ℕ →
+    Result (FormulaView × Term × Term) CheckFault
 truth_at node hypotheses h = and_then (cited_hypothesis node hypotheses h) (as_truth node)
 
 -- the claim with that number
-abbrev pub claim_at : ℕ → List (Option Hypothesis) → ℕ → Result (Term × FormulaView × Term × Term) CheckFault
+abbrev pub claim_at : ℕ → List (Option Hypothesis) → ℕ →
+    Result (Term × FormulaView × Term × Term) CheckFault
 claim_at node hypotheses h = and_then (cited_hypothesis node hypotheses h) (as_claim node)
 
 -- an atom: its name and its arguments

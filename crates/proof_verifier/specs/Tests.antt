@@ -22,7 +22,8 @@ has_constraint constraints c = list_any (λ kept. constraint_eq kept c) constrai
 abbrev pub has_state : List StatePred → StatePred → Bool
 has_state predicates s = list_any (λ kept. state_eq kept s) predicates
 
--- whether the first principal is at least as strong as the second: they are equal, or the first is `loc`
+-- whether the first principal is at least as strong as the second: they are equal, or the first is
+-- `loc`
 abbrev pub is_as_strong : Term → Term → Bool
 is_as_strong k other = term_eq k other || term_eq k (Prin (codes "loc"))
 

@@ -1,4 +1,5 @@
--- The verdict on a proof: the grant, with the conditions that are left over, each once in the order of its first appearance, or the first fault and its node. Nodes are numbered from 0,
+-- The verdict on a proof: the grant, with the conditions that are left over, each once in the order
+-- of its first appearance, or the first fault and its node. Nodes are numbered from 0,
 -- each before those of its premises.
 use Rattle.std.specs.Prelude.{List, [], map, Some, Result}
 use Rattle.bl_syntax.specs.declared.terms.Term.TheVariants.{Ctime}
@@ -41,7 +42,8 @@ answer left_over (says_l h p) = by_says_l h (answer left_over p)
 answer left_over (claim h p) = by_claim left_over h (answer left_over p)
 answer left_over (at_l h p) = by_at_l h (answer left_over p)
 
--- the sequent at the root: the cited statements as claims, no parameters, constraints or facts, the view of `loc` at the current time, and that `admin` says now that the goal's
+-- the sequent at the root: the cited statements as claims, no parameters, constraints or facts, the
+-- view of `loc` at the current time, and that `admin` says now that the goal's
 -- principal may have the permission on the file
 abbrev pub root : List StatementView → Goal → Sequent
 root statements goal = record {
@@ -59,7 +61,8 @@ root statements goal = record {
 abbrev pub verdict : List StatementView → Goal → ProofView → Result GrantView CheckFault
 verdict statements goal proof = answer by_rule proof 0 (root statements goal) (without_conditions goal)
 
--- the same, where what a grant can keep is left over: the program tests this. It is the verdict, since the formulas at each node are closed and well sorted, with times in the range
+-- the same, where what a grant can keep is left over: the program tests this. It is the verdict,
+-- since the formulas at each node are closed and well sorted, with times in the range
 -- of moments
 abbrev pub computed_verdict : List StatementView → Goal → ProofView → Result GrantView CheckFault
 computed_verdict statements goal proof = answer by_grant proof 0 (root statements goal) (without_conditions goal)

@@ -1,4 +1,5 @@
--- Sequents of closed and well sorted formulas, whose times lie in the range of moments: those that a proof within its type meets, from statements.
+-- Sequents of closed and well sorted formulas, whose times lie in the range of moments: those that
+-- a proof within its type meets, from statements.
 use Rattle.std.specs.Prelude.{List, [], Some, Contains}
 use Rattle.bl_syntax.specs.declared.terms.Sort.{Sort}
 use Rattle.bl_syntax.specs.declared.terms.Sort.TheVariants.{Principal, Time}
@@ -29,13 +30,15 @@ pub record IsInterval (sorts : List Sort) (from to : Term) : Type 0 where
 
 abbrev pub IsWellFormedHypothesis : List Sort → Hypothesis → Type 0
 IsWellFormedHypothesis sorts (holds a u v) = IsClosed sorts a × IsInterval sorts u v
-IsWellFormedHypothesis sorts (claims k a u v) = IsTermOf sorts Principal k × (IsClosed sorts a × IsInterval sorts u v)
+IsWellFormedHypothesis sorts (claims k a u v) = IsTermOf sorts Principal k ×
+    (IsClosed sorts a × IsInterval sorts u v)
 
 -- so is each formula and term of the sequent
 pub record IsWellFormedSequent (s : Sequent) : Type 0 where
   pub constraints : (c : Constraint) → Contains s.constraints c → IsInterval s.sorts c.low c.high
   pub facts : (fact : StatePred) → Contains s.facts fact → IsClosed s.sorts (state fact)
-  pub hypotheses : (h : Hypothesis) → Contains s.hypotheses (Some h) → IsWellFormedHypothesis s.sorts h
+  pub hypotheses : (h : Hypothesis) → Contains s.hypotheses (Some h) →
+      IsWellFormedHypothesis s.sorts h
   pub viewer : IsTermOf s.sorts Principal s.view.who
   pub view : IsInterval s.sorts s.view.from s.view.to
   pub goal : IsClosed s.sorts s.goal

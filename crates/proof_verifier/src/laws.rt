@@ -52,11 +52,16 @@ pub fn the_verdict_gives_grants_within_their_rules()
 /// What the verdict leaves over is what a grant can keep: at each node whose sequent is well formed, and so from the root of
 /// statements on, a proof gets the same answer whichever of the two is tested.
 pub fn what_is_left_over_is_what_a_grant_can_keep()
-    ensures time { (sorts : List Sort) (c : Constraint) → IsInterval sorts c.low c.high → (names_ctime_and_no_parameter c ≡ true) ↔ IsTimeCondition c }
-    ensures state { (sorts : List Sort) (s : StatePred) → IsClosed sorts (state s) → (names_no_parameter s ≡ true) ↔ IsStateCondition s }
-    ensures node { (proof : ProofView) → HasTimesInRange proof → (node : ℕ) (s : Sequent) (so_far : GrantView)
-        → IsWellFormedSequent s → answer by_rule proof node s so_far ≡ answer by_grant proof node s so_far }
-    ensures root { (statements : List StatementView) (goal : Goal) → AllByRecursion IsStatement statements → IsWellFormedSequent (root statements goal) }
+    ensures time { (sorts : List Sort) (c : Constraint) → IsInterval sorts c.low c.high
+        → (names_ctime_and_no_parameter c ≡ true) ↔ IsTimeCondition c }
+    ensures state { (sorts : List Sort) (s : StatePred) → IsClosed sorts (state s)
+        → (names_no_parameter s ≡ true) ↔ IsStateCondition s }
+    ensures node { (proof : ProofView) → HasTimesInRange proof
+        → (node : ℕ) (s : Sequent) (so_far : GrantView)
+        → IsWellFormedSequent s
+        → answer by_rule proof node s so_far ≡ answer by_grant proof node s so_far }
+    ensures root { (statements : List StatementView) (goal : Goal)
+        → AllByRecursion IsStatement statements → IsWellFormedSequent (root statements goal) }
     ensures verdict { (statements : List StatementView) (goal : Goal) (proof : ProofView)
         → AllByRecursion IsStatement statements → HasTimesInRange proof
         → verdict statements goal proof ≡ computed_verdict statements goal proof }
@@ -64,7 +69,8 @@ pub fn what_is_left_over_is_what_a_grant_can_keep()
 
 /// The entailment between times that the verdict computes is entailment.
 pub fn the_computed_entailment_is_entailment()
-    ensures { (constraints : List Constraint) (u v : Term) → (is_entailed constraints u v ≡ true) ↔ Entails constraints u v }
+    ensures { (constraints : List Constraint) (u v : Term)
+        → (is_entailed constraints u v ≡ true) ↔ Entails constraints u v }
 {}
 
 /// Each test that the verdict goes by decides what its name says.
@@ -72,10 +78,14 @@ pub fn each_test_decides()
     ensures time { (c : Constraint) → (names_ctime_and_no_parameter c ≡ true)
         ↔ (((c.low ≡ Ctime) ⊎ (c.high ≡ Ctime)) × ((IsParameter c.low → ⊥) × (IsParameter c.high → ⊥))) }
     ensures state { (s : StatePred) → (names_no_parameter s ≡ true) ↔ AllByRecursion (λ (t : Term). IsParameter t → ⊥) (terms_of_state s) }
-    ensures sort { (sorts : List Sort) (sort : Sort) (t : Term) → (of_sort sort (sort_of sorts [] t) ≡ true) ↔ HasSort sorts [] sort t }
-    ensures strength { (k other : Term) → (is_as_strong k other ≡ true) ↔ IsAtLeastAsStrong k other }
-    ensures kept_time { (constraints : List Constraint) (c : Constraint) → (has_constraint constraints c ≡ true) ↔ Contains constraints c }
-    ensures kept_state { (predicates : List StatePred) (s : StatePred) → (has_state predicates s ≡ true) ↔ Contains predicates s }
+    ensures sort { (sorts : List Sort) (sort : Sort) (t : Term)
+        → (of_sort sort (sort_of sorts [] t) ≡ true) ↔ HasSort sorts [] sort t }
+    ensures strength { (k other : Term)
+        → (is_as_strong k other ≡ true) ↔ IsAtLeastAsStrong k other }
+    ensures kept_time { (constraints : List Constraint) (c : Constraint)
+        → (has_constraint constraints c ≡ true) ↔ Contains constraints c }
+    ensures kept_state { (predicates : List StatePred) (s : StatePred)
+        → (has_state predicates s ≡ true) ↔ Contains predicates s }
     ensures terms { (terms others : List Term) → (are_same terms others ≡ true) ↔ (terms ≡ others) }
     ensures names { (name other : List ℕ) → (bytes_eq name other ≡ true) ↔ (name ≡ other) }
     ensures full { (g : GrantView) → (is_full g ≡ true) ↔ (length g.times + length g.states ≡ 64) }
@@ -83,7 +93,8 @@ pub fn each_test_decides()
 
 /// The verdict is never out of memory.
 pub fn the_verdict_is_never_out_of_memory()
-    ensures { (statements : List StatementView) (goal : Goal) (proof : ProofView) → verdict statements goal proof ≡ Err NoMemory → ⊥ }
+    ensures { (statements : List StatementView) (goal : Goal) (proof : ProofView)
+        → verdict statements goal proof ≡ Err NoMemory → ⊥ }
 {}
 
 /// A statement of `admin` grants what it says, on its interval.
@@ -122,9 +133,12 @@ pub fn loc_speaks_for_all()
 
 /// A condition that names a parameter is not left over. None comes up where the same is proved for the interval of the statements.
 pub fn a_condition_on_a_parameter_is_a_fault()
-    ensures fault { verdict (stated (codes "admin") bob_may_read_if_it_follows 0 200 ∷ stated (codes "admin") q_of_bob 0 200 ∷ []) reading (by_new_interval Ctime Ctime)
+    ensures fault { verdict (stated (codes "admin") bob_may_read_if_it_follows 0 200
+        ∷ stated (codes "admin") q_of_bob 0 200 ∷ []) reading (by_new_interval Ctime Ctime)
         ≡ Err (NotEntailed 5) }
-    ensures accepted { verdict (stated (codes "admin") bob_may_read_if_it_follows 0 200 ∷ stated (codes "admin") q_of_bob 0 200 ∷ []) reading (by_new_interval (second 0) (second 200))
+    ensures accepted { verdict (stated (codes "admin") bob_may_read_if_it_follows 0 200
+        ∷ stated (codes "admin") q_of_bob 0 200 ∷ []) reading
+        (by_new_interval (second 0) (second 200))
         ≡ Ok (between reading 0 200) }
 {}
 

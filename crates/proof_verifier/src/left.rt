@@ -125,9 +125,13 @@ impl Checker {
         p: &Proof,
         q: &Proof,
     ) -> Result<usize, CheckFault>
-        requires { HasProofRoom self.old place.now (size (or_l h (proof_view p.now) (proof_view q.now))) (depth (or_l h (proof_view p.now) (proof_view q.now))) }
+        requires { HasProofRoom self.old place.now
+            (size (or_l h (proof_view p.now) (proof_view q.now)))
+            (depth (or_l h (proof_view p.now) (proof_view q.now))) }
         ensures { GivesFollowed self.old self.new (place.now.node + size (or_l h (proof_view p.now) (proof_view q.now))) result
-            (by_or_l h (answer by_grant (proof_view p.now)) (size (proof_view p.now)) (answer by_grant (proof_view q.now)) place.now.node (sequent self.old place.now) self.old.grant) }
+            (by_or_l h (answer by_grant (proof_view p.now)) (size (proof_view p.now))
+            (answer by_grant (proof_view q.now)) place.now.node (sequent self.old place.now)
+            self.old.grant) }
     {
         let (ab, from, to) = place.truth_at(h)?;
         let (a, b) = ab.as_either(place.node)?;
@@ -174,9 +178,13 @@ impl Checker {
         p: &Proof,
         q: &Proof,
     ) -> Result<usize, CheckFault>
-        requires { HasProofRoom self.old place.now (size (imp_l h t1.now t2.now (proof_view p.now) (proof_view q.now))) (depth (imp_l h t1.now t2.now (proof_view p.now) (proof_view q.now))) }
+        requires { HasProofRoom self.old place.now
+            (size (imp_l h t1.now t2.now (proof_view p.now) (proof_view q.now)))
+            (depth (imp_l h t1.now t2.now (proof_view p.now) (proof_view q.now))) }
         ensures { GivesFollowed self.old self.new (place.now.node + size (imp_l h t1.now t2.now (proof_view p.now) (proof_view q.now))) result
-            (by_imp_l by_grant h t1.now t2.now (answer by_grant (proof_view p.now)) (size (proof_view p.now)) (answer by_grant (proof_view q.now)) place.now.node (sequent self.old place.now) self.old.grant) }
+            (by_imp_l by_grant h t1.now t2.now (answer by_grant (proof_view p.now))
+            (size (proof_view p.now)) (answer by_grant (proof_view q.now)) place.now.node
+            (sequent self.old place.now) self.old.grant) }
     {
         let (ab, from, to) = place.truth_at(h)?;
         let (a, b) = ab.as_implies(place.node)?;

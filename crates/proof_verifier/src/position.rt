@@ -35,7 +35,9 @@ impl<'a> Position<'a> {
     /// The truth with that number: its formula and its interval.
     pub fn truth_at(&self, h: u16) -> Result<(Instance<'a>, &'a Term, &'a Term), CheckFault>
         requires { self.now.count ≡ length (hypotheses_by_number self.now.hypotheses.now) }
-        ensures { MatchResult result (λ found. truth_at self.now.node (hypotheses_by_number self.now.hypotheses.now) h ≡ Ok (instance_view found.0, found.1.now, found.2.now))
+        ensures { MatchResult result (λ found.
+            truth_at self.now.node (hypotheses_by_number self.now.hypotheses.now) h
+            ≡ Ok (instance_view found.0, found.1.now, found.2.now))
             (λ fault. truth_at self.now.node (hypotheses_by_number self.now.hypotheses.now) h ≡ Err fault) }
     {
         match self.hypotheses.cited(self.count, h, self.node)? {
@@ -50,7 +52,9 @@ impl<'a> Position<'a> {
         h: u16,
     ) -> Result<(&'a Term, Instance<'a>, &'a Term, &'a Term), CheckFault>
         requires { self.now.count ≡ length (hypotheses_by_number self.now.hypotheses.now) }
-        ensures { MatchResult result (λ found. claim_at self.now.node (hypotheses_by_number self.now.hypotheses.now) h ≡ Ok (found.0.now, instance_view found.1, found.2.now, found.3.now))
+        ensures { MatchResult result (λ found.
+            claim_at self.now.node (hypotheses_by_number self.now.hypotheses.now) h
+            ≡ Ok (found.0.now, instance_view found.1, found.2.now, found.3.now))
             (λ fault. claim_at self.now.node (hypotheses_by_number self.now.hypotheses.now) h ≡ Err fault) }
     {
         match self.hypotheses.cited(self.count, h, self.node)? {

@@ -55,7 +55,9 @@ impl Checker {
     ) -> Result<usize, CheckFault>
         requires { HasProofRoom self.old place.now (size (and_r (proof_view p.now) (proof_view q.now))) (depth (and_r (proof_view p.now) (proof_view q.now))) }
         ensures { GivesFollowed self.old self.new (place.now.node + size (and_r (proof_view p.now) (proof_view q.now))) result
-            (by_and_r (answer by_grant (proof_view p.now)) (size (proof_view p.now)) (answer by_grant (proof_view q.now)) place.now.node (sequent self.old place.now) self.old.grant) }
+            (by_and_r (answer by_grant (proof_view p.now)) (size (proof_view p.now))
+            (answer by_grant (proof_view q.now)) place.now.node (sequent self.old place.now)
+            self.old.grant) }
     {
         let (a, b) = place.goal.as_both(place.node)?;
         let first = Position {

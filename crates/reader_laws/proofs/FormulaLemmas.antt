@@ -1,15 +1,14 @@
 -- Formulas and statements are read steadily.
-use Rattle.std.proofs.Common.{◌≡◌, ℕ, zero, suc, ◌-◌, List, [], ◌∷◌, ◌++◌, Bool, cond, Result, Ok, Err}
+use Rattle.std.proofs.Common.{ℕ, zero, suc, ◌-◌, List, [], ◌∷◌, ◌++◌, Bool, cond, Ok}
 use Rattle.std.specs.Prelude.{◌==◌, nat_lt}
-use Rattle.bl_syntax.specs.declared.codec_fault.CodecFault.{CodecFault}
 use Rattle.bl_syntax.specs.declared.codec_fault.CodecFault.TheVariants.{Short}
 use Rattle.bl_syntax.specs.declared.terms.StatePred.TheVariants.{Owner, HasXattr, InDir}
 use Rattle.bl_syntax.specs.Formula.{FormulaView, atom, compare, state, both, either, implies, truth, falsity, forall_, exists_, says, on}
 use Rattle.bl_syntax.specs.Statement.{statement_view}
-use Rattle.bl_syntax.specs.Reading.{◌>>=◌, Reading, place, map_reading, name_at, predicate_at, time_at, sort_at, term_at}
+use Rattle.bl_syntax.specs.Reading.{◌>>=◌, map_reading, term_at}
 use Rattle.bl_syntax.specs.FormulaReading as reading
-use Rattle.bl_syntax.specs.FormulaReading.{Counted, with_left, admit_node, is_term_tag, is_formula_tag, no_more, is_sayable}
-use Rattle.reader_laws.proofs.ExtendedLemmas.{Extended, behind, ReadsOn, IsSteady, done, cut, faults, either_way, one_then}
+use Rattle.bl_syntax.specs.FormulaReading.{Counted, admit_node, is_term_tag, is_formula_tag, no_more, is_sayable}
+use Rattle.reader_laws.proofs.ExtendedLemmas.{Extended, behind, IsSteady, done, cut, faults, either_way, one_then}
 use Rattle.reader_laws.proofs.FieldLemmas.{names, predicates, times, sorts, terms}
 
 -- more bytes after those that are left over, beside how many nodes may come

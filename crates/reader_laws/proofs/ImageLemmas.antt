@@ -1,17 +1,16 @@
 -- Images are read steadily.
-use Rattle.std.proofs.Common.{◌≡◌, ℕ, zero, suc, List, [], ◌∷◌, ◌++◌, length, Result, Ok, Err}
+use Rattle.std.proofs.Common.{ℕ, zero, suc, List, [], ◌∷◌, ◌++◌, length}
 use Rattle.std.specs.Prelude.{nat_lt, nat_le, ◌&&◌, ◌==◌}
 use Rattle.std.specs.Int.{w32, w64}
 use Rattle.bl_syntax.specs.declared.codec_fault.CodecFault.TheVariants.{Short}
-use Rattle.bl_syntax.specs.Reading.{◌>>=◌, Reading, map_reading, place, name_at, text_at}
+use Rattle.bl_syntax.specs.Reading.{◌>>=◌, Reading, name_at, text_at}
 use Rattle.record_parts.specs.Fields.{u32_at, u64_at, sized_bytes_at, moment_field_at}
-use Rattle.record_parts.specs.RecordReading.{registered_at, issued_at}
 use Rattle.checkpoint_image.specs.Chain.{chain_at, short_list_at, long_list_at, alone, nothing_left}
 use Rattle.node_rows.specs.Names.{is_name_or_none}
 use Rattle.checkpoint_image.specs.NodeReading.{kind_of, kind_at, number_after, owned_at, kinded_at, node_head_at, is_name_after, attribute_name_at, attribute_at, name_of, attributes_at, held_at, node_name_at, node_tail_at, node_fields_at, node_of_fields, node_at, number_of, nodes_at}
 use Rattle.checkpoint_image.specs.ImageReading.{counts_at, head_at, entry_of, entry_at, statements_at, issue_of, issue_at, issues_at, issues_and_nodes_at, lists_at, parts_at, base_of_parts, fields_at, with_withdrawn, state_at, image_at}
 use Rattle.checkpoint_image.specs.WithdrawnNumbers.{withdrawn_number_at, number_left, withdrawn_numbers_at}
-use Rattle.reader_laws.proofs.ExtendedLemmas.{Extended, behind, ReadsOn, IsSteady, done, cut, faults, either_way, one_then, made}
+use Rattle.reader_laws.proofs.ExtendedLemmas.{behind, ReadsOn, IsSteady, done, cut, faults, either_way, one_then, made}
 use Rattle.reader_laws.proofs.FieldLemmas.{numbers, names, texts, words, coded}
 use Rattle.reader_laws.proofs.RecordLemmas.{both, sized_bytes, moment_fields, registrations, issues}
 

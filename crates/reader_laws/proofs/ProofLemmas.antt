@@ -1,12 +1,12 @@
 -- Proofs are read steadily.
-use Rattle.std.proofs.Common.{◌≡◌, ℕ, zero, suc, ◌-◌, List, [], ◌∷◌, ◌++◌, Bool, cond, Result, Ok, Err, refl, sym, ap, subst, ◌∙◌}
+use Rattle.std.proofs.Common.{◌≡◌, ℕ, zero, suc, ◌-◌, List, [], ◌∷◌, ◌++◌, cond, Result, Ok, Err, refl, sym, ap, subst, ◌∙◌}
 use Rattle.std.specs.Prelude.{◌==◌, ◌||◌, IsErr}
 use Rattle.std.specs.Int.{w16}
 use Rattle.std.proofs.lemmas.Bool.{false≢true}
 use Rattle.bl_syntax.specs.declared.codec_fault.CodecFault.{CodecFault}
 use Rattle.bl_syntax.specs.declared.codec_fault.CodecFault.TheVariants as codec
 use Rattle.bl_syntax.specs.declared.terms.Term.{Term}
-use Rattle.bl_syntax.specs.Reading.{Reading, number_at, term_at}
+use Rattle.bl_syntax.specs.Reading.{number_at, term_at}
 use Rattle.proof_term.specs.declared.fault.ProofFault.{ProofFault}
 use Rattle.proof_term.specs.declared.fault.ProofFault.TheVariants.{Short}
 use Rattle.proof_term.specs.declared.rule.Rule.{Rule}
@@ -14,7 +14,6 @@ use Rattle.proof_term.specs.declared.rule.Rule.TheVariants.{Axiom, One, Two}
 use Rattle.proof_term.specs.declared.rule.Axiom.TheVariants.{Init, ConsR, InterR, TrueR, FalseL}
 use Rattle.proof_term.specs.declared.rule.OnePremise.TheVariants.{OrR1, OrR2, ImpR, ForallR, ExistsR, SaysR, AtR, ConsL, InterL, AndL, ForallL, ExistsL, SaysL, Claim, AtL}
 use Rattle.proof_term.specs.declared.rule.TwoPremises.TheVariants.{AndR, OrL, ImpL}
-use Rattle.proof_term.specs.Proof.{ProofView}
 use Rattle.proof_term.specs.Rules.{by_axiom, by_one, by_two}
 use Rattle.proof_term.specs.Faults.{of_field}
 use Rattle.proof_term.specs.ProofReading.{◌>>=◌, field, RuleReading, ProofReading, of_hypothesis, of_term, of_instance, interval_at, is_right, is_left, right_rule_at, left_rule_at, rule_at, premises_at, rule_within, proof_at, kept_proof_at}

@@ -1,12 +1,12 @@
 -- Records, and events, are read steadily.
-use Rattle.std.proofs.Common.{◌≡◌, ℕ, zero, suc, ◌-◌, List, [], ◌∷◌, ◌++◌, length, Bool, cond, Result, Ok, Err, refl, sym, ap, subst, ◌∙◌, arith}
+use Rattle.std.proofs.Common.{◌≡◌, ℕ, zero, suc, ◌-◌, List, [], ◌∷◌, ◌++◌, length, cond, Result, Ok, Err, refl, sym, ap, subst, ◌∙◌, arith}
 use Rattle.std.specs.Prelude.{◌==◌, IsErr}
 use Rattle.std.specs.Int.{w32, w64, cast_signed}
 use Rattle.std.proofs.lemmas.Bool.{false≢true}
 use Rattle.std.proofs.lemmas.List.{length-append}
 use Rattle.bl_syntax.specs.declared.codec_fault.CodecFault.{CodecFault}
 use Rattle.bl_syntax.specs.declared.codec_fault.CodecFault.TheVariants.{Short}
-use Rattle.bl_syntax.specs.Reading.{◌>>=◌, Reading, map_reading, place, number_at, is_moment, name_at, text_at}
+use Rattle.bl_syntax.specs.Reading.{◌>>=◌, Reading, is_moment, name_at, text_at}
 use Rattle.proof_term.specs.declared.fault.ProofFault.{ProofFault}
 use Rattle.proof_term.specs.declared.fault.ProofFault.TheVariants as proof
 use Rattle.bl_syntax.specs.FormulaReading.{statement_at}

@@ -1,4 +1,5 @@
--- The fields of journal records that stand in no term, formula or grant: the one spelling of each, and its reading from the left. The format is this project's own. Its
+-- The fields of journal records that stand in no term, formula or grant: the one spelling of each,
+-- and its reading from the left. The format is this project's own. Its
 -- numbers are big-endian. A field that the input does not hold whole is Short.
 use Rattle.std.specs.Prelude.{ℕ, ℤ, List, [], ◌∷◌, ◌++◌, ◌<◌, ◌≤◌, ◌^◌, length, take, drop, nat_lt, if◌then◌else◌, Ok, Err}
 use Rattle.std.specs.Int.{w32, w64, to_be_bytes, cast_signed, cast_unsigned}

@@ -1,4 +1,5 @@
--- Reading operations from their canonical bytes, from the left: the value and the bytes after it, or the first fault. The order of the faults is this project's own: the code
+-- Reading operations from their canonical bytes, from the left: the value and the bytes after it,
+-- or the first fault. The order of the faults is this project's own: the code
 -- is tested first, and then each word in order.
 use Rattle.std.specs.Prelude.{ℕ, List, [], ◌∷◌, ◌==◌, if◌then◌else◌, Ok, Err}
 use Rattle.bl_syntax.specs.declared.codec_fault.CodecFault.TheVariants.{Short, BadTag}

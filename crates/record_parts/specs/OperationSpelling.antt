@@ -1,4 +1,5 @@
--- Canonical bytes of operations: the one spelling of each, its code and its words in order. The format is this project's own. Its numbers are big-endian.
+-- Canonical bytes of operations: the one spelling of each, its code and its words in order. The
+-- format is this project's own. Its numbers are big-endian.
 use Rattle.std.specs.Prelude.{ℕ, List, ◌∷◌, ◌++◌, IsTrue}
 use Rattle.bl_syntax.specs.Names.{is_principal_name, is_text}
 use Rattle.bl_syntax.specs.Spelling.{with_length}
@@ -23,17 +24,21 @@ operation_spelling (Chown node owner) = 13 ∷ (node_spelling node ++ with_lengt
 
 -- the operation has a spelling: its numbers, lengths and names fit their fields
 abbrev pub IsSpellableOperation : Op → Type 0
-IsSpellableOperation (Read file offset len) = IsSpellableNode file × (IsSpellableNumber offset × IsSpellableNumber len)
-IsSpellableOperation (Write file offset bytes) = IsSpellableNode file × (IsSpellableNumber offset × FitsFourBytes bytes)
+IsSpellableOperation (Read file offset len) = IsSpellableNode file ×
+    (IsSpellableNumber offset × IsSpellableNumber len)
+IsSpellableOperation (Write file offset bytes) = IsSpellableNode file ×
+    (IsSpellableNumber offset × FitsFourBytes bytes)
 IsSpellableOperation (Truncate file len) = IsSpellableNode file × IsSpellableNumber len
 IsSpellableOperation (ListOf directory) = IsSpellableNode directory
 IsSpellableOperation (Lookup directory name) = IsSpellableNode directory × FitsOneByte name
 IsSpellableOperation (Create directory name) = IsSpellableNode directory × FitsOneByte name
 IsSpellableOperation (Mkdir directory name) = IsSpellableNode directory × FitsOneByte name
 IsSpellableOperation (Unlink directory name) = IsSpellableNode directory × FitsOneByte name
-IsSpellableOperation (Rename directory name target renamed) = IsSpellableNode directory × (FitsOneByte name × (IsSpellableNode target × FitsOneByte renamed))
+IsSpellableOperation (Rename directory name target renamed) = IsSpellableNode directory ×
+    (FitsOneByte name × (IsSpellableNode target × FitsOneByte renamed))
 IsSpellableOperation (Getattr node name) = IsSpellableNode node × FitsOneByte name
-IsSpellableOperation (Setattr node name value) = IsSpellableNode node × (FitsOneByte name × IsTrue (is_text value))
+IsSpellableOperation (Setattr node name value) = IsSpellableNode node ×
+    (FitsOneByte name × IsTrue (is_text value))
 IsSpellableOperation (Delattr node name) = IsSpellableNode node × FitsOneByte name
 IsSpellableOperation (Chown node owner) = IsSpellableNode node × IsTrue (is_principal_name owner)
 

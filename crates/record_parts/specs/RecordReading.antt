@@ -1,4 +1,5 @@
--- Reading what a journal's records hold after their tag, from the left: the value and the bytes after it, or the first fault.
+-- Reading what a journal's records hold after their tag, from the left: the value and the bytes
+-- after it, or the first fault.
 use Rattle.std.specs.Prelude.{ℕ, ℤ, List, Ok}
 use Rattle.bl_syntax.specs.Statement.{StatementView}
 use Rattle.bl_syntax.specs.Grant.{GrantView}

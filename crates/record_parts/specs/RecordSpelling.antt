@@ -1,4 +1,5 @@
--- Canonical bytes of what a journal's records hold after their tag: what was registered, withdrawn and issued, and what was done. The format is this project's own.
+-- Canonical bytes of what a journal's records hold after their tag: what was registered, withdrawn
+-- and issued, and what was done. The format is this project's own.
 use Rattle.std.specs.Prelude.{ℕ, ℤ, List, ◌++◌, ◌<◌, ◌^◌, IsTrue}
 use Rattle.std.specs.Int.{w32, to_be_bytes}
 use Rattle.bl_syntax.specs.Names.{is_principal_name}

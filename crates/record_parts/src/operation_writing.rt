@@ -100,7 +100,9 @@ fn add_rename(
 ) -> Result<(), NoMemory>
     requires name { FitsOneByte name.now }
     requires renamed { FitsOneByte renamed.now }
-    ensures ok { OnOk result (out.new ≡ out.old ++ 9 ∷ (node_spelling directory ++ (with_length name.now ++ (node_spelling target ++ with_length renamed.now)))) }
+    ensures ok { OnOk result (out.new ≡ out.old ++ 9
+        ∷ (node_spelling directory
+        ++ (with_length name.now ++ (node_spelling target ++ with_length renamed.now)))) }
     ensures spelled { OnOk result (IsSpellableNode directory × IsSpellableNode target) }
     ensures err { OnErr result (BeginsWith out.new out.old) }
 {

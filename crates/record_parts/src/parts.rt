@@ -27,6 +27,7 @@ fn many_procaps_at(
     ensures { GivesReadingOrReports (λ x. (x.0, x.1.now)) result (many_at (procap_at input) count bytes.now) }
 {
     let mut procaps = Sequence::new(alloc);
+    procaps.reserve(count as usize)?;
     let mut rest = bytes;
     for _ in 0..count {
         match procap_at(alloc, input, rest) {
@@ -60,6 +61,7 @@ fn many_numbers_at(alloc: Global, count: u8, bytes: &[u8]) -> Result<(Numbers, &
     ensures { GivesReadingOrReports (λ x. (x.0, x.1.now)) result (many_at u32_at count bytes.now) }
 {
     let mut numbers = Sequence::new(alloc);
+    numbers.reserve(count as usize)?;
     let mut rest = bytes;
     for _ in 0..count {
         match u32_at(rest) {

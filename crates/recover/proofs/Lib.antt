@@ -1,5 +1,6 @@
 pub mod AreaDamageLemmas
 pub mod DiskLemmas
+pub mod EitherLemmas
 pub mod FollowingLemmas
 pub mod ImageLemmas
 pub mod LawLemmas

@@ -27,8 +27,10 @@ use Rattle.recover.specs.AreaDamage.{IsDamagedArea}
 
 -- ---- two disks' bytes
 
--- The history is that of the newest area, which begins with this image: its bytes stand for it, its events have pass 0, and it is lawful under that authority.
-pub record IsNewestHistory (authority : Authority) (generation : ℕ) (image : List ℕ) (base : BaseView) (events : List Event) (first second : List ℕ) : Type 0 where
+-- The history is that of the newest area, which begins with this image: its bytes stand for it, its
+-- events have pass 0, and it is lawful under that authority.
+pub record IsNewestHistory (authority : Authority) (generation : ℕ) (image : List ℕ)
+    (base : BaseView) (events : List Event) (first second : List ℕ) : Type 0 where
   pub bytes : List ℕ
   pub counts : newest first second ≡ Some bytes
   pub stands : StandsFor bytes generation base events
@@ -42,7 +44,8 @@ pub record IsNewestDamaged (authority : Authority) (number : ℕ) (damage : Dama
   pub counts : newest first second ≡ Some bytes
   pub damaged : IsDamagedArea authority bytes number damage
 
--- The area with this image, the records of these events and its closed gate: the newest bytes go on after the records.
+-- The area with this image, the records of these events and its closed gate: the newest bytes go on
+-- after the records.
 pub record IsNewestClosed (generation : ℕ) (image : List ℕ) (events : List Event) (first second : List ℕ) : Type 0 where
   pub bytes : List ℕ
   pub counts : newest first second ≡ Some bytes
@@ -50,7 +53,8 @@ pub record IsNewestClosed (generation : ℕ) (image : List ℕ) (events : List E
 
 -- ---- one area
 
--- the gate's history is that of an area of this generation, which begins with this image and ends there before its closed gate
+-- the gate's history is that of an area of this generation, which begins with this image and ends
+-- there before its closed gate
 pub record HoldsArea (key : List ℕ) (ring : List KeyView) (end generation : ℕ) (image : List ℕ) (gate : GateView) : Type 0 where
   pub generated : IsGeneration generation
   pub end_is : end ≡ length (area_bytes generation image (payloads_of gate.events))
@@ -82,10 +86,13 @@ IsWhy authority bytes (Damaged number damage) = IsDamagedArea authority bytes nu
 IsWhy authority bytes Disk = Unit {0}
 IsWhy authority bytes NoMemory = Unit {0}
 
--- ---- disks: `clock d` is the present moment of a disk d, `left_since d t bytes` says that a crash at some moment since t may have left these bytes, `image d` is what a read gives, if d tells it, and `faults d` its count
+-- ---- disks: `clock d` is the present moment of a disk d, `left_since d t bytes` says that a crash
+-- at some moment since t may have left these bytes, `image d` is what a read gives, if d tells it,
+-- and `faults d` its count
 
 module _ {D : Type 0} (clock : D → ℕ) (left_since : D → ℕ → List ℕ → Type 0) (image : D → Option (List ℕ)) (faults : D → ℕ) where
-  -- A disk was read and synced: a crash at any moment of it leaves only what it could leave before, and where nothing was pending, the bytes are as they were.
+  -- A disk was read and synced: a crash at any moment of it leaves only what it could leave before,
+  -- and where nothing was pending, the bytes are as they were.
   pub record IsHandled (old new : D) : Type 0 where
     pub told : is_some (image new) ≡ is_some (image old)
     pub time : Idles clock left_since old new
@@ -98,7 +105,9 @@ module _ {D : Type 0} (clock : D → ℕ) (left_since : D → ℕ → List ℕ �
     pub same : image new ≡ image old
     pub pinned : IsPinned clock left_since image new
 
-  -- The store has the history of the newest area on these two disks and the image with which that begins, under that key and ring, and no checkpoint since; each of its events was read, so it has no pass.
+  -- The store has the history of the newest area on these two disks and the image with which that
+  -- begins, under that key and ring, and no checkpoint since; each of its events was read, so it
+  -- has no pass.
   -- It is ready if that area has its closed gate.
   pub record IsOpened (a b : D) (key : List ℕ) (ring : List KeyView) (s : StoreView D) : Type 0 where
     pub first_read : IsRead a (first_disk s)
@@ -109,18 +118,26 @@ module _ {D : Type 0} (clock : D → ℕ) (left_since : D → ℕ → List ℕ �
     pub lawful : IsLawful (authority_with key ring) s.base s.events
     pub each : AllByRecursion IsReadEvent s.events
     pub running : s.stop ≡ None
-    pub newest_history : (x y : List ℕ) → image a ≡ Some x → image b ≡ Some y → IsNewestHistory (authority_with key ring) s.generation s.opened s.base s.events x y
-    pub current : (x y : List ℕ) → image a ≡ Some x → image b ≡ Some y → IsCurrent clock left_since image s
-    pub ready : (x y : List ℕ) → image a ≡ Some x → image b ≡ Some y → IsNewestClosed s.generation s.opened s.events x y → IsReady clock left_since image s
+    pub newest_history : (x y : List ℕ) → image a ≡ Some x → image b ≡ Some y →
+        IsNewestHistory (authority_with key ring) s.generation s.opened s.base s.events x y
+    pub current : (x y : List ℕ) → image a ≡ Some x → image b ≡ Some y →
+        IsCurrent clock left_since image s
+    pub ready : (x y : List ℕ) → image a ≡ Some x → image b ≡ Some y →
+        IsNewestClosed s.generation s.opened s.events x y → IsReady clock left_since image s
 
-  -- the cause of each fault: no area is open; the newest one is damaged; the count of a disk rose; or there was no memory
+  -- the cause of each fault: no area is open; the newest one is damaged; the count of a disk rose;
+  -- or there was no memory
   abbrev pub HasCause : D → D → Authority → OpenFault → D → D → Type 0
-  HasCause a b authority NoStore first second = (x y : List ℕ) → image a ≡ Some x → image b ≡ Some y → newest x y ≡ None
-  HasCause a b authority (Damaged number damage) first second = (x y : List ℕ) → image a ≡ Some x → image b ≡ Some y → IsNewestDamaged authority number damage x y
-  HasCause a b authority Disk first second = HasRisen (faults a) (faults first) ⊎ HasRisen (faults b) (faults second)
+  HasCause a b authority NoStore first second = (x y : List ℕ) → image a ≡ Some x →
+      image b ≡ Some y → newest x y ≡ None
+  HasCause a b authority (Damaged number damage) first second = (x y : List ℕ) → image a ≡ Some x →
+      image b ≡ Some y → IsNewestDamaged authority number damage x y
+  HasCause a b authority Disk first second = HasRisen (faults a) (faults first) ⊎
+      HasRisen (faults b) (faults second)
   HasCause a b authority NoMemory first second = Unit {0}
 
-  -- No store was opened, and the disks are given back. Only after a fault of a disk their bytes may be others.
+  -- No store was opened, and the disks are given back. Only after a fault of a disk their bytes may
+  -- be others.
   pub record IsNotOpened (a b : D) (authority : Authority) (fault : OpenFault) (first second : D) : Type 0 where
     pub cause : HasCause a b authority fault first second
     pub first_handled : IsHandled a first

@@ -27,7 +27,8 @@ pub record IsGateOf (key : List ℕ) (ring : List KeyView) (image : List ℕ) (g
   pub events_are : gate.events ≡ []
   pub idle : gate.pending ≡ None
 
--- the image is that of a state with which the gate begins, or it has this first damage, or there was no memory
+-- the image is that of a state with which the gate begins, or it has this first damage, or there
+-- was no memory
 abbrev pub ReadsGate : List ℕ → List KeyView → List ℕ → Result GateView AdmitFault → Type 0
 ReadsGate key ring image (Ok gate) = IsGateOf key ring image gate
 ReadsGate key ring image (Err (admits.Damaged damage)) = IsDamagedImage (authority_with key ring) image damage
@@ -47,14 +48,18 @@ pub record KeepsPayload (old : GateView) (payload : List ℕ) (new : GateView) :
   pub spelled : payload ≡ event_spelling event
   pub kept : new.events ≡ old.events ++ event ∷ []
 
--- the payload's event is kept, or it has this first damage, or there was no memory; then the events are as before
+-- the payload's event is kept, or it has this first damage, or there was no memory; then the events
+-- are as before
 abbrev pub AdmitsPayload : GateView → List ℕ → Result (Unit {0}) AdmitFault → GateView → Type 0
 AdmitsPayload old payload (Ok done) new = KeepsPayload old payload new
-AdmitsPayload old payload (Err (admits.Damaged damage)) new = IsDamagedPayload (authority_with old.key old.ring) (replay old.base old.events) payload damage × (new.events ≡ old.events)
+AdmitsPayload old payload (Err (admits.Damaged damage)) new = IsDamagedPayload (authority_with old.key old.ring) (replay old.base old.events) payload damage ×
+    (new.events ≡ old.events)
 AdmitsPayload old payload (Err admits.NoMemory) new = Unit {0}
 
--- all payloads are of events, which are kept, or this is the first that is damaged after the base, or there was no memory
-abbrev pub AdmitsPayloads : Authority → BaseView → List (List ℕ) → Result (Unit {0}) OpenFault → List Event → Type 0
+-- all payloads are of events, which are kept, or this is the first that is damaged after the base,
+-- or there was no memory
+abbrev pub AdmitsPayloads : Authority → BaseView → List (List ℕ) → Result (Unit {0}) OpenFault →
+    List Event → Type 0
 AdmitsPayloads authority base payloads (Ok done) events = AreRead payloads events
 AdmitsPayloads authority base payloads (Err opens.NoStore) events = ⊥
 AdmitsPayloads authority base payloads (Err (opens.Damaged number damage)) events = IsDamagedAt authority base payloads number damage
@@ -83,7 +88,8 @@ abbrev pub fault_at : ℕ → AdmitFault → OpenFault
 fault_at number (admits.Damaged damage) = opens.Damaged number damage
 fault_at number admits.NoMemory = opens.NoMemory
 
--- the image is damaged, or it is that of a state, and this payload is damaged first after it, or there was no memory
+-- the image is damaged, or it is that of a state, and this payload is damaged first after it, or
+-- there was no memory
 abbrev pub HasDamage : Authority → List ℕ → List (List ℕ) → OpenFault → Type 0
 HasDamage authority image payloads opens.NoStore = ⊥
 HasDamage authority image payloads (opens.Damaged number damage) =

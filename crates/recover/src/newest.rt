@@ -27,7 +27,9 @@ fn settled_generation<D: Disk>(disk: &mut D) -> Result<Option<u64>, Failed>
 /// Whether the second of two disks has the area that counts; none exactly if neither area is open. It begins with a sync of
 /// both, and then only reads.
 pub fn find_newest<D: Disk>(a: &mut D, b: &mut D) -> Result<Option<bool>, Failed>
-    ensures ok { IfOk result (λ which. IfSome (D.image a.old) (λ first. IfSome (D.image b.old) (λ second. which ≡ newer (generation_of first) (generation_of second)))) }
+    ensures ok { IfOk result (λ which.
+        IfSome (D.image a.old) (λ first. IfSome (D.image b.old) (λ second. which
+        ≡ newer (generation_of first) (generation_of second)))) }
     ensures a_same { OnOk result (D.image a.new ≡ D.image a.old) }
     ensures a_pinned { OnOk result (IsPinned D.clock D.left_since D.image a.new) }
     ensures a_told { is_some (D.image a.new) ≡ is_some (D.image a.old) }

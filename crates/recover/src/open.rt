@@ -58,7 +58,8 @@ fn why<D: Disk>(
 ) -> OpenFault
     ensures why { IfSome (D.image disk.old) (λ bytes. IsScanned fault bytes → IsWhy (authority_with key.now ring) bytes result) }
     ensures disk { fault ≡ ScanFault.Disk → result ≡ OpenFault.Disk }
-    ensures risen { result ≡ OpenFault.Disk → (fault ≡ ScanFault.Disk) ⊎ HasRisen (D.faults disk.old) (D.faults disk.new) }
+    ensures risen { result ≡ OpenFault.Disk →
+        (fault ≡ ScanFault.Disk) ⊎ HasRisen (D.faults disk.old) (D.faults disk.new) }
     ensures same { result ≢ OpenFault.Disk → D.image disk.new ≡ D.image disk.old }
     ensures told { is_some (D.image disk.new) ≡ is_some (D.image disk.old) }
     ensures time { Idles D.clock D.left_since disk.old disk.new }

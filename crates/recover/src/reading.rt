@@ -65,7 +65,7 @@ fn admit_payloads(alloc: Global, gate: &mut Gate, scan: &Scan) -> Result<(), Ope
 {
     gate.forget();
     for place in 0..scan.count() {
-        gate.history().lawful();
+        gate.history().lemma_is_lawful();
         if let Err(fault) = admit_payload(alloc, gate, scan.payload(place)) {
             return Err(fault_at(place as u64 + 1, fault));
         }
@@ -87,7 +87,7 @@ pub fn read_history(
     match read_gate(alloc, scan.image(), key, ring) {
         Ok(mut gate) => match admit_payloads(alloc, &mut gate, scan) {
             Ok(()) => {
-                gate.history().lawful();
+                gate.history().lemma_is_lawful();
                 Ok(gate)
             }
             Err(fault) => Err(fault),

@@ -6,7 +6,7 @@ use Rattle.line_faults.specs.LongLines.{HasLongLine}
 use Rattle.line_forms.specs.declared.fault.LineFault.{LineFault}
 use Rattle.line_forms.specs.declared.fault.LineFault.TheVariants.{BadWord, BadCount, BadText, NoMemory}
 use Rattle.line_text.specs.Lines.{lines_of}
-use Rattle.pcfs_ports.specs.Told.{ReadsToEnd}
+use Rattle.pcfs_ports.specs.Observable.{ReadsToEnd}
 use Rattle.root_signing.specs.Reading.{IsUnreadSeed}
 use Rattle.root_signing.specs.Signed.{ComesTo, SigningEnds, SignsLines, answered, fault_line, has_seed, no_line, no_seed, root_line}
 use Rattle.root_signing.specs.SigningLines.{IsSeedFault, IsSeedLine}

@@ -10,15 +10,19 @@ use Rattle.root_signing.specs.Signed.{ComesTo}
 -- lines come to one end at most
 abbrev pub HasOneEnd : Type 0
 HasOneEnd = (height from : ℕ) (lines : List (List ℕ)) (status other : ℕ) (written another : List ℕ)
-    → ComesTo height from lines status written → ComesTo height from lines other another → (status ≡ other) × (written ≡ another)
+    → ComesTo height from lines status written → ComesTo height from lines other another
+    → (status ≡ other) × (written ≡ another)
 
--- lines come to an end, whatever they are, if the first leaf is one of the tree or the one past its last
+-- lines come to an end, whatever they are, if the first leaf is one of the tree or the one past its
+-- last
 abbrev pub HasAnEnd : Type 0
 HasAnEnd = (height from : ℕ) (lines : List (List ℕ)) → from ≤ 2 ^ height
     → (status : ℕ) × (written : List ℕ) × ComesTo height from lines status written
 
--- a ring that has the root of the seed's tree for a name accepts what its leaves sign, as of that name
+-- a ring that has the root of the seed's tree for a name accepts what its leaves sign, as of that
+-- name
 abbrev pub RingAcceptsSigned : Type 0
-RingAcceptsSigned = (ring : List KeyView) (seed : List ℕ) (height leaf : ℕ) (s : StatementView) → height ≤ 8 → leaf < 2 ^ height
+RingAcceptsSigned = (ring : List KeyView) (seed : List ℕ) (height leaf : ℕ) (s : StatementView)
+    → height ≤ 8 → leaf < 2 ^ height
     → credential_of ring s.who ≡ Some (rooted height (root_of seed height))
     → IsTrue (is_accepted ring s.who (statement_message s) (signature_of seed height leaf (statement_message s)))

@@ -14,14 +14,19 @@ IsUnreadSeed line BadCount = IsSeedFault line BadCount
 IsUnreadSeed line (BadText fault) = IsSeedFault line (BadText fault)
 IsUnreadSeed line NoMemory = Unit {0}
 
--- the statement of the text was signed by the next leaf, which is spent; or none is left, and that decides the status
-abbrev pub SignsStatement : SignerView → List ℕ → StatementView → Option ℕ → SignerView → List ℕ → Type 0
+-- the statement of the text was signed by the next leaf, which is spent; or none is left, and that
+-- decides the status
+abbrev pub SignsStatement : SignerView → List ℕ → StatementView → Option ℕ → SignerView → List ℕ →
+    Type 0
 SignsStatement s text said None after written =
-    (s.next < 2 ^ s.height) × (after ≡ record s { next = s.next + 1 }) × (written ≡ register_line s.seed s.height s.next text said)
-SignsStatement s text said (Some status) after written = (s.next ≡ 2 ^ s.height) × (status ≡ 18) × (written ≡ spent_line s.height)
+    (s.next < 2 ^ s.height) × (after ≡ record s { next = s.next + 1 }) ×
+    (written ≡ register_line s.seed s.height s.next text said)
+SignsStatement s text said (Some status) after written = (s.next ≡ 2 ^ s.height) × (status ≡ 18) ×
+    (written ≡ spent_line s.height)
 
 -- the line of this number was signed so; or it decides the status
 abbrev pub SignsLine : SignerView → ℕ → List ℕ → Option ℕ → SignerView → List ℕ → Type 0
 SignsLine s number line None after written =
-    (text : List ℕ) × (said : StatementView) × SaysStatement line text said × SignsStatement s text said None after written
+    (text : List ℕ) × (said : StatementView) × SaysStatement line text said ×
+    SignsStatement s text said None after written
 SignsLine s number line (Some status) after written = Decides s.height s.next number line status written

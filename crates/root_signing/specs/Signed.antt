@@ -1,4 +1,5 @@
--- What is written of an input that asks for signatures by the leaves of a tree of hashes, and the status (this project's own).
+-- What is written of an input that asks for signatures by the leaves of a tree of hashes, and the
+-- status (this project's own).
 use Rattle.std.specs.Prelude.{◌≡◌, ◌<◌, ℕ, ◌+◌, ◌^◌, List, [], ◌∷◌, ◌++◌, codes, Option}
 use Rattle.std.specs.Fmt.{decimal}
 use Rattle.bl_syntax.specs.Statement.{StatementView}
@@ -11,7 +12,7 @@ use Rattle.line_text.specs.Lines.{lines_of}
 use Rattle.merkle_sig.specs.HashTree.{root_of}
 use Rattle.merkle_sig.specs.Signature.{signature_of}
 use Rattle.pcfs_ports.specs.Faults.{HasRisen}
-use Rattle.pcfs_ports.specs.Told.{ReadsToEnd, TakesFirst}
+use Rattle.pcfs_ports.specs.Observable.{ReadsToEnd, TakesFirst}
 use Rattle.policy_statement.specs.Messages.{statement_message}
 use Rattle.root_signing.specs.SigningLines.{IsSeedFault, IsSeedLine, IsStatementFault, SaysStatement}
 
@@ -33,34 +34,48 @@ spent_line height = codes "leaves " ++ (decimal (2 ^ height) ++ 10 ∷ [])
 
 -- ---- what a text comes to
 
--- the line of this number decides how it ends: it is wrong, or it says a statement for which no leaf is left
+-- the line of this number decides how it ends: it is wrong, or it says a statement for which no
+-- leaf is left
 pub data Decides (height leaf number : ℕ) (line : List ℕ) : ℕ → List ℕ → Type 0 where
-  wrong : (fault : LineFault) → IsStatementFault line fault → Decides height leaf number line 12 (fault_line number fault)
-  spent : (text : List ℕ) (s : StatementView) → SaysStatement line text s → leaf ≡ 2 ^ height → Decides height leaf number line 18 (spent_line height)
+  wrong : (fault : LineFault) → IsStatementFault line fault →
+      Decides height leaf number line 12 (fault_line number fault)
+  spent : (text : List ℕ) (s : StatementView) → SaysStatement line text s → leaf ≡ 2 ^ height →
+      Decides height leaf number line 18 (spent_line height)
 
--- the lines, the first of which has this number, are signed one after the other by the leaves from this one on, up to the first line that decides otherwise
+-- the lines, the first of which has this number, are signed one after the other by the leaves from
+-- this one on, up to the first line that decides otherwise
 pub data SignsLines (seed : List ℕ) (height : ℕ) : ℕ → ℕ → List (List ℕ) → ℕ → List ℕ → Type 0 where
   all_signed : (leaf number : ℕ) → SignsLines seed height leaf number [] 0 []
   signed : (leaf number : ℕ) (line : List ℕ) (lines : List (List ℕ)) (text : List ℕ) (s : StatementView) (status : ℕ) (written : List ℕ) →
-      SaysStatement line text s → leaf < 2 ^ height → SignsLines seed height (leaf + 1) (number + 1) lines status written →
+      SaysStatement line text s → leaf < 2 ^ height →
+      SignsLines seed height (leaf + 1) (number + 1) lines status written →
       SignsLines seed height leaf number (line ∷ lines) status (register_line seed height leaf text s ++ written)
   decided : (leaf number : ℕ) (line : List ℕ) (lines : List (List ℕ)) (status : ℕ) (written : List ℕ) →
-      Decides height leaf number line status written → SignsLines seed height leaf number (line ∷ lines) status written
+      Decides height leaf number line status written →
+      SignsLines seed height leaf number (line ∷ lines) status written
 
--- the lines come to this status and these bytes: the first gives the seed, whose root is written, and the others are signed; or it is wrong, or there is none
+-- the lines come to this status and these bytes: the first gives the seed, whose root is written,
+-- and the others are signed; or it is wrong, or there is none
 pub data ComesTo (height from : ℕ) : List (List ℕ) → ℕ → List ℕ → Type 0 where
   no_line : ComesTo height from [] 12 (fault_line 1 (BadWord 0))
   no_seed : (line : List ℕ) (lines : List (List ℕ)) (fault : LineFault) → IsSeedFault line fault →
       ComesTo height from (line ∷ lines) 12 (fault_line 1 fault)
   has_seed : (line : List ℕ) (lines : List (List ℕ)) (seed : List ℕ) (status : ℕ) (written : List ℕ) → IsSeedLine line seed →
-      SignsLines seed height from 2 lines status written → ComesTo height from (line ∷ lines) status (root_line seed height ++ written)
+      SignsLines seed height from 2 lines status written →
+      ComesTo height from (line ∷ lines) status (root_line seed height ++ written)
 
--- The status that an input ends with whose statements are signed from a leaf on by a tree of this height, and what has to be written. A line that is too
--- long comes before all else, wherever it stands. `left` and `faults` are what the input has left and the count of its faults.
+-- The status that an input ends with whose statements are signed from a leaf on by a tree of this
+-- height, and what has to be written. A line that is too
+-- long comes before all else, wherever it stands. `left` and `faults` are what the input has left
+-- and the count of its faults.
 pub data SigningEnds (height from : ℕ) (left left_after : Option (List ℕ)) (faults faults_after : ℕ) : ℕ → List ℕ → Type 0 where
-  answered : (bytes : List ℕ) (status : ℕ) (written : List ℕ) → ReadsToEnd left left_after bytes → (HasLongLine (lines_of bytes) → ⊥) →
-      ComesTo height from (lines_of bytes) status written → SigningEnds height from left left_after faults faults_after status written
+  answered : (bytes : List ℕ) (status : ℕ) (written : List ℕ) → ReadsToEnd left left_after bytes →
+      (HasLongLine (lines_of bytes) → ⊥) →
+      ComesTo height from (lines_of bytes) status written →
+      SigningEnds height from left left_after faults faults_after status written
   long_line : (bytes : List ℕ) → ReadsToEnd left left_after bytes → HasLongLine (lines_of bytes) →
       SigningEnds height from left left_after faults faults_after 2 (codes "bad 3\n")
-  read_fault : HasRisen faults faults_after → SigningEnds height from left left_after faults faults_after 6 (codes "readfault\n")
-  too_long : TakesFirst 1073741824 left left_after → SigningEnds height from left left_after faults faults_after 13 (codes "toolong\n")
+  read_fault : HasRisen faults faults_after →
+      SigningEnds height from left left_after faults faults_after 6 (codes "readfault\n")
+  too_long : TakesFirst 1073741824 left left_after →
+      SigningEnds height from left left_after faults faults_after 13 (codes "toolong\n")

@@ -1,22 +1,23 @@
 -- Each entry that a session is given is one that a line of it asks for.
 use Rattle.std.proofs.Common.{◌≡◌, ◌∙◌, ℕ, List, [], ◌∷◌, ◌++◌, Option, Some, None, refl, sym, ap, subst, append_assoc}
 use Rattle.std.specs.Prelude.{ℤ}
-use Rattle.std.specs.List.{AllByRecursion}
 use Rattle.std.specs.Option.{option_map}
-use mathlib.Core.List.{IsPrefix}
+use Rattle.proof_verifier.specs.declared.cites.Cite.{Cite as Citation}
 use Rattle.proof_verifier.specs.CheckedView.{checked_view}
 use Rattle.access_history.specs.declared.event.Event.{Event}
 use Rattle.access_history.specs.declared.request.StepRequest.TheVariants.{Issue}
 use Rattle.access_history.specs.Base.{BaseView}
+use Rattle.access_history.specs.Citing.{numbers_of}
 use Rattle.line_wire.specs.declared.reply.LineReply.{LineReply}
-use Rattle.pcfs_store.specs.Entries.{Root, StoreEntry, happened, checkpointed, stopped, state_of_entries}
+use Rattle.pcfs_store.specs.Entries.{Root, StoreEntry, happened, stopped, state_of_entries}
 use Rattle.session_history.specs.declared.request.TurnRequest.{TurnRequest}
 use Rattle.session_history.specs.declared.request.TurnRequest.TheVariants.{Step, Cite}
 use Rattle.session_history.specs.declared.reply.TurnReply.{TurnReply}
+use Rattle.session_history.specs.declared.reply.TurnReply.TheVariants as turn_replies
 use Rattle.session_history.specs.declared.task.LineTask.{LineTask}
 use Rattle.session_history.specs.declared.task.LineTask.TheVariants as tasks
 use Rattle.session_history.specs.SessionState.{SessionState}
-use Rattle.session_history.specs.Turn.{StorePass, event_of, AnswersTurn, Turn, TurnPlaced}
+use Rattle.session_history.specs.Turn.{StorePass, event_of, AnswersTurn, Turn}
 use Rattle.session_history.specs.Turn as turns
 use Rattle.session_history.specs.Tasks.{IsTaskOf}
 use Rattle.session_history.specs.Placed.{LinePlaced, at_once, in_a_turn, proves_none, issues, LinesPlaced, no_line, one_more}
@@ -50,19 +51,21 @@ record Adds (gives : ℤ → Type 0) (p : StorePass) (found : List StoreEntry) (
   answer : TurnReply
   answers : AnswersTurn p.root (state_of_entries p.root found) p.number moment request answer (Some entry)
 
+-- so it does of the only entry that is added, if one is
+abbrev AddsOne : (ℤ → Type 0) → StorePass → List StoreEntry → TurnRequest → List StoreEntry → Type 0
+AddsOne gives p found request [] = Unit {0}
+AddsOne gives p found request (entry ∷ []) = Adds gives p found request (asked_entry entry)
+AddsOne gives p found request (entry ∷ next ∷ more) = ⊥
+
 turn_adds : (gives : ℤ → Type 0) (p : StorePass) (before : List StoreEntry) (request : TurnRequest) (reply : TurnReply) (given : List StoreEntry) → Turn gives p before request reply given →
-    AllByRecursion (λ entry. Adds gives p before request (asked_entry entry)) given
+    AddsOne gives p before request given
 turn_adds gives p before request _ _ (turns.was_stopped is) = tt
 turn_adds gives p before request _ _ (turns.answered clock answer running shown answers) = tt
 turn_adds gives p before request _ _ (turns.full clock answer entry running shown answers is_full) = tt
-turn_adds gives p before request _ _ (turns.kept clock answer entry running shown answers room) = (
-  subst (Adds gives p before request) (sym (plain p.root (state_of_entries p.root before) p.number clock request answer (Some entry) answers).0) (record { moment = clock; shown = shown; answer = answer; answers = answers }),
-  tt,
-)
-turn_adds gives p before request _ _ (turns.failed clock answer entry running shown answers room) = (
-  subst (Adds gives p before request) (sym (plain p.root (state_of_entries p.root before) p.number clock request answer (Some entry) answers).1) (record { moment = clock; shown = shown; answer = answer; answers = answers }),
-  tt,
-)
+turn_adds gives p before request _ _ (turns.kept clock answer entry running shown answers room) =
+    subst (Adds gives p before request) (sym (plain p.root (state_of_entries p.root before) p.number clock request answer (Some entry) answers).0) (record { moment = clock; shown = shown; answer = answer; answers = answers })
+turn_adds gives p before request _ _ (turns.failed clock answer entry running shown answers room) =
+    subst (Adds gives p before request) (sym (plain p.root (state_of_entries p.root before) p.number clock request answer (Some entry) answers).1) (record { moment = clock; shown = shown; answer = answer; answers = answers })
 turn_adds gives p before request _ _ turns.without_memory = tt
 
 -- a turn for statements adds nothing
@@ -70,12 +73,26 @@ cites_add_none : (root : Root) (state : BaseView) (pass : ℕ) (clock : ℤ) (nu
 cites_add_none root state pass clock _ _ _ entry (turns.cites numbers cited are) is = cc
 cites_add_none root state pass clock _ _ _ entry (turns.cites_none numbers number absent) is = cc
 
+-- ---- the statements that a turn gives have the numbers that it asks for
+
+numbers_answered : (root : Root) (state : BaseView) (pass : ℕ) (clock : ℤ) (numbers : List ℕ) (reply : TurnReply) (entry : Option StoreEntry) (cites : List Citation) → AnswersTurn root state pass clock (Cite numbers) reply entry → reply ≡ turn_replies.Cited cites → numbers_of cites ≡ numbers
+numbers_answered root state pass clock _ _ _ cites (turns.cites numbers cited found) is = let same : cited ≡ cites = cc in subst (λ (cs : List Citation). numbers_of cs ≡ numbers) same found.numbers_are
+numbers_answered root state pass clock _ _ _ cites (turns.cites_none numbers number absent) is = absurd cc
+
+numbers_cited : (gives : ℤ → Type 0) (p : StorePass) (before : List StoreEntry) (numbers : List ℕ) (cites : List Citation) (reply : TurnReply) (given : List StoreEntry) → Turn gives p before (Cite numbers) reply given → reply ≡ turn_replies.Cited cites → numbers_of cites ≡ numbers
+numbers_cited gives p before numbers cites _ _ (turns.was_stopped stop) is = absurd cc
+numbers_cited gives p before numbers cites _ _ (turns.answered clock answer running shown answers) is = numbers_answered p.root (state_of_entries p.root before) p.number clock numbers answer None cites answers is
+numbers_cited gives p before numbers cites _ _ (turns.full clock answer entry running shown answers is_full) is = absurd cc
+numbers_cited gives p before numbers cites _ _ (turns.kept clock answer entry running shown answers room) is = numbers_answered p.root (state_of_entries p.root before) p.number clock numbers answer (Some entry) cites answers is
+numbers_cited gives p before numbers cites _ _ (turns.failed clock answer entry running shown answers room) is = absurd cc
+numbers_cited gives p before numbers cites _ _ turns.without_memory is = absurd cc
+
 -- ---- what a line adds
 
 module _ (gives : ℤ → Type 0) (p : StorePass) (history : List StoreEntry) (start : SessionState) (from : ℕ) where
-  asked : (heard : List (List ℕ)) (told : List LineReply) (s : SessionState) (at : ℕ) (added : List StoreEntry) (line : List ℕ) (task : LineTask) (request : TurnRequest) (found rest : List StoreEntry) (entry : StoreEntry) →
-      LinesPlaced gives p history start from heard told s at added → IsTaskOf s line task → Asks task request → history ≡ found ++ rest → Adds gives p found request entry → IsAskedFor gives p history start from (heard ++ line ∷ []) entry
-  asked heard told s at added line task request found rest entry placed is_task asks parts adds = record {
+  asked : (heard : List (List ℕ)) (told : List LineReply) (s : SessionState) (at : ℕ) (added : List StoreEntry) (line : List ℕ) (task : LineTask) (request : TurnRequest) (found after : List StoreEntry) (entry : StoreEntry) →
+      LinesPlaced gives p history start from heard told s at added → IsTaskOf s line task → Asks task request → history ≡ found ++ (entry ∷ after) → Adds gives p found request (asked_entry entry) → IsAskedFor gives p history start from (heard ++ line ∷ []) entry
+  asked heard told s at added line task request found after entry placed is_task asks parts adds = record {
     earlier = heard;
     line = line;
     later = [];
@@ -90,7 +107,7 @@ module _ (gives : ℤ → Type 0) (p : StorePass) (history : List StoreEntry) (s
     request = request;
     asks = asks;
     found = found;
-    begins = (rest, sym parts);
+    begins = (after, append_assoc found (entry ∷ []) after ∙ sym parts);
     moment = adds.moment;
     shown = adds.shown;
     answer = adds.answer;
@@ -98,25 +115,27 @@ module _ (gives : ℤ → Type 0) (p : StorePass) (history : List StoreEntry) (s
   }
 
   module _ (heard : List (List ℕ)) (told : List LineReply) (s : SessionState) (at : ℕ) (added : List StoreEntry) (line : List ℕ) (placed : LinesPlaced gives p history start from heard told s at added) where
-    all_asked : (task : LineTask) (request : TurnRequest) (found rest : List StoreEntry) → IsTaskOf s line task → Asks task request → history ≡ found ++ rest → (given : List StoreEntry) →
-        AllByRecursion (λ entry. Adds gives p found request (asked_entry entry)) given → AreAskedFor gives p history start from (heard ++ line ∷ []) given
-    all_asked task request found rest is_task asks parts [] adds = tt
-    all_asked task request found rest is_task asks parts (entry ∷ given) adds =
-        (asked heard told s at added line task request found rest (asked_entry entry) placed is_task asks parts adds.0, all_asked task request found rest is_task asks parts given adds.1)
+    all_asked : (task : LineTask) (request : TurnRequest) (found after : List StoreEntry) → IsTaskOf s line task → Asks task request → (given : List StoreEntry) → history ≡ found ++ (given ++ after) →
+        AddsOne gives p found request given → AreAskedFor gives p history start from (heard ++ line ∷ []) given
+    all_asked task request found after is_task asks [] parts adds = tt
+    all_asked task request found after is_task asks (entry ∷ []) parts adds =
+        (asked heard told s at added line task request found after entry placed is_task asks parts adds, tt)
+    all_asked task request found after is_task asks (entry ∷ next ∷ more) parts adds = absurd adds
 
-    none_asked : (numbers : List ℕ) (found given : List StoreEntry) → AllByRecursion (λ entry. Adds gives p found (Cite numbers) (asked_entry entry)) given → AreAskedFor gives p history start from (heard ++ line ∷ []) given
+    none_asked : (numbers : List ℕ) (found given : List StoreEntry) → AddsOne gives p found (Cite numbers) given → AreAskedFor gives p history start from (heard ++ line ∷ []) given
     none_asked numbers found [] adds = tt
-    none_asked numbers found (entry ∷ given) adds =
-        absurd (cites_add_none p.root (state_of_entries p.root found) p.number adds.0.moment numbers adds.0.answer (Some (asked_entry entry)) (asked_entry entry) adds.0.answers refl)
+    none_asked numbers found (entry ∷ []) adds =
+        absurd (cites_add_none p.root (state_of_entries p.root found) p.number adds.moment numbers adds.answer (Some (asked_entry entry)) (asked_entry entry) adds.answers refl)
+    none_asked numbers found (entry ∷ next ∷ more) adds = absurd adds
 
     line_asked : (place : ℕ) (task : LineTask) (reply : LineReply) (to : ℕ) (given : List StoreEntry) → IsTaskOf s line task → LinePlaced gives p history place task reply to given → AreAskedFor gives p history start from (heard ++ line ∷ []) given
     line_asked place _ _ _ _ is_task (at_once reply) = tt
     line_asked place _ _ _ _ is_task (in_a_turn request replied reply to given turn is) =
-        all_asked (tasks.Turn request) request turn.before (given ++ turn.after) is_task (in_one_turn request) turn.parts given (turn_adds gives p turn.before request replied given turn.turn)
+        all_asked (tasks.Turn request) request turn.before turn.after is_task (in_one_turn request) given turn.parts (turn_adds gives p turn.before request replied given turn.turn)
     line_asked place _ _ _ _ is_task (places.cites_none goal numbers proof replied reply to given turn is) = none_asked numbers turn.before given (turn_adds gives p turn.before (Cite numbers) replied given turn.turn)
     line_asked place _ _ _ _ is_task (proves_none goal numbers proof cites fault to turn verdict_is) = tt
     line_asked place _ _ _ _ is_task (issues goal numbers proof cites g mid replied reply to given turn verdict_is second is) =
-        all_asked (tasks.Proof goal numbers proof) (Step (Issue (checked_view cites goal proof g))) second.before (given ++ second.after) is_task (by_a_proof goal numbers proof cites g verdict_is) second.parts given
+        all_asked (tasks.Proof goal numbers proof) (Step (Issue (checked_view cites goal proof g))) second.before second.after is_task (by_a_proof goal numbers proof cites g (numbers_cited gives p turn.before numbers cites (turn_replies.Cited cites) [] turn.turn refl) verdict_is) given second.parts
         (turn_adds gives p second.before (Step (Issue (checked_view cites goal proof g))) replied given second.turn)
     line_asked place _ _ _ _ is_task (places.without_memory task) = tt
 
@@ -147,7 +166,7 @@ module _ (gives : ℤ → Type 0) (p : StorePass) (history : List StoreEntry) (s
 
   all_more : (heard more : List (List ℕ)) (given : List StoreEntry) → AreAskedFor gives p history start from heard given → AreAskedFor gives p history start from (heard ++ more) given
   all_more heard more [] all = tt
-  all_more heard more (entry ∷ given) all = (asked_more heard more (asked_entry entry) all.0, all_more heard more given all.1)
+  all_more heard more (entry ∷ given) all = (asked_more heard more entry all.0, all_more heard more given all.1)
 
   all_both : (heard : List (List ℕ)) (xs ys : List StoreEntry) → AreAskedFor gives p history start from heard xs → AreAskedFor gives p history start from heard ys → AreAskedFor gives p history start from heard (xs ++ ys)
   all_both heard [] ys one other = other

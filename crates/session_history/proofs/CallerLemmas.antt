@@ -32,7 +32,7 @@ use Rattle.session_history.specs.SessionState.{SessionState, guest_with}
 use Rattle.session_history.specs.Turn.{StorePass, authority_of_root, event_of, AnswersTurn, Turn}
 use Rattle.session_history.specs.Turn as turns
 use Rattle.session_history.specs.Tasks.{IsUserTask, IsCommandTask, IsReadTask, IsTaskOf, faulty, read}
-use Rattle.session_history.specs.Placed.{IsTold, LinePlaced, at_once, in_a_turn, proves_none, issues, is_done, state_after, LinesPlaced, no_line, one_more}
+use Rattle.session_history.specs.Placed.{IsReplyOf, LinePlaced, at_once, in_a_turn, proves_none, issues, is_done, state_after, LinesPlaced, no_line, one_more}
 use Rattle.session_history.specs.Placed as places
 use Rattle.session_history.specs.Laws.{HasSigned, IsMetByAccepted, IsByAccepted}
 
@@ -192,7 +192,7 @@ turn_signed gives p before who over signature _ _ (turns.failed clock answer ent
 turn_signed gives p before who over signature _ _ turns.without_memory same = absurd cc
 
 -- a line is done that logs in
-done_turn : (replied : TurnReply) (reply : LineReply) → IsTold replied reply → is_done reply ≡ true → replied ≡ turn_replies.LoggedIn
+done_turn : (replied : TurnReply) (reply : LineReply) → IsReplyOf replied reply → is_done reply ≡ true → replied ≡ turn_replies.LoggedIn
 done_turn (turn_replies.Step answer) reply is done = let no : false ≡ true = sym (ap is_done is) ∙ done in absurd cc
 done_turn (turn_replies.Cited cites) reply is done = absurd is
 done_turn turn_replies.LoggedIn reply is done = refl

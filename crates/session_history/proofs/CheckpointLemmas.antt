@@ -1,5 +1,5 @@
 -- A turn is told that a checkpoint was made exactly if it adds one.
-use Rattle.std.proofs.Common.{◌≡◌, ℕ, List, [], ◌∷◌, Option, Some, None, refl, ap}
+use Rattle.std.proofs.Common.{◌≡◌, ℕ, List, [], ◌∷◌, Option, Some, None, refl}
 use Rattle.std.specs.Prelude.{ℤ, ◌≢◌}
 use Rattle.std.specs.Option.{option_map}
 use Rattle.access_history.specs.declared.event.Event.{Event}

@@ -36,7 +36,7 @@ use Rattle.session_history.specs.Turn.{StorePass, authority_of_root, AnswersTurn
 use Rattle.session_history.specs.Turn as turns
 use Rattle.session_history.specs.SessionState.{SessionState}
 use Rattle.session_history.specs.Tasks.{IsTaskOf, IsSingle, IsTaskFormed, IsNamed}
-use Rattle.session_history.specs.Placed.{IsTold, LinePlaced, at_once, in_a_turn, cites_none, proves_none, issues}
+use Rattle.session_history.specs.Placed.{IsReplyOf, LinePlaced, at_once, in_a_turn, cites_none, proves_none, issues}
 use Rattle.session_history.specs.Laws.{IsUndisturbed}
 use Rattle.session_history.proofs.AskingLemmas.{task_formed}
 use Rattle.session_history.proofs.FormedLemmas.{granted_may_be_issued}
@@ -65,7 +65,7 @@ single_not_cited gives p before request _ _ single turns.without_memory cites sa
 -- what is told of an undisturbed turn
 record IsCalmlyTold (replied : TurnReply) : Type 0 where
   reply : LineReply
-  told : IsTold replied reply
+  told : IsReplyOf replied reply
   had_memory : reply ≢ replies.NoMemory
   not_stopped : reply ≢ replies.Stopped
 

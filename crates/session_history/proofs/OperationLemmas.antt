@@ -15,7 +15,6 @@ use Rattle.access_history.specs.Answer.{moment_of}
 use Rattle.access_history.specs.Base.{BaseView}
 use Rattle.access_history.proofs.AnswerLemmas.{admitted_kept}
 use Rattle.pcfs_store.specs.Entries.{StoreEntry, happened, stopped, state_of_entries}
-use Rattle.session_history.specs.declared.request.TurnRequest.{TurnRequest}
 use Rattle.session_history.specs.declared.request.TurnRequest.TheVariants.{Step}
 use Rattle.session_history.specs.declared.reply.TurnReply.{TurnReply}
 use Rattle.session_history.specs.declared.reply.TurnReply.TheVariants as turn_replies

@@ -27,7 +27,7 @@ use Rattle.session_history.specs.SessionState.{SessionState}
 use Rattle.session_history.specs.declared.task.LineTask.{LineTask}
 use Rattle.session_history.specs.declared.task.LineTask.TheVariants as tasks
 use Rattle.session_history.specs.Tasks.{IsUserTask, IsCommandTask, IsReadTask, IsTaskOf, faulty, read}
-use Rattle.session_history.specs.Placed.{IsTold, LinePlaced, at_once, in_a_turn, proves_none, issues}
+use Rattle.session_history.specs.Placed.{IsReplyOf, LinePlaced, at_once, in_a_turn, proves_none, issues}
 use Rattle.session_history.specs.Placed as places
 
 -- ---- entries with a mark
@@ -124,7 +124,7 @@ turn_stopped gives p history from request reply to given t is = ap has_stop (fro
 
 -- ---- lines
 
-pub stopped_turn : (found : TurnReply) (reply : LineReply) → IsTold found reply → reply ≡ replies.Stopped → found ≡ turn_replies.Stopped
+pub stopped_turn : (found : TurnReply) (reply : LineReply) → IsReplyOf found reply → reply ≡ replies.Stopped → found ≡ turn_replies.Stopped
 stopped_turn (turn_replies.Step answer) reply is same = let both : replies.Step answer ≡ replies.Stopped = sym is ∙ same in absurd cc
 stopped_turn (turn_replies.Cited cited) reply is same = absurd is
 stopped_turn turn_replies.LoggedIn reply is same = let both : replies.Done ≡ replies.Stopped = sym is ∙ same in absurd cc

@@ -1,4 +1,5 @@
--- Under which number an entry of a store stands, and whether a store is stopped (this project's own).
+-- Under which number an entry of a store stands, and whether a store is stopped (this project's
+-- own).
 use Rattle.std.specs.Prelude.{◌≡◌, ℕ, List, [], ◌∷◌, Bool, true, false}
 use Rattle.std.specs.List.{AllByRecursion}
 use Rattle.access_history.specs.Passes.{event_pass}

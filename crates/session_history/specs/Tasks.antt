@@ -1,4 +1,6 @@
--- How a line of a session is to be answered: at once, in a turn, or as a proof (this project's own). It is read in the mode of who is logged in; before a login every line that is in its grammar is answered that nobody is, but a login.
+-- How a line of a session is to be answered: at once, in a turn, or as a proof (this project's
+-- own). It is read in the mode of who is logged in; before a login every line that is in its
+-- grammar is answered that nobody is, but a login.
 use Rattle.std.specs.Prelude.{◌≡◌, ℕ, List, map, Option, Some, None, IsTrue}
 use Rattle.bl_syntax.specs.Citable.{AreCitable}
 use Rattle.bl_syntax.specs.Names.{is_principal_name}
@@ -22,7 +24,9 @@ use Rattle.session_history.specs.declared.task.LineTask.TheVariants as tasks
 use Rattle.session_history.specs.Turn.{IsTurnFormed}
 use Rattle.session_history.specs.SessionState.{SessionState, mode_of}
 
--- How a command of a user is to be answered: in one turn, or as a proof. A checkpoint is for `admin`. A procap is shown to whom it names. A line of a session brings its signature and its procaps themselves, and sets neither clock nor caller, so other commands are
+-- How a command of a user is to be answered: in one turn, or as a proof. A checkpoint is for
+-- `admin`. A procap is shown to whom it names. A line of a session brings its signature and its
+-- procaps themselves, and sets neither clock nor caller, so other commands are
 -- none of a session.
 abbrev pub IsUserTask : List ℕ → Command → LineTask → Type 0
 IsUserTask who (At second) task = ⊥
@@ -35,7 +39,9 @@ IsUserTask who (Procap number) task = task ≡ tasks.Turn (Step (steps.ShowProca
 IsUserTask who Checkpoint task = IsTrue (is_admin who) × (task ≡ tasks.Turn requests.Checkpoint)
 IsUserTask who (Verify goal numbers proof) task = task ≡ tasks.Proof goal numbers proof
 IsUserTask who (Check goal numbers proof) task = ⊥
-IsUserTask who (Do op procap_words) task = (procaps : List Sealed) × (procap_words ≡ map words.Procap procaps) × (task ≡ tasks.Turn (Step (steps.Act who op procaps)))
+IsUserTask who (Do op procap_words) task = (procaps : List Sealed) ×
+    (procap_words ≡ map words.Procap procaps) ×
+    (task ≡ tasks.Turn (Step (steps.Act who op procaps)))
 
 -- how a command is to be answered, of a user or of nobody
 abbrev pub IsCommandTask : Option (List ℕ) → Command → LineTask → Type 0
@@ -49,10 +55,13 @@ IsReadTask s (lines.Login who signature) task = task ≡ tasks.Turn (Login who s
 IsReadTask s (lines.Statement statement) task = ⊥
 IsReadTask s (lines.Goal goal proof) task = ⊥
 
--- How the bytes of a line are to be answered in a session: the line has a first fault, or it is read.
+-- How the bytes of a line are to be answered in a session: the line has a first fault, or it is
+-- read.
 pub data IsTaskOf (s : SessionState) (line : List ℕ) : LineTask → Type 0 where
-  faulty : (fault : LineFault) → IsLineFaultIn (mode_of s) line fault → IsTaskOf s line (tasks.Reply (replies.Faulty fault))
-  read : (said : Line) (task : LineTask) → IsLineIn (mode_of s) line said → IsReadTask s said task → IsTaskOf s line task
+  faulty : (fault : LineFault) → IsLineFaultIn (mode_of s) line fault →
+      IsTaskOf s line (tasks.Reply (replies.Faulty fault))
+  read : (said : Line) (task : LineTask) → IsLineIn (mode_of s) line said → IsReadTask s said task →
+      IsTaskOf s line task
 
 -- a turn that is a line's only one: it asks for no statements
 abbrev pub IsSingle : TurnRequest → Type 0

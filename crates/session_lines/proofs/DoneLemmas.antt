@@ -26,7 +26,7 @@ use Rattle.session_history.specs.declared.task.LineTask.{LineTask}
 use Rattle.session_history.specs.declared.task.LineTask.TheVariants as tasks
 use Rattle.session_history.specs.SessionState.{SessionState}
 use Rattle.session_history.specs.Turn.{StorePass, TurnPlaced}
-use Rattle.session_history.specs.Placed.{IsTold, at_once, in_a_turn, cites_none, proves_none, issues}
+use Rattle.session_history.specs.Placed.{IsReplyOf, at_once, in_a_turn, cites_none, proves_none, issues}
 use Rattle.session_history.specs.Placed as places
 use Rattle.session_history.proofs.AskingLemmas.{asks_something}
 use Rattle.shared_store.specs.declared.entry.LockEntry.{LockEntry}
@@ -113,7 +113,7 @@ module _ {D : Type 0} (gives : ℤ → Type 0) where
       }
 
   module _ (goal : Goal) (numbers : List ℕ) (proof : ProofView) where
-    pub done_uncited : (old new : PassView (LockEntry D)) (found : TurnReply) (reply : LineReply) → HasAsked gives (Cite numbers) old new found → IsTold found reply → HasDone gives (tasks.Proof goal numbers proof) old new reply
+    pub done_uncited : (old new : PassView (LockEntry D)) (found : TurnReply) (reply : LineReply) → HasAsked gives (Cite numbers) old new found → IsReplyOf found reply → HasDone gives (tasks.Proof goal numbers proof) old new reply
     done_uncited old new found reply a says =
         record {
           given = a.given;

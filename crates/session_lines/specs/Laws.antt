@@ -10,8 +10,13 @@ use Rattle.shared_store.specs.declared.entry.LockEntry.{LockEntry}
 use Rattle.shared_store.specs.Asking.{HasHistory}
 use Rattle.session_lines.specs.Replied.{NeedsTurns, HasDone, IsPlacedAfter}
 
--- A line finds what was told before. When something was told under a pass, it had seen these entries of a store; if another pass has seen as much when it is given a line, the reply to that line is placed after all these entries, unless the line takes no
+-- A line finds what was told before. When something was told under a pass, it had seen these
+-- entries of a store; if another pass has seen as much when it is given a line, the reply to that
+-- line is placed after all these entries, unless the line takes no
 -- turn or memory ran out.
 abbrev pub LinesFindWhatWasTold : Type 0 → (ℤ → Type 0) → Type 0
-LinesFindWhatWasTold D gives = (told old new : PassView (LockEntry D)) (opening : StoreView D) (task : LineTask) (reply : LineReply) → (h : HasHistory opening told) → IsPrefix told.seen old.seen → NeedsTurns task → reply ≢ replies.NoMemory →
-    (d : HasDone gives task old new reply) → IsPlacedAfter gives opening h.entries task old new reply d.given
+LinesFindWhatWasTold D gives = (told old new : PassView (LockEntry D)) (opening : StoreView D) (task : LineTask) (reply : LineReply) →
+    (h : HasHistory opening told) → IsPrefix told.seen old.seen → NeedsTurns task →
+    reply ≢ replies.NoMemory →
+    (d : HasDone gives task old new reply) →
+    IsPlacedAfter gives opening h.entries task old new reply d.given

@@ -9,9 +9,9 @@ ghost use Rattle.session_lines.specs.Logins.{name_or, caller_after};
 ghost use Rattle.session_lines.specs.Replied.{HasTold, HasReplied};
 
 use crate::checker::Checker;
+use crate::line_replies::{is_done, login_name, take_turn};
 use crate::proving::prove;
 use crate::tasks::task_of;
-use crate::telling::{is_done, login_name, take_turn};
 use bl_syntax::Principal;
 use line_wire::LineReply;
 use pcfs_ports::{Clock, Disk};
@@ -70,7 +70,9 @@ pub fn answer_line<R: Wait, D: Disk, C: Clock, K: Checker>(
     checker: &mut K,
 ) -> LineReply
     requires { pass.old.lock ≡ lock.now }
-    ensures replied { HasReplied (C.gives clock.now) (record { nonce = nonce.now; caller = caller.old }) line.now pass.old pass.new (record { nonce = nonce.now; caller = caller.new }) result }
+    ensures replied { HasReplied (C.gives clock.now)
+        (record { nonce = nonce.now; caller = caller.old }) line.now pass.old pass.new
+        (record { nonce = nonce.now; caller = caller.new }) result }
     ensures stopped { result ≡ LineReply.Stopped → HasSeenFault D.faults pass.new }
 {
     match task_of(alloc, nonce, caller, line) {

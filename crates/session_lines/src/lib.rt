@@ -7,9 +7,9 @@
 mod answering;
 mod checker;
 pub mod laws;
+mod line_replies;
 mod proving;
 mod tasks;
-mod telling;
 
 pub use answering::answer_line;
 pub use checker::{Checker, PlainChecker};

@@ -8,7 +8,7 @@ ghost use Rattle.shared_store.specs.Asking.{HasSeenFault};
 ghost use Rattle.session_lines.specs.Replied.{HasDone, HasIssued};
 
 use crate::checker::Checker;
-use crate::telling::{take_turn, told, unproved};
+use crate::line_replies::{reply_of, take_turn, unproved};
 use access_history::StepRequest;
 use bl_syntax::{Goal, Numbers};
 use line_wire::LineReply;
@@ -73,6 +73,6 @@ pub fn prove<R: Wait, D: Disk, C: Clock, K: Checker>(
         TurnReply::Cited(cites) => issue(
             rt, alloc, lock, pass, clock, &cites, &goal, &proof, checker,
         ),
-        found => told(found),
+        found => reply_of(found),
     }
 }

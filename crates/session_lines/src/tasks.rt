@@ -23,6 +23,7 @@ fn held_procaps(alloc: Global, given: &[ProcapWord]) -> Result<Procaps, NoMemory
     ensures { IfOk result (λ procaps. given.now ≡ map words.Procap procaps) }
 {
     let mut procaps = Procaps::new(alloc);
+    procaps.reserve(given.len())?;
     for word in given {
         match word {
             ProcapWord::Procap(procap) => procaps.push(procap.copy(alloc)?)?,

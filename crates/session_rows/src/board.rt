@@ -8,7 +8,7 @@ use std::sync::atomic::{AtomicBool, AtomicUsize, Ordering};
 #[derive(Clone, Copy, PartialEq, Eq)]
 pub enum Turn {
     /// It says its line, and is told the reply.
-    Told,
+    Replied,
     /// It says its line, and the write of the reply fails.
     WriteFails,
     /// Its read fails.
@@ -43,7 +43,7 @@ pub struct Step {
 #[derive(Clone, Copy, PartialEq, Eq)]
 pub enum Taken {
     /// They were taken.
-    Told,
+    Replied,
     /// Their write fails.
     Fails,
     /// It is not the connection's step.
@@ -128,14 +128,14 @@ impl Board {
                 self.advance();
                 return Taken::Fails;
             }
-            Turn::Told => {}
+            Turn::Replied => {}
             Turn::ReadFails | Turn::Ends => self.note_wrong(made),
         }
         if step.reply.as_slice() != reply {
             self.note_wrong(made);
         }
         self.advance();
-        Taken::Told
+        Taken::Replied
     }
 
     /// Takes what a connection is told, if it is its step, or if no step is left, when it is told too much.
@@ -149,7 +149,7 @@ impl Board {
             }
             None => {
                 self.note_wrong(self.steps.len());
-                Taken::Told
+                Taken::Replied
             }
         }
     }

@@ -267,13 +267,13 @@ impl Case {
     }
 
     // The next step is of this connection, which says a line.
-    fn say(&mut self, number: &str, line: &str) -> Result<(), RowFault> {
+    fn begin_line(&mut self, number: &str, line: &str) -> Result<(), RowFault> {
         self.begin_step(number)?;
         add_line(line, &mut self.line)
     }
 
     // The next step is of this connection, which says a line of so many bytes.
-    fn say_long(&mut self, text: &str) -> Result<(), RowFault> {
+    fn begin_long_line(&mut self, text: &str) -> Result<(), RowFault> {
         let (number, count) = text.split_once(' ').ok_or(RowFault::BadRow)?;
         self.begin_step(number)?;
         for _ in 0..number_of(count)? {
@@ -287,7 +287,7 @@ impl Case {
     fn add_reply(&mut self, alloc: Global, text: &str) -> Result<(), RowFault> {
         let mut reply = Bytes::new(alloc);
         add_line(text, &mut reply)?;
-        self.add_step(alloc, reply, Turn::Told)
+        self.add_step(alloc, reply, Turn::Replied)
     }
 
     // Adds the step at which a connection reads no line.
@@ -332,10 +332,10 @@ impl Case {
             "+" => self.begin_step(text),
             "." => self.add_last(alloc, text, Turn::Ends),
             "!" => self.add_last(alloc, text, Turn::ReadFails),
-            "long" => self.say_long(text),
+            "long" => self.begin_long_line(text),
             "<" => self.add_reply(alloc, text),
             "<!" => self.add_step(alloc, Bytes::new(alloc), Turn::WriteFails),
-            _ => self.say(kind, text),
+            _ => self.begin_line(kind, text),
         }
     }
 

@@ -6,6 +6,7 @@ ghost use Rattle.pcfs_ports.specs.Faults.{HasRisen};
 use crate::board::{Board, Taken, Turn};
 use bl_syntax::Numbers;
 use pcfs_ports::{Accepted, Failed, Listener, Sink, Source};
+use pcfs_server::TellingListener;
 use std::alloc::Global;
 use std::thread;
 
@@ -97,7 +98,7 @@ impl<'b> RowSource<'b> {
                 board.advance();
                 Ok(0)
             }
-            Turn::Told | Turn::WriteFails => {
+            Turn::Replied | Turn::WriteFails => {
                 board.clock.set(step.second);
                 Ok(self.give_line(made, step.line.as_slice(), buf))
             }
@@ -154,7 +155,7 @@ impl<'b> Sink for RowSink<'b> {
             return Ok(piece.len());
         }
         match self.offer(piece) {
-            Taken::Told => Ok(piece.len()),
+            Taken::Replied => Ok(piece.len()),
             Taken::Fails => {
                 self.faults = self.faults.saturating_add(1);
                 Err(Failed)
@@ -242,5 +243,17 @@ impl<'b> Listener for RowListener<'b> {
             faults: 0,
         };
         Accepted::Conn(input, output)
+    }
+}
+
+impl<'b> TellingListener for RowListener<'b> {
+    ghost queue = { λ _. None };
+
+    fn start(&mut self, port: u16) -> Result<(), Failed> {
+        self.listen(port)
+    }
+
+    fn next(&mut self, alloc: Global) -> Accepted<RowSource<'b>, RowSink<'b>> {
+        self.accept(alloc)
     }
 }

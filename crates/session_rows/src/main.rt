@@ -48,7 +48,7 @@ impl From<NoMemory> for Stop {
 }
 
 // Writes what was found to the standard output.
-fn tell<R: Print>(rt: &R, text: &[u8]) -> Result<(), Stop> {
+fn write_out<R: Print>(rt: &R, text: &[u8]) -> Result<(), Stop> {
     match write_all(&mut StdSink::new(io::writer(rt)), text) {
         Ok(()) => Ok(()),
         Err(_) => Err(Stop::Failed),
@@ -63,7 +63,7 @@ fn run_file<R: Files + Print + Eprint + Threads + Wait + Sync + AllocGlobal>(
     let rows = fs::read_to_string(rt, name)?;
     let mut report = Bytes::new(rt.alloc());
     let agrees = run_rows(rt, rows.as_str(), &mut report)?;
-    tell(rt, report.as_slice())?;
+    write_out(rt, report.as_slice())?;
     Ok(agrees)
 }
 

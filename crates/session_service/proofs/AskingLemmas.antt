@@ -29,7 +29,7 @@ use Rattle.session_history.specs.declared.request.TurnRequest.TheVariants as tur
 use Rattle.session_history.specs.declared.task.LineTask.{LineTask}
 use Rattle.session_history.specs.declared.task.LineTask.TheVariants as tasks
 use Rattle.session_history.specs.Tasks.{IsUserTask}
-use Rattle.pcfs_session.specs.Asker.{Asker}
+use Rattle.pcfs_session.specs.ScriptContext.{ScriptContext}
 use Rattle.pcfs_session.specs.LineAnswer.{replied, requested, ComesTo, checkpoint, registers, withdraws, shows, makes_checkpoint, verifies, verifies_nothing, acts}
 use Rattle.pcfs_session.specs.Procaps.{held, AreBrought}
 use Rattle.pcfs_session.specs.Proved.{cites_none, proves_none}
@@ -49,7 +49,7 @@ same_step first second same = cc
 same_proof : (goal goal' : Goal) (numbers numbers' : List ℕ) (proof proof' : ProofView) → tasks.Proof goal numbers proof ≡ tasks.Proof goal' numbers' proof' → Verify goal' numbers' proof' ≡ Verify goal numbers proof
 same_proof goal goal' numbers numbers' proof proof' same = cc
 
-module _ (secrets : Secrets) (state : BaseView) (asker : Asker) where
+module _ (secrets : Secrets) (state : BaseView) (asker : ScriptContext) where
   abbrev Comes : Command → StepRequest → Type 0
   Comes command request = ComesTo secrets state asker command (requested request)
 

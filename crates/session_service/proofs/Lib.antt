@@ -1,7 +1,8 @@
-pub mod ConnectionLemmas
 pub mod AskingLemmas
+pub mod ConnectionLemmas
+pub mod FewLemmas
 pub mod SaidLemmas
-pub mod SpokenLemmas
 pub mod SessionEndsLemmas
 pub mod SessionLemmas
-pub mod FewLemmas
+pub mod SourceLemmas
+pub mod SpokenLemmas

@@ -4,7 +4,7 @@ use Rattle.std.proofs.Math.Seq.{take-append-add}
 use Rattle.std.specs.Prelude.{ℤ}
 use Rattle.std.specs.List.{AllByRecursion}
 use Rattle.pcfs_ports.specs.Faults.{HasRisen}
-use Rattle.pcfs_ports.specs.Told.{with_front, with_back, IsAtEnd, ReadsToEnd, TakesFirst, HoldsSome}
+use Rattle.pcfs_ports.specs.Observable.{with_front, with_back, IsAtEnd, ReadsToEnd, TakesFirst, HoldsSome}
 use Rattle.pcfs_ports.proofs.TakesLemmas.{first_of_taken, with_back-with_back}
 use Rattle.line_text.specs.Lines.{lines_of}
 use Rattle.line_framer.specs.Framing.{ended, IsLine}

@@ -1,7 +1,7 @@
 -- The entries of a pass under which a session ended are those of that session.
 use Rattle.std.proofs.Common.{◌≡◌, ◌∙◌, ℕ, List, [], ◌++◌, Option, Some, None, sym, ap, subst, append_assoc}
 use mathlib.Core.List.{IsPrefix}
-use Rattle.pcfs_ports.specs.Told.{with_front, ReadsToEnd}
+use Rattle.pcfs_ports.specs.Observable.{with_front, ReadsToEnd}
 use Rattle.line_text.specs.Lines.{lines_of}
 use Rattle.line_framer.specs.Framing.{ended}
 use Rattle.line_framer.proofs.FramingLemmas.{lines_of-whole}
@@ -74,8 +74,12 @@ module _ {D : Type 0} (faults : D → ℕ) (sources : SessionSources) (nonce : L
   by_end _ _ (ends.cut_short fault after answers risen way some) = by_way after answers way
   by_end _ _ (ends.cut_at_long_line fault after answers risen replies some) = by_replies after session_ends.LineTooLong answers replies
 
+  -- the pass has its number
+  pub number_ended : (how : SessionEnd) (after : Streams) → SessionEnds faults sources.gives nonce old new before how after → new.number ≡ old.number
+  number_ended how after ended = (by_end how after ended).speaks.goes_on.number
+
   -- a pass that had no entries has those that the replies were given
-  of_answered : old.own ≡ [] → (h : HasAnswered) → sources.may_say h.lines → AreOfSeenSession sources new.seen new.number new.own
+  of_answered : old.own ≡ [] → (h : HasAnswered) → sources.may_say old.number nonce h.lines → AreOfSeenSession sources new.seen new.number new.own
   of_answered none h said =
       let s = h.speaks in
       record {
@@ -98,7 +102,7 @@ module _ {D : Type 0} (faults : D → ℕ) (sources : SessionSources) (nonce : L
             });
       }
 
-  pub AreOfSeenSession-ended : (how : SessionEnd) (after : Streams) → old.own ≡ [] → ((lines : List (List ℕ)) → AreFirstLines before.left lines → sources.may_say lines) → SessionEnds faults sources.gives nonce old new before how after →
+  pub AreOfSeenSession-ended : (how : SessionEnd) (after : Streams) → old.own ≡ [] → ((lines : List (List ℕ)) → AreFirstLines before.left lines → sources.may_say old.number nonce lines) → SessionEnds faults sources.gives nonce old new before how after →
       AreOfSeenSession sources new.seen new.number new.own
   AreOfSeenSession-ended how after none says ended =
       let h = by_end how after ended in

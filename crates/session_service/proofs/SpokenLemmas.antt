@@ -3,7 +3,7 @@ use Rattle.std.proofs.Common.{◌≡◌, ◌∙◌, ◌≤◌, ℕ, List, [], �
 use Rattle.std.proofs.Math.Seq.{take-append-add}
 use Rattle.std.specs.Prelude.{ℤ}
 use Rattle.std.specs.List.{AllByRecursion}
-use Rattle.pcfs_ports.specs.Told.{with_back, HoldsSome}
+use Rattle.pcfs_ports.specs.Observable.{with_back, HoldsSome}
 use Rattle.pcfs_ports.proofs.TakesLemmas.{with_back-with_back}
 use Rattle.line_text.specs.Words.{HasNo}
 use Rattle.line_framer.specs.Framing.{FramerState, ended, IsFirst, IsLine}

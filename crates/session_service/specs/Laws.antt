@@ -1,4 +1,6 @@
--- Laws of sessions: what a line of a session asks is what the definition of answers makes of its command, for somebody who calls in their own name and may see what is granted to them; and a session is placed in what its pass has seen.
+-- Laws of sessions: what a line of a session asks is what the definition of answers makes of its
+-- command, for somebody who calls in their own name and may see what is granted to them; and a
+-- session is placed in what its pass has seen.
 use Rattle.std.specs.Prelude.{◌≡◌, ℕ, ℤ, ◌≤◌, List, ◌++◌, length, IsTrue, Some, Ok, Err}
 use Rattle.bl_syntax.specs.declared.grant.Goal.{Goal}
 use Rattle.bl_syntax.specs.Grant.{GrantView}
@@ -32,7 +34,7 @@ use Rattle.shared_store.specs.declared.entry.LockEntry.{LockEntry}
 use Rattle.shared_store.specs.LockHistory.{numbered, lock_history}
 use Rattle.shared_store.specs.Turning.{pass_at}
 use Rattle.shared_store.specs.Asking.{entries_seen, HasHistory, HasSeenFault}
-use Rattle.pcfs_session.specs.Asker.{Asker}
+use Rattle.pcfs_session.specs.ScriptContext.{ScriptContext}
 use Rattle.pcfs_session.specs.LineAnswer.{replied, requested, checkpoint, ComesTo}
 use Rattle.session_service.specs.Said.{SaysStopped}
 use Rattle.session_service.specs.SessionEnds.{Speaks}
@@ -40,33 +42,51 @@ use Rattle.session_service.specs.Sessions.{SessionSources, AreOfSession}
 
 -- what is asked in one turn is what a look at any state makes of the command
 abbrev pub TurnsAskWhatCommandsComeTo : Type 0
-TurnsAskWhatCommandsComeTo = (secrets : Secrets) (state : BaseView) (asker : Asker) (command : Command) (request : StepRequest) → asker.sees ≡ Some asker.caller → IsUserTask asker.caller command (tasks.Turn (Step request)) →
+TurnsAskWhatCommandsComeTo = (secrets : Secrets) (state : BaseView) (asker : ScriptContext) (command : Command) (request : StepRequest) →
+    asker.sees ≡ Some asker.caller → IsUserTask asker.caller command (tasks.Turn (Step request)) →
     ComesTo secrets state asker command (requested request)
 
--- a proof that grants its goal, from the statements found in a state, asks for the issue that a look at that state makes of the command
+-- a proof that grants its goal, from the statements found in a state, asks for the issue that a
+-- look at that state makes of the command
 abbrev pub ProofsAskWhatCommandsComeTo : Type 0
-ProofsAskWhatCommandsComeTo = (secrets : Secrets) (state : BaseView) (asker : Asker) (command : Command) (goal : Goal) (numbers : List ℕ) (proof : ProofView) (cites : List Cite) (g : GrantView) →
-    IsUserTask asker.caller command (tasks.Proof goal numbers proof) → AreFound (book_of state) numbers cites → verdict (statements_of cites) goal proof ≡ Ok g →
+ProofsAskWhatCommandsComeTo = (secrets : Secrets) (state : BaseView) (asker : ScriptContext)
+    (command : Command) (goal : Goal) (numbers : List ℕ) (proof : ProofView) (cites : List Cite)
+    (g : GrantView) →
+    IsUserTask asker.caller command (tasks.Proof goal numbers proof) →
+    AreFound (book_of state) numbers cites → verdict (statements_of cites) goal proof ≡ Ok g →
     ComesTo secrets state asker command (requested (Issue (checked_view cites goal proof g)))
 
 -- and one with a fault comes to the same reply
 abbrev pub FaultsAreWhatCommandsComeTo : Type 0
-FaultsAreWhatCommandsComeTo = (secrets : Secrets) (state : BaseView) (asker : Asker) (command : Command) (goal : Goal) (numbers : List ℕ) (proof : ProofView) (cites : List Cite) (fault : CheckFault) →
-    IsUserTask asker.caller command (tasks.Proof goal numbers proof) → AreFound (book_of state) numbers cites → verdict (statements_of cites) goal proof ≡ Err fault →
+FaultsAreWhatCommandsComeTo = (secrets : Secrets) (state : BaseView) (asker : ScriptContext)
+    (command : Command) (goal : Goal) (numbers : List ℕ) (proof : ProofView) (cites : List Cite)
+    (fault : CheckFault) →
+    IsUserTask asker.caller command (tasks.Proof goal numbers proof) →
+    AreFound (book_of state) numbers cites →
+    verdict (statements_of cites) goal proof ≡ Err fault →
     ComesTo secrets state asker command (replied (replies.Unproved fault))
 
 -- and statements that are not there come to the same reply
 abbrev pub AbsencesAreWhatCommandsComeTo : Type 0
-AbsencesAreWhatCommandsComeTo = (secrets : Secrets) (state : BaseView) (asker : Asker) (command : Command) (goal : Goal) (numbers : List ℕ) (proof : ProofView) (number : ℕ) →
-    IsUserTask asker.caller command (tasks.Proof goal numbers proof) → IsAbsent (book_of state) numbers number → ComesTo secrets state asker command (replied (replies.Step (Absent number)))
+AbsencesAreWhatCommandsComeTo = (secrets : Secrets) (state : BaseView) (asker : ScriptContext)
+    (command : Command) (goal : Goal) (numbers : List ℕ) (proof : ProofView) (number : ℕ) →
+    IsUserTask asker.caller command (tasks.Proof goal numbers proof) →
+    IsAbsent (book_of state) numbers number →
+    ComesTo secrets state asker command (replied (replies.Step (Absent number)))
 
 -- and a turn that makes a checkpoint is one of a command that comes to it, and is by `admin`
 abbrev pub CheckpointsAreWhatCommandsComeTo : Type 0
-CheckpointsAreWhatCommandsComeTo = (secrets : Secrets) (state : BaseView) (asker : Asker) (command : Command) → IsUserTask asker.caller command (tasks.Turn Checkpoint) → IsTrue (is_admin asker.caller) × ComesTo secrets state asker command checkpoint
+CheckpointsAreWhatCommandsComeTo = (secrets : Secrets) (state : BaseView) (asker : ScriptContext) (command : Command) →
+    IsUserTask asker.caller command (tasks.Turn Checkpoint) → IsTrue (is_admin asker.caller) ×
+    ComesTo secrets state asker command checkpoint
 
--- A session in what its pass has seen at the end: this is the history of a store that was opened so, and the replies are placed in it, after all that the pass had seen at first; the pass's own entries grew by those that the replies
+-- A session in what its pass has seen at the end: this is the history of a store that was opened
+-- so, and the replies are placed in it, after all that the pass had seen at first; the pass's own
+-- entries grew by those that the replies
 -- were given.
-pub record IsPlacedSession {D : Type 0} (faults : D → ℕ) (gives : ℤ → Type 0) (nonce : List ℕ) (opening : StoreView D) (old new : PassView (LockEntry D)) (lines : List (List ℕ)) (answers : List LineReply) : Type 0 where
+pub record IsPlacedSession {D : Type 0} (faults : D → ℕ) (gives : ℤ → Type 0) (nonce : List ℕ)
+    (opening : StoreView D) (old new : PassView (LockEntry D)) (lines : List (List ℕ))
+    (answers : List LineReply) : Type 0 where
   pub entries : List StoreEntry
   pub seen_is : new.seen ≡ lock_history opening entries
   pub end : SessionState
@@ -79,9 +99,12 @@ pub record IsPlacedSession {D : Type 0} (faults : D → ℕ) (gives : ℤ → Ty
 
 -- so is each session over a store of which its pass had seen the history
 abbrev pub SessionsArePlaced : (D : Type 0) → (D → ℕ) → (ℤ → Type 0) → Type 0
-SessionsArePlaced D faults gives = (nonce : List ℕ) (opening : StoreView D) (old new : PassView (LockEntry D)) (lines : List (List ℕ)) (answers : List LineReply) → HasHistory opening old → Speaks faults gives nonce old new lines answers →
+SessionsArePlaced D faults gives = (nonce : List ℕ) (opening : StoreView D)
+    (old new : PassView (LockEntry D)) (lines : List (List ℕ)) (answers : List LineReply) →
+    HasHistory opening old → Speaks faults gives nonce old new lines answers →
     IsPlacedSession faults gives nonce opening old new lines answers
 
 -- a session has no more entries than lines, so none if none is said
 abbrev pub EachEntryHasALine : SessionSources → Type 0
-EachEntryHasALine sources = (p : StorePass) (history own : List StoreEntry) → (s : AreOfSession sources p history own) → length own ≤ length s.lines
+EachEntryHasALine sources = (p : StorePass) (history own : List StoreEntry) →
+    (s : AreOfSession sources p history own) → length own ≤ length s.lines

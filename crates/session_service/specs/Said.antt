@@ -19,15 +19,22 @@ abbrev pub session_of : List ℕ → Option (List ℕ) → SessionState
 session_of nonce caller = record { nonce = nonce; caller = caller }
 
 module _ {D : Type 0} (faults : D → ℕ) (gives : ℤ → Type 0) where
-  -- where the lines are placed in each history that begins with what the pass has seen, from this place on
-  pub record AreSaidFrom (start : SessionState) (old new : PassView (LockEntry D)) (lines : List (List ℕ)) (answers : List LineReply) (end : SessionState) (given : List StoreEntry) (from : ℕ) : Type 0 where
+  -- where the lines are placed in each history that begins with what the pass has seen, from this
+  -- place on
+  pub record AreSaidFrom (start : SessionState) (old new : PassView (LockEntry D))
+      (lines : List (List ℕ)) (answers : List LineReply) (end : SessionState)
+      (given : List StoreEntry) (from : ℕ) : Type 0 where
     pub to : ℕ
     pub within : to ≤ entries_seen new
     pub placed : InEachHistory new (λ opening entries. LinesPlaced gives (pass_at opening old.number) entries start from lines answers end to given)
 
-  -- Lines were answered, from one state of a session and one moment of its pass to later ones: the pass goes on, and the replies are placed, from any place up to which it had seen all before. That the store is stopped is told only if the pass has seen that a disk failed.
-  pub record HasSaid (start : SessionState) (old new : PassView (LockEntry D)) (lines : List (List ℕ)) (answers : List LineReply) (end : SessionState) : Type 0 where
+  -- Lines were answered, from one state of a session and one moment of its pass to later ones: the
+  -- pass goes on, and the replies are placed, from any place up to which it had seen all before.
+  -- That the store is stopped is told only if the pass has seen that a disk failed.
+  pub record HasSaid (start : SessionState) (old new : PassView (LockEntry D))
+      (lines : List (List ℕ)) (answers : List LineReply) (end : SessionState) : Type 0 where
     pub given : List StoreEntry
     pub goes_on : PassGoesOn old new given
-    pub placed : (from : ℕ) → from ≤ entries_seen old → AreSaidFrom start old new lines answers end given from
+    pub placed : (from : ℕ) → from ≤ entries_seen old →
+        AreSaidFrom start old new lines answers end given from
     pub stopped : SaysStopped answers → HasSeenFault faults new

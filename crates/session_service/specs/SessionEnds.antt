@@ -1,7 +1,9 @@
--- How a session ends: what was taken, what was written, and where its replies are placed in the history that others grow too. If the input does not tell what it has, or the output what it holds, nothing is said of that (this project's own).
+-- How a session ends: what was taken, what was written, and where its replies are placed in the
+-- history that others grow too. If the input does not tell what it has, or the output what it
+-- holds, nothing is said of that (this project's own).
 use Rattle.std.specs.Prelude.{◌≡◌, ◌⊎◌, ℕ, ◌≤◌, ℤ, List, [], ◌∷◌, ◌++◌}
 use Rattle.pcfs_ports.specs.Faults.{HasRisen}
-use Rattle.pcfs_ports.specs.Told.{with_back, ReadsToEnd, TakesFirst}
+use Rattle.pcfs_ports.specs.Observable.{with_back, ReadsToEnd, TakesFirst}
 use Rattle.line_text.specs.Lines.{lines_of}
 use Rattle.line_framer.specs.Feeding.{AreShort}
 use Rattle.line_wire.specs.declared.reply.LineReply.{LineReply}
@@ -26,46 +28,90 @@ use Rattle.session_service.specs.Said.{SaysStopped}
 use Rattle.session_service.specs.Written.{HoldsButLast, HoldsUpToLast}
 
 module _ {D : Type 0} (faults : D → ℕ) (gives : ℤ → Type 0) (nonce : List ℕ) where
-  -- A session with this nonce answered these lines, from one moment of its pass to a later one. In each history that begins with what the pass has seen then, the replies are placed after all that it had seen at first; and
-  -- the pass's own entries grew by those that the replies were given. That the store is stopped is told only if the pass has seen that a disk failed.
+  -- A session with this nonce answered these lines, from one moment of its pass to a later one. In
+  -- each history that begins with what the pass has seen then, the replies are placed after all
+  -- that it had seen at first; and
+  -- the pass's own entries grew by those that the replies were given. That the store is stopped is
+  -- told only if the pass has seen that a disk failed.
   pub record Speaks (old new : PassView (LockEntry D)) (lines : List (List ℕ)) (answers : List LineReply) : Type 0 where
     pub end : SessionState
     pub to : ℕ
     pub within : to ≤ entries_seen new
     pub given : List StoreEntry
     pub goes_on : PassGoesOn old new given
-    pub placed : InEachHistory new (λ opening entries. LinesPlaced gives (pass_at opening old.number) entries (guest_with nonce) (entries_seen old) lines answers end to given)
+    pub placed : InEachHistory new (λ opening entries.
+        LinesPlaced gives (pass_at opening old.number) entries (guest_with nonce) (entries_seen old)
+        lines answers end to given)
     pub stopped : SaysStopped answers → HasSeenFault faults new
 
-  -- how far a session is: it answered lines that were taken, each with its end; or the input was read to its end, and it answered all its lines, of which none is too long
+  -- how far a session is: it answered lines that were taken, each with its end; or the input was
+  -- read to its end, and it answered all its lines, of which none is too long
   pub data IsUnderWay (old new : PassView (LockEntry D)) (before after : Streams) (answers : List LineReply) : Type 0 where
-    while_reading : (lines : List (List ℕ)) → AreTaken before.left after.left lines → Speaks old new lines answers → IsUnderWay old new before after answers
-    all_read : (bytes : List ℕ) → ReadsToEnd before.left after.left bytes → AreShort bytes → Speaks old new (lines_of bytes) answers → IsUnderWay old new before after answers
+    while_reading : (lines : List (List ℕ)) → AreTaken before.left after.left lines →
+        Speaks old new lines answers → IsUnderWay old new before after answers
+    all_read : (bytes : List ℕ) → ReadsToEnd before.left after.left bytes → AreShort bytes →
+        Speaks old new (lines_of bytes) answers → IsUnderWay old new before after answers
 
-  -- What a session replies that ends so: to all lines of the input; to all lines that were taken with their ends; or to these, and that the line after them is too long, which is the last reply.
-  pub data SessionReplies (old new : PassView (LockEntry D)) (before after : Streams) : SessionEnd → List LineReply → Type 0 where
-    done : (bytes : List ℕ) (answers : List LineReply) → ReadsToEnd before.left after.left bytes → AreShort bytes → Speaks old new (lines_of bytes) answers → SessionReplies old new before after Done answers
-    line_too_long : (lines : List (List ℕ)) (answers : List LineReply) → IsCutAtLong before.left after.left lines → Speaks old new lines answers → SessionReplies old new before after LineTooLong (answers ++ TooLong ∷ [])
-    read_fault : (lines : List (List ℕ)) (answers : List LineReply) → HasRisen before.read_faults after.read_faults → AreAllTaken before.left after.left lines → Speaks old new lines answers → SessionReplies old new before after ReadFault answers
-    input_too_long : (lines : List (List ℕ)) (answers : List LineReply) → TakesFirst 1073741824 before.left after.left → AreAllTaken before.left after.left lines → Speaks old new lines answers → SessionReplies old new before after InputTooLong answers
+  -- What a session replies that ends so: to all lines of the input; to all lines that were taken
+  -- with their ends; or to these, and that the line after them is too long, which is the last
+  -- reply.
+  pub data SessionReplies (old new : PassView (LockEntry D)) (before after : Streams) : SessionEnd →
+      List LineReply → Type 0 where
+    done : (bytes : List ℕ) (answers : List LineReply) → ReadsToEnd before.left after.left bytes →
+        AreShort bytes → Speaks old new (lines_of bytes) answers →
+        SessionReplies old new before after Done answers
+    line_too_long : (lines : List (List ℕ)) (answers : List LineReply) →
+        IsCutAtLong before.left after.left lines → Speaks old new lines answers →
+        SessionReplies old new before after LineTooLong (answers ++ TooLong ∷ [])
+    read_fault : (lines : List (List ℕ)) (answers : List LineReply) →
+        HasRisen before.read_faults after.read_faults → AreAllTaken before.left after.left lines →
+        Speaks old new lines answers → SessionReplies old new before after ReadFault answers
+    input_too_long : (lines : List (List ℕ)) (answers : List LineReply) →
+        TakesFirst 1073741824 before.left after.left → AreAllTaken before.left after.left lines →
+        Speaks old new lines answers → SessionReplies old new before after InputTooLong answers
 
-  -- How a session ends: the greeting and all those replies were written. Or the output failed or memory ran out: some first part was written of the greeting, and no line was answered; or the greeting was written, and of the lines
-  -- that were answered all replies but the last, of which some first part was, or that the next line is too long.
-  pub data SessionEnds (old new : PassView (LockEntry D)) (before : Streams) : SessionEnd → Streams → Type 0 where
-    written : (how : SessionEnd) (after : Streams) (answers : List LineReply) → SessionReplies old new before after how answers → after.held ≡ with_back before.held (session_output nonce answers) → SessionEnds old new before how after
-    cut_short : (fault : SendFault) (after : Streams) (answers : List LineReply) → (fault ≡ Write → HasRisen before.write_faults after.write_faults) → IsUnderWay old new before after answers →
-        HoldsUpToLast nonce before.held after.held answers → SessionEnds old new before (unsent_end fault) after
-    cut_at_long_line : (fault : SendFault) (after : Streams) (answers : List LineReply) → (fault ≡ Write → HasRisen before.write_faults after.write_faults) → SessionReplies old new before after LineTooLong answers →
-        HoldsUpToLast nonce before.held after.held answers → SessionEnds old new before (unsent_end fault) after
+  -- How a session ends: the greeting and all those replies were written. Or the output failed or
+  -- memory ran out: some first part was written of the greeting, and no line was answered; or the
+  -- greeting was written, and of the lines
+  -- that were answered all replies but the last, of which some first part was, or that the next
+  -- line is too long.
+  pub data SessionEnds (old new : PassView (LockEntry D)) (before : Streams) : SessionEnd →
+      Streams → Type 0 where
+    written : (how : SessionEnd) (after : Streams) (answers : List LineReply) →
+        SessionReplies old new before after how answers →
+        after.held ≡ with_back before.held (session_output nonce answers) →
+        SessionEnds old new before how after
+    cut_short : (fault : SendFault) (after : Streams) (answers : List LineReply) →
+        (fault ≡ Write → HasRisen before.write_faults after.write_faults) →
+        IsUnderWay old new before after answers →
+        HoldsUpToLast nonce before.held after.held answers →
+        SessionEnds old new before (unsent_end fault) after
+    cut_at_long_line : (fault : SendFault) (after : Streams) (answers : List LineReply) →
+        (fault ≡ Write → HasRisen before.write_faults after.write_faults) →
+        SessionReplies old new before after LineTooLong answers →
+        HoldsUpToLast nonce before.held after.held answers →
+        SessionEnds old new before (unsent_end fault) after
 
   -- The same after the greeting is out.
-  pub data GoesOnToEnd (old new : PassView (LockEntry D)) (before : Streams) : SessionEnd → Streams → Type 0 where
-    rest_written : (how : SessionEnd) (after : Streams) (answers : List LineReply) → SessionReplies old new before after how answers → after.held ≡ with_back before.held (output_of answers) → GoesOnToEnd old new before how after
-    rest_cut_short : (fault : SendFault) (after : Streams) (answers : List LineReply) → (fault ≡ Write → HasRisen before.write_faults after.write_faults) → IsUnderWay old new before after answers →
-        HoldsButLast before.held after.held answers → GoesOnToEnd old new before (unsent_end fault) after
-    rest_cut_at_long_line : (fault : SendFault) (after : Streams) (answers : List LineReply) → (fault ≡ Write → HasRisen before.write_faults after.write_faults) → SessionReplies old new before after LineTooLong answers →
-        HoldsButLast before.held after.held answers → GoesOnToEnd old new before (unsent_end fault) after
+  pub data GoesOnToEnd (old new : PassView (LockEntry D)) (before : Streams) : SessionEnd →
+      Streams → Type 0 where
+    rest_written : (how : SessionEnd) (after : Streams) (answers : List LineReply) →
+        SessionReplies old new before after how answers →
+        after.held ≡ with_back before.held (output_of answers) →
+        GoesOnToEnd old new before how after
+    rest_cut_short : (fault : SendFault) (after : Streams) (answers : List LineReply) →
+        (fault ≡ Write → HasRisen before.write_faults after.write_faults) →
+        IsUnderWay old new before after answers →
+        HoldsButLast before.held after.held answers →
+        GoesOnToEnd old new before (unsent_end fault) after
+    rest_cut_at_long_line : (fault : SendFault) (after : Streams) (answers : List LineReply) →
+        (fault ≡ Write → HasRisen before.write_faults after.write_faults) →
+        SessionReplies old new before after LineTooLong answers →
+        HoldsButLast before.held after.held answers →
+        GoesOnToEnd old new before (unsent_end fault) after
 
--- Nothing is asked of the input before the greeting is out: nothing was taken of it and it had no fault, or the output holds the greeting with its end.
+-- Nothing is asked of the input before the greeting is out: nothing was taken of it and it had no
+-- fault, or the output holds the greeting with its end.
 abbrev pub GreetsFirst : List ℕ → Streams → Streams → Type 0
-GreetsFirst nonce before after = ((after.left ≡ before.left) × (after.read_faults ≡ before.read_faults)) ⊎ ((more : List ℕ) × (after.held ≡ with_back before.held ((greeting_text nonce ++ 10 ∷ []) ++ more)))
+GreetsFirst nonce before after = ((after.left ≡ before.left) × (after.read_faults ≡ before.read_faults)) ⊎
+    ((more : List ℕ) × (after.held ≡ with_back before.held ((greeting_text nonce ++ 10 ∷ []) ++ more)))

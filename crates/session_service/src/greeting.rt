@@ -2,7 +2,7 @@
 
 ghost use Rattle.std.specs.Prelude.{◌≡◌, ◌≤◌, ◌++◌, ◌∷◌, [], IfOk, OnOk, OnErr, IsErrOf};
 ghost use Rattle.pcfs_ports.specs.Faults.{HasRisen};
-ghost use Rattle.pcfs_ports.specs.Told.{with_back, HoldsSome};
+ghost use Rattle.pcfs_ports.specs.Observable.{with_back, HoldsSome};
 ghost use Rattle.session_history.specs.Output.{greeting_text};
 
 use bl_syntax::decimal::put_text;
@@ -29,7 +29,8 @@ fn greeting_line(alloc: Global, nonce: &[u8; 16]) -> Result<Bytes, NoMemory>
 pub fn greet<O: Sink>(alloc: Global, nonce: &[u8; 16], output: &mut O) -> Result<(), SendFault>
     ensures ok { OnOk result (O.held output.new ≡ with_back (O.held output.old) (greeting_text nonce.now ++ 10 ∷ [])) }
     ensures err { OnErr result (HoldsSome (O.held output.old) (O.held output.new) (greeting_text nonce.now ++ 10 ∷ [])) }
-    ensures risen { IsErrOf result SendFault.Write → HasRisen (O.faults output.old) (O.faults output.new) }
+    ensures risen { IsErrOf result SendFault.Write →
+        HasRisen (O.faults output.old) (O.faults output.new) }
     ensures never_falls { O.faults output.old ≤ O.faults output.new }
 {
     let bytes = match greeting_line(alloc, nonce) {

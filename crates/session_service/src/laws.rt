@@ -1,6 +1,7 @@
 //! Laws of sessions. The functions do nothing: each contract is a law.
 
 ghost use Rattle.session_service.specs.Laws.{TurnsAskWhatCommandsComeTo, ProofsAskWhatCommandsComeTo, FaultsAreWhatCommandsComeTo, AbsencesAreWhatCommandsComeTo, CheckpointsAreWhatCommandsComeTo, SessionsArePlaced, EachEntryHasALine};
+ghost use Rattle.std.specs.Prelude.{ℕ, List, Option};
 ghost use Rattle.session_service.specs.Sessions.{sources_of};
 
 use pcfs_ports::{Clock, Disk, Source};
@@ -25,7 +26,8 @@ pub fn sessions_are_placed<D: Disk, C: Clock>(clock: &C)
 
 /// A session has no more entries than lines: each line adds one at most, and nothing else adds any.
 pub fn each_entry_has_a_line<I: Source, C: Clock>(input: &I, clock: &C)
-    ensures { EachEntryHasALine (sources_of (C.gives clock.now) I.left) }
+    ensures { (inputs : Option (List (Option (List ℕ)))) (nonces : Option (List ℕ)) →
+        EachEntryHasALine (sources_of (C.gives clock.now) I.left inputs nonces) }
 {
     let _ = input;
     let _ = clock;

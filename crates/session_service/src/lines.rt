@@ -2,7 +2,7 @@
 
 ghost use Rattle.std.specs.Prelude.{◌≡◌, ◌≤◌, ◌∷◌, [], OnOk, OnErr, IsErrOf};
 ghost use Rattle.pcfs_ports.specs.Faults.{HasRisen};
-ghost use Rattle.pcfs_ports.specs.Told.{with_back, HoldsSome};
+ghost use Rattle.pcfs_ports.specs.Observable.{with_back, HoldsSome};
 ghost use Rattle.line_wire.specs.ReplyText.{output_of};
 ghost use Rattle.session_service.specs.Spoken.{IsSpoken, IsCutOff, SpeaksHeld, IsCutWithin};
 
@@ -18,10 +18,15 @@ use std::sync::Wait;
 use tree_lock::{Pass, TreeLock};
 
 /// Writes the line of a reply.
-pub fn tell<O: Sink>(alloc: Global, reply: &LineReply, output: &mut O) -> Result<(), SendFault>
+pub fn write_reply<O: Sink>(
+    alloc: Global,
+    reply: &LineReply,
+    output: &mut O,
+) -> Result<(), SendFault>
     ensures ok { OnOk result (O.held output.new ≡ with_back (O.held output.old) (output_of (reply.now ∷ []))) }
     ensures err { OnErr result (HoldsSome (O.held output.old) (O.held output.new) (output_of (reply.now ∷ []))) }
-    ensures risen { IsErrOf result SendFault.Write → HasRisen (O.faults output.old) (O.faults output.new) }
+    ensures risen { IsErrOf result SendFault.Write →
+        HasRisen (O.faults output.old) (O.faults output.new) }
     ensures never_falls { O.faults output.old ≤ O.faults output.new }
 {
     let mut text = Bytes::new(alloc);
@@ -47,14 +52,17 @@ pub fn speak<R: Wait, D: Disk, C: Clock, K: Checker, O: Sink>(
     output: &mut O,
 ) -> Result<(), SendFault>
     requires { pass.old.lock ≡ lock.now }
-    ensures ok { OnOk result (IsSpoken D.faults (C.gives clock.now) nonce.now (line.now ∷ []) caller.old pass.old pass.new caller.new (O.held output.old) (O.held output.new)) }
-    ensures cut { OnErr result (IsCutOff D.faults (C.gives clock.now) nonce.now (line.now ∷ []) caller.old pass.old pass.new caller.new (O.held output.old) (O.held output.new)) }
-    ensures risen { IsErrOf result SendFault.Write → HasRisen (O.faults output.old) (O.faults output.new) }
+    ensures ok { OnOk result (IsSpoken D.faults (C.gives clock.now) nonce.now (line.now ∷ [])
+        caller.old pass.old pass.new caller.new (O.held output.old) (O.held output.new)) }
+    ensures cut { OnErr result (IsCutOff D.faults (C.gives clock.now) nonce.now (line.now ∷ [])
+        caller.old pass.old pass.new caller.new (O.held output.old) (O.held output.new)) }
+    ensures risen { IsErrOf result SendFault.Write →
+        HasRisen (O.faults output.old) (O.faults output.new) }
     ensures never_falls { O.faults output.old ≤ O.faults output.new }
     ensures same_lock { pass.new.lock ≡ lock.now }
 {
     let reply = answer_line(rt, alloc, lock, pass, clock, nonce, caller, line, checker);
-    match tell(alloc, &reply, output) {
+    match write_reply(alloc, &reply, output) {
         Ok(()) => Ok(()),
         Err(fault) => Err(fault),
     }
@@ -74,10 +82,14 @@ pub fn speak_held<R: Wait, D: Disk, C: Clock, K: Checker, O: Sink>(
     output: &mut O,
 ) -> Result<(), SendFault>
     requires { pass.old.lock ≡ lock.now }
-    ensures ok { OnOk result (SpeaksHeld D.faults (C.gives clock.now) nonce.now framer.old.left framer.new.left caller.old pass.old pass.new caller.new (O.held output.old) (O.held output.new)) }
+    ensures ok { OnOk result (SpeaksHeld D.faults (C.gives clock.now) nonce.now framer.old.left
+        framer.new.left caller.old pass.old pass.new caller.new (O.held output.old)
+        (O.held output.new)) }
     ensures long_stays { OnOk result (framer.new.is_long ≡ framer.old.is_long) }
-    ensures cut { OnErr result (IsCutWithin D.faults (C.gives clock.now) nonce.now framer.old.left caller.old pass.old pass.new caller.new (O.held output.old) (O.held output.new)) }
-    ensures risen { IsErrOf result SendFault.Write → HasRisen (O.faults output.old) (O.faults output.new) }
+    ensures cut { OnErr result (IsCutWithin D.faults (C.gives clock.now) nonce.now framer.old.left
+        caller.old pass.old pass.new caller.new (O.held output.old) (O.held output.new)) }
+    ensures risen { IsErrOf result SendFault.Write →
+        HasRisen (O.faults output.old) (O.faults output.new) }
     ensures never_falls { O.faults output.old ≤ O.faults output.new }
     ensures same_lock { pass.new.lock ≡ lock.now }
 {

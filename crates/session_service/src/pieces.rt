@@ -7,7 +7,7 @@ ghost use Rattle.line_text.specs.Words.{HasNo};
 ghost use Rattle.pcfs_ports.specs.Faults.{HasRisen};
 ghost use Rattle.session_service.specs.Spoken.{SpeaksPiece, EndsAtLong, EndsAtPiece, EndsAtLast};
 
-use crate::lines::{speak, speak_held, tell};
+use crate::lines::{speak, speak_held, write_reply};
 use crate::session_end::{SessionEnd, unsent_end};
 use bl_syntax::Principal;
 use line_framer::{FeedFault, Framer};
@@ -33,9 +33,11 @@ fn end_at_long_line<R: Wait, D: Disk, C: Clock, K: Checker, O: Sink>(
     output: &mut O,
 ) -> SessionEnd
     requires { pass.old.lock ≡ lock.now }
-    ensures ends { (lines : List (List ℕ)) → AllByRecursion IsLine lines → framer.old.left ≡ ended lines →
+    ensures ends { (lines : List (List ℕ)) → AllByRecursion IsLine lines →
+        framer.old.left ≡ ended lines →
         EndsAtLong D.faults (C.gives clock.now) nonce.now lines caller.old pass.old pass.new caller.new (O.held output.old) (O.held output.new) result }
-    ensures risen { (result ≡ SessionEnd.WriteFault) → HasRisen (O.faults output.old) (O.faults output.new) }
+    ensures risen { (result ≡ SessionEnd.WriteFault) →
+        HasRisen (O.faults output.old) (O.faults output.new) }
     ensures never_falls { O.faults output.old ≤ O.faults output.new }
     ensures same_lock { pass.new.lock ≡ lock.now }
 {
@@ -45,7 +47,7 @@ fn end_at_long_line<R: Wait, D: Disk, C: Clock, K: Checker, O: Sink>(
         Ok(()) => {}
         Err(fault) => return unsent_end(fault),
     }
-    match tell(alloc, &LineReply::TooLong, output) {
+    match write_reply(alloc, &LineReply::TooLong, output) {
         Ok(()) => SessionEnd::LineTooLong,
         Err(fault) => unsent_end(fault),
     }
@@ -67,11 +69,15 @@ pub fn speak_piece<R: Wait, D: Disk, C: Clock, K: Checker, O: Sink>(
 ) -> Result<(), SessionEnd>
     requires lock { pass.old.lock ≡ lock.now }
     requires not_long { framer.old.is_long ≡ false }
-    ensures ok { OnOk result (SpeaksPiece D.faults (C.gives clock.now) nonce.now framer.old.left piece.now framer.new.left caller.old pass.old pass.new caller.new (O.held output.old) (O.held output.new)) }
+    ensures ok { OnOk result (SpeaksPiece D.faults (C.gives clock.now) nonce.now framer.old.left
+        piece.now framer.new.left caller.old pass.old pass.new caller.new (O.held output.old)
+        (O.held output.new)) }
     ensures few { OnOk result (length framer.new.left ≤ 262144) }
     ensures stays_so { OnOk result (framer.new.is_long ≡ false) }
-    ensures ends { IfErr result (EndsAtPiece D.faults (C.gives clock.now) nonce.now framer.old.left piece.now caller.old pass.old pass.new caller.new (O.held output.old) (O.held output.new)) }
-    ensures risen { IsErrOf result SessionEnd.WriteFault → HasRisen (O.faults output.old) (O.faults output.new) }
+    ensures ends { IfErr result (EndsAtPiece D.faults (C.gives clock.now) nonce.now framer.old.left
+        piece.now caller.old pass.old pass.new caller.new (O.held output.old) (O.held output.new)) }
+    ensures risen { IsErrOf result SessionEnd.WriteFault →
+        HasRisen (O.faults output.old) (O.faults output.new) }
     ensures never_falls { O.faults output.old ≤ O.faults output.new }
     ensures same_lock { pass.new.lock ≡ lock.now }
 {
@@ -107,8 +113,10 @@ pub fn speak_last<R: Wait, D: Disk, C: Clock, K: Checker, O: Sink>(
 ) -> SessionEnd
     requires lock { pass.old.lock ≡ lock.now }
     requires one { HasNo 10 framer.now.left }
-    ensures ends { EndsAtLast D.faults (C.gives clock.now) nonce.now framer.now.left caller.old pass.old pass.new caller.new (O.held output.old) (O.held output.new) result }
-    ensures risen { (result ≡ SessionEnd.WriteFault) → HasRisen (O.faults output.old) (O.faults output.new) }
+    ensures ends { EndsAtLast D.faults (C.gives clock.now) nonce.now framer.now.left caller.old
+        pass.old pass.new caller.new (O.held output.old) (O.held output.new) result }
+    ensures risen { (result ≡ SessionEnd.WriteFault) →
+        HasRisen (O.faults output.old) (O.faults output.new) }
     ensures never_falls { O.faults output.old ≤ O.faults output.new }
     ensures same_lock { pass.new.lock ≡ lock.now }
 {

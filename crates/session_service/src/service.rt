@@ -4,35 +4,46 @@ ghost use Rattle.std.specs.Prelude.{◌≡◌, ◌+◌, ◌<◌, length, if◌th
 ghost use Rattle.tree_lock.specs.Seen.{AreNumbers};
 
 use crate::session::serve_session;
-use pcfs_ports::{Clock, Disk, Nonces, Sink, Source};
-use pcfs_server::{AdmitFault, Service};
+use pcfs_ports::{Clock, Disk};
+use pcfs_server::{AdmitFault, Service, TellingListener, TellingNonces};
 use shared_store::{LockEntry, OpenedStore};
 use std::alloc::Global;
 use std::collections::LinkedList;
-use std::marker::PhantomData;
+use std::snapshot::Snapshot;
 use std::sync::Wait;
 use tree_lock::{Doorman, Pass, Recorded, TreeLock};
 
-/// Sessions over what a lock keeps, by a clock. `N` is the type of the nonces, which the door holds.
+/// Sessions over what a lock keeps, by a clock; and, for contracts alone, the nonces and the listener as they were before the
+/// first connection.
 #[derive(Drop)]
-pub struct SessionService<'a, V: Recorded, C, N> {
+pub struct SessionService<'a, V: Recorded, C, N, L> {
     lock: &'a TreeLock<V>,
     clock: &'a C,
-    nonces: PhantomData<N>,
+    nonces: Snapshot<N>,
+    net: Snapshot<L>,
 }
 
-impl<'a, V: Recorded, C, N> SessionService<'a, V, C, N> {
+impl<'a, V: Recorded, C, N, L> SessionService<'a, V, C, N, L> {
     ghost use Rattle.std.specs.Prelude.{◌≡◌};
 
-    /// Sessions over this lock, by this clock.
-    pub fn new(lock: &'a TreeLock<V>, clock: &'a C) -> SessionService<'a, V, C, N>
+    /// Sessions over this lock, by this clock, for the connections that this listener is to give, with the nonces that these
+    /// are to give.
+    pub fn new(
+        lock: &'a TreeLock<V>,
+        clock: &'a C,
+        nonces: &N,
+        net: &L,
+    ) -> SessionService<'a, V, C, N, L>
         ensures lock { result.lock.now ≡ lock.now }
         ensures clock { result.clock.now ≡ clock.now }
+        ensures nonces { result.nonces.value ≡ nonces.now }
+        ensures net { result.net.value ≡ net.now }
     {
         SessionService {
             lock,
             clock,
-            nonces: PhantomData,
+            nonces: Snapshot::of(nonces),
+            net: Snapshot::of(net),
         }
     }
 }
@@ -121,28 +132,41 @@ fn served_after<V: Recorded>(door: &Doorman<V>, served: u64, attended: bool) -> 
     served + 1
 }
 
-impl<'a, D: Disk + Send, C: Clock, N: Nonces + 'a, I: Source, O: Sink> Service<I, O>
-    for SessionService<'a, OpenedStore<D>, C, N> {
+impl<'a, D: Disk + Send, C: Clock, N: TellingNonces + 'a, L: TellingListener> Service<L::In, L::Out>
+    for SessionService<'a, OpenedStore<D>, C, N, L> {
     type Door = SessionDoor<'a, OpenedStore<D>, N>;
 
     type Token = SessionToken<OpenedStore<D>>;
 
     type Kept = (LinkedList<(u64, LockEntry<D>)>, u64);
 
-    ghost use Rattle.std.specs.Prelude.{◌≡◌, ◌-◌, ◌^◌, true, false};
+    ghost use Rattle.std.specs.Prelude.{◌≡◌, ◌-◌, ◌*◌, ◌^◌, true, false};
     ghost use Rattle.session_service.specs.Connections.{AreOfConnections};
-    ghost use Rattle.session_service.specs.Sessions.{sources_of, AreOfSeenSession, IsConnectionPass};
+    ghost use Rattle.pcfs_server.specs.Telling.{AreTakenOff};
+    ghost use Rattle.session_service.specs.Sessions.{sources_of, inputs_of, AreOfSeenSession, IsConnectionPass, IsInputOf, IsNonceOf};
     ghost use Rattle.session_service.specs.declared.session_end.SessionEnd.{SessionEnd};
     ghost use Rattle.session_service.specs.SessionEnds.{SessionEnds, GreetsFirst};
 
-    // The passes that were taken in are those of the connections that are counted, with the entries of a session each, or
-    // have no entries.
-    ghost is_door = { λ service door. (door.door.lock ≡ service.lock.now) × AreOfConnections (AreOfSeenSession (sources_of (C.gives service.clock.now) I.left) door.door.seen) door.served door.door.retired };
+    // For each pass that was made a nonce was given. The passes that were taken in are those of the connections that are
+    // counted, with the entries of a session each, or have no entries.
+    ghost is_door = { λ service door. (door.door.lock ≡ service.lock.now)
+        × AreTakenOff (16 * door.door.made) (N.coming service.nonces.value) (N.coming door.nonces.now)
+        × AreOfConnections (AreOfSeenSession (sources_of (C.gives service.clock.now) L.In.left (inputs_of L.In.left (L.queue service.net.value)) (N.coming service.nonces.value)) door.door.seen) door.served door.door.retired };
 
-    // Before the connection is attended, its pass has no entries; after that it has those of a session.
-    ghost is_token = { λ service token. (token.pass.lock ≡ service.lock.now) × IsConnectionPass (sources_of (C.gives service.clock.now) I.left) token.attended token.pass };
+    // It has the nonce of its number. Before the connection is attended, its pass has no entries; after that it has those of
+    // a session.
+    ghost is_token = { λ service token. (token.pass.lock ≡ service.lock.now)
+        × IsNonceOf (N.coming service.nonces.value) token.pass.number token.nonce
+        × IsConnectionPass (sources_of (C.gives service.clock.now) L.In.left (inputs_of L.In.left (L.queue service.net.value)) (N.coming service.nonces.value)) token.attended token.pass };
 
     ghost attended = { λ token. token.attended };
+
+    ghost admitted = { λ door. door.door.made };
+
+    ghost number = { λ token. token.pass.number };
+
+    // If the listener told its connections, the input is that of the connection of this number.
+    ghost expects = { λ service number input _. IsInputOf (inputs_of L.In.left (L.queue service.net.value)) number (L.In.left input) };
 
     ghost served = { λ door. door.served };
 
@@ -160,7 +184,7 @@ impl<'a, D: Disk + Send, C: Clock, N: Nonces + 'a, I: Source, O: Sink> Service<I
         _alloc: Global,
         door: &mut SessionDoor<'a, OpenedStore<D>, N>,
     ) -> Result<SessionToken<OpenedStore<D>>, AdmitFault> {
-        match door.nonces.next() {
+        match door.nonces.next_told() {
             Ok(nonce) => Ok(SessionToken {
                 pass: self.lock.pass(&mut door.door),
                 nonce,
@@ -175,21 +199,36 @@ impl<'a, D: Disk + Send, C: Clock, N: Nonces + 'a, I: Source, O: Sink> Service<I
         rt: &R,
         alloc: Global,
         token: &mut SessionToken<OpenedStore<D>>,
-        input: &mut I,
-        output: &mut O,
+        input: &mut L::In,
+        output: &mut L::Out,
     )
-        requires belongs { (token.old.pass.lock ≡ self.now.lock.now) × IsConnectionPass (sources_of (C.gives self.now.clock.now) I.left) token.old.attended token.old.pass }
+        requires belongs { (token.old.pass.lock ≡ self.now.lock.now)
+            × IsNonceOf (N.coming self.now.nonces.value) token.old.pass.number token.old.nonce
+            × IsConnectionPass (sources_of (C.gives self.now.clock.now) L.In.left
+            (inputs_of L.In.left (L.queue self.now.net.value)) (N.coming self.now.nonces.value))
+            token.old.attended token.old.pass }
         requires once { token.old.attended ≡ false }
-        ensures belongs { (token.new.pass.lock ≡ self.now.lock.now) × IsConnectionPass (sources_of (C.gives self.now.clock.now) I.left) token.new.attended token.new.pass }
+        requires expected { IsInputOf (inputs_of L.In.left (L.queue self.now.net.value)) token.old.pass.number (L.In.left input.old) }
+        ensures belongs { (token.new.pass.lock ≡ self.now.lock.now)
+            × IsNonceOf (N.coming self.now.nonces.value) token.new.pass.number token.new.nonce
+            × IsConnectionPass (sources_of (C.gives self.now.clock.now) L.In.left
+            (inputs_of L.In.left (L.queue self.now.net.value)) (N.coming self.now.nonces.value))
+            token.new.attended token.new.pass }
         ensures attended { token.new.attended ≡ true }
 
         // The connection had a session, under the token's pass and with its nonce.
         ensures session { (end : SessionEnd) × SessionEnds D.faults (C.gives self.now.clock.now) token.old.nonce token.old.pass token.new.pass
-            (record { left = I.left input.old; read_faults = I.faults input.old; held = O.held output.old; write_faults = O.faults output.old }) end
-            (record { left = I.left input.new; read_faults = I.faults input.new; held = O.held output.new; write_faults = O.faults output.new }) }
+            (record {
+              left = L.In.left input.old;
+              read_faults = L.In.faults input.old;
+              held =
+                  L.Out.held output.old;
+              write_faults = L.Out.faults output.old;
+            }) end
+            (record { left = L.In.left input.new; read_faults = L.In.faults input.new; held = L.Out.held output.new; write_faults = L.Out.faults output.new }) }
         ensures greets_first { GreetsFirst token.old.nonce
-            (record { left = I.left input.old; read_faults = I.faults input.old; held = O.held output.old; write_faults = O.faults output.old })
-            (record { left = I.left input.new; read_faults = I.faults input.new; held = O.held output.new; write_faults = O.faults output.new }) }
+            (record { left = L.In.left input.old; read_faults = L.In.faults input.old; held = L.Out.held output.old; write_faults = L.Out.faults output.old })
+            (record { left = L.In.left input.new; read_faults = L.In.faults input.new; held = L.Out.held output.new; write_faults = L.Out.faults output.new }) }
     {
         serve_session(
             rt,

@@ -2,8 +2,9 @@
 
 ghost use Rattle.std.specs.Prelude.{◌≡◌, ◌<◌, ◌≤◌, None, IfOk, OnErr, length, take};
 ghost use Rattle.pcfs_ports.specs.Faults.{HasRisen};
-ghost use Rattle.pcfs_ports.specs.Told.{with_front, IsAtEnd};
+ghost use Rattle.pcfs_ports.specs.Observable.{with_front, IsAtEnd};
 ghost use Rattle.session_service.specs.SessionEnds.{SessionEnds, GoesOnToEnd, GreetsFirst};
+ghost use Rattle.pcfs_session.specs.Streams.{streams_of};
 
 use crate::greeting::greet;
 use crate::pieces::{speak_last, speak_piece};
@@ -58,8 +59,8 @@ fn speak_pieces<R: Wait, I: Source, O: Sink, D: Disk, C: Clock, K: Checker>(
 ) -> SessionEnd
     requires { pass.old.lock ≡ lock.now }
     ensures ends { GoesOnToEnd D.faults (C.gives clock.now) nonce.now pass.old pass.new
-        (record { left = I.left input.old; read_faults = I.faults input.old; held = O.held output.old; write_faults = O.faults output.old }) result
-        (record { left = I.left input.new; read_faults = I.faults input.new; held = O.held output.new; write_faults = O.faults output.new }) }
+        (streams_of I.left I.faults O.held O.faults input.old output.old) result
+        (streams_of I.left I.faults O.held O.faults input.new output.new) }
     ensures same_lock { pass.new.lock ≡ lock.now }
 {
     let mut piece = match new_piece(alloc) {
@@ -129,11 +130,11 @@ pub fn serve_session_with<R: Wait, I: Source, O: Sink, D: Disk, C: Clock, K: Che
 ) -> SessionEnd
     requires { pass.old.lock ≡ lock.now }
     ensures ends { SessionEnds D.faults (C.gives clock.now) nonce pass.old pass.new
-        (record { left = I.left input.old; read_faults = I.faults input.old; held = O.held output.old; write_faults = O.faults output.old }) result
-        (record { left = I.left input.new; read_faults = I.faults input.new; held = O.held output.new; write_faults = O.faults output.new }) }
+        (streams_of I.left I.faults O.held O.faults input.old output.old) result
+        (streams_of I.left I.faults O.held O.faults input.new output.new) }
     ensures greets_first { GreetsFirst nonce
-        (record { left = I.left input.old; read_faults = I.faults input.old; held = O.held output.old; write_faults = O.faults output.old })
-        (record { left = I.left input.new; read_faults = I.faults input.new; held = O.held output.new; write_faults = O.faults output.new }) }
+        (streams_of I.left I.faults O.held O.faults input.old output.old)
+        (streams_of I.left I.faults O.held O.faults input.new output.new) }
     ensures same_lock { pass.new.lock ≡ lock.now }
 {
     match greet(alloc, &nonce, output) {
@@ -155,11 +156,11 @@ pub fn serve_session<R: Wait, I: Source, O: Sink, D: Disk, C: Clock>(
 ) -> SessionEnd
     requires { pass.old.lock ≡ lock.now }
     ensures ends { SessionEnds D.faults (C.gives clock.now) nonce pass.old pass.new
-        (record { left = I.left input.old; read_faults = I.faults input.old; held = O.held output.old; write_faults = O.faults output.old }) result
-        (record { left = I.left input.new; read_faults = I.faults input.new; held = O.held output.new; write_faults = O.faults output.new }) }
+        (streams_of I.left I.faults O.held O.faults input.old output.old) result
+        (streams_of I.left I.faults O.held O.faults input.new output.new) }
     ensures greets_first { GreetsFirst nonce
-        (record { left = I.left input.old; read_faults = I.faults input.old; held = O.held output.old; write_faults = O.faults output.old })
-        (record { left = I.left input.new; read_faults = I.faults input.new; held = O.held output.new; write_faults = O.faults output.new }) }
+        (streams_of I.left I.faults O.held O.faults input.old output.old)
+        (streams_of I.left I.faults O.held O.faults input.new output.new) }
     ensures same_lock { pass.new.lock ≡ lock.now }
 {
     serve_session_with(

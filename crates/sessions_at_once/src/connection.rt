@@ -5,6 +5,7 @@ ghost use Rattle.std.specs.Prelude.{◌≡◌, ◌≤◌, None, length};
 use crate::meeting::Meeting;
 use bl_syntax::Bytes;
 use pcfs_ports::{Accepted, Failed, Listener, Sink, Source};
+use pcfs_server::TellingListener;
 use std::alloc::Global;
 use std::str;
 
@@ -144,5 +145,17 @@ impl<'b> Listener for TwoConnections<'b> {
             Speaker::new(self.meeting, speech),
             Hearer::new(self.meeting),
         )
+    }
+}
+
+impl<'b> TellingListener for TwoConnections<'b> {
+    ghost queue = { λ _. None };
+
+    fn start(&mut self, port: u16) -> Result<(), Failed> {
+        self.listen(port)
+    }
+
+    fn next(&mut self, alloc: Global) -> Accepted<Speaker<'b>, Hearer<'b>> {
+        self.accept(alloc)
     }
 }

@@ -18,7 +18,7 @@ use setting::Setting;
 use std::process::ExitCode;
 
 // Prints whether the case of this name agrees, and returns whether it does.
-fn tell<R: Print>(rt: &R, name: &str, agrees: bool) -> bool {
+fn print_agrees<R: Print>(rt: &R, name: &str, agrees: bool) -> bool {
     let word = if agrees { "agrees" } else { "differs" };
     match println!(rt; "{word}: {name}") {
         Ok(()) => agrees,
@@ -31,17 +31,17 @@ fn main(rt: HostRuntime) -> ExitCode {
         return ExitCode::from(9);
     };
     let is_held = proof_is_checked_outside_turns(&rt, &setting);
-    let is_held = tell(&rt, "a proof is checked while another has turns", is_held);
+    let is_held = print_agrees(&rt, "a proof is checked while another has turns", is_held);
     let is_absent = withdrawn_meanwhile_is_absent(&rt, &setting);
-    let is_absent = tell(
+    let is_absent = print_agrees(
         &rt,
         "a statement is withdrawn while a proof from it is checked",
         is_absent,
     );
     let is_late = clock_is_read_in_the_turn(&rt, &setting);
-    let is_late = tell(&rt, "the clock is read after the wait", is_late);
+    let is_late = print_agrees(&rt, "the clock is read after the wait", is_late);
     let are_made = two_hundred_files_are_made(&rt, &setting);
-    let are_made = tell(&rt, "two hundred files", are_made);
+    let are_made = print_agrees(&rt, "two hundred files", are_made);
     if is_held && is_absent && is_late && are_made {
         ExitCode::from(0)
     } else {

@@ -110,7 +110,7 @@ impl Meeting {
     }
 
     // How many nodes were told.
-    fn told_count(&self) -> usize {
+    fn noted_count(&self) -> usize {
         self.nodes
             .iter()
             .filter(|is_told| is_told.load(Ordering::SeqCst))
@@ -122,7 +122,7 @@ impl Meeting {
         let is_wrong = self.is_wrong.load(Ordering::SeqCst);
         let is_in_vain = self.is_in_vain.load(Ordering::SeqCst);
         let replied = self.replies.load(Ordering::SeqCst);
-        !is_wrong && !is_in_vain && replied == replies && self.told_count() == nodes
+        !is_wrong && !is_in_vain && replied == replies && self.noted_count() == nodes
     }
 }
 

@@ -108,7 +108,7 @@ module _ {D : Type 0} (clock : D → ℕ) (left_since : D → ℕ → List ℕ �
   some_event event found same = cc
 
   -- while no disk has failed the other one is not touched
-  untouched : (opening old : StoreView D) → old.stop ≡ None → (old.other ≡ opening.other) ⊎ ((pass : ℕ) × (old.stop ≡ Some pass) × HasRisen (faults opening.other) (faults old.other)) → old.other ≡ opening.other
+  untouched : (opening old : StoreView D) → old.stop ≡ None → (old.other ≡ opening.other) ⊎ ((pass : ℕ) × (old.stop ≡ Some pass) × (old.met ≡ None) × HasRisen (faults opening.other) (faults old.other)) → old.other ≡ opening.other
   untouched opening old running (inl same) = same
   untouched opening old running (inr failed) = none_some old.stop failed.0 running failed.1
 
@@ -243,7 +243,7 @@ module _ {D : Type 0} (clock : D → ℕ) (left_since : D → ℕ → List ℕ �
     checkpoints_go_on = g.checkpoints_go_on;
     generation_grows = g.generation_grows;
     place_is = g.place_is;
-    other_stays = λ none. inr (pass, refl, subst (λ (d : D). HasRisen (faults d) (faults other)) (untouched opening old running (g.other_stays none)) risen);
+    other_stays = λ none. inr (pass, refl, refl, subst (λ (d : D). HasRisen (faults d) (faults other)) (untouched opening old running (g.other_stays none)) risen);
     ready = λ first none. none_some (Some pass) pass none refl;
     current = λ first none. none_some (Some pass) pass none refl;
     halts = λ first stopper some. s.halts (g.ready first running) refl;

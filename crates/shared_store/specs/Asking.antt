@@ -22,7 +22,8 @@ module _ {D : Type 0} where
     pub entries : List StoreEntry
     pub seen_is : pass.seen ≡ lock_history opening entries
 
-  -- From one moment of a pass to a later one: it is the same pass at the same lock; it has seen more, of the same store; and its own entries grew by those that it was given.
+  -- From one moment of a pass to a later one: it is the same pass at the same lock; it has seen
+  -- more, of the same store; and its own entries grew by those that it was given.
   pub record PassGoesOn (old new : PassView (LockEntry D)) (given : List StoreEntry) : Type 0 where
     pub lock : new.lock ≡ old.lock
     pub number : new.number ≡ old.number
@@ -30,11 +31,16 @@ module _ {D : Type 0} where
     pub history : (opening : StoreView D) → HasHistory opening old → HasHistory opening new
     pub own : new.own ≡ old.own ++ numbered given
 
-  -- this holds of each history that begins with what the pass has seen: of the store as it was opened, and the entries since
-  abbrev pub InEachHistory : PassView (LockEntry D) → (StoreView D → List StoreEntry → Type 0) → Type 0
-  InEachHistory pass P = (opening : StoreView D) (entries : List StoreEntry) → IsPrefix pass.seen (lock_history opening entries) → P opening entries
+  -- this holds of each history that begins with what the pass has seen: of the store as it was
+  -- opened, and the entries since
+  abbrev pub InEachHistory : PassView (LockEntry D) → (StoreView D → List StoreEntry → Type 0) →
+      Type 0
+  InEachHistory pass P = (opening : StoreView D) (entries : List StoreEntry) →
+      IsPrefix pass.seen (lock_history opening entries) → P opening entries
 
-  -- The pass took a turn at the end of what it has seen now: of a store that was opened as `root`, it found the entries `found`, and all that it had seen before was among them; and it added the given ones. So it is in each history that
+  -- The pass took a turn at the end of what it has seen now: of a store that was opened as `root`,
+  -- it found the entries `found`, and all that it had seen before was among them; and it added the
+  -- given ones. So it is in each history that
   -- begins with that.
   pub record HasAsked (gives : ℤ → Type 0) (request : TurnRequest) (old new : PassView (LockEntry D)) (reply : TurnReply) : Type 0 where
     pub given : List StoreEntry
@@ -44,9 +50,12 @@ module _ {D : Type 0} where
     pub found_seen : IsPrefix old.seen (lock_history root found)
     pub seen_is : new.seen ≡ lock_history root (found ++ given)
     pub turn : Turn gives (pass_at root old.number) found request reply given
-    pub placed : InEachHistory new (λ opening entries. TurnPlaced gives (pass_at opening old.number) entries (entries_seen old) request reply (entries_seen new) given)
+    pub placed : InEachHistory new (λ opening entries. TurnPlaced gives (pass_at opening old.number)
+        entries (entries_seen old) request reply (entries_seen new) given)
 
-  -- The pass has seen that a disk failed: of a store that was opened as `root` and left as `after`, it has seen all entries, of which the last is the mark of the turn of the pass of this number; and a count has risen since the opening.
+  -- The pass has seen that a disk failed: of a store that was opened as `root` and left as `after`,
+  -- it has seen all entries, of which the last is the mark of the turn of the pass of this number;
+  -- and a count has risen since the opening.
   pub record HasSeenFault (faults : D → ℕ) (pass : PassView (LockEntry D)) : Type 0 where
     pub root : StoreView D
     pub after : StoreView D

@@ -12,14 +12,20 @@ use Rattle.pcfs_store.specs.StoreView.{StoreView, AnswersIn, IsStore}
 use Rattle.pcfs_store.specs.Steps.{Steps}
 use Rattle.pcfs_store.specs.Checkpoints.{MakesCheckpoint}
 
--- what a step of this reply adds: the event that its answer keeps, or the mark of a disk that failed under it
+-- what a step of this reply adds: the event that its answer keeps, or the mark of a disk that
+-- failed under it
 pub data StepGives {D : Type 0} (old : StoreView D) (pass : ℕ) (clock : ℤ) (request : StepRequest) : StoreReply → List StoreEntry → Type 0 where
-  nothing : (reply : StepReply) → AnswersIn old pass clock request reply None → StepGives old pass clock request (stores.Step reply) []
-  an_event : (reply : StepReply) (event : Event) → AnswersIn old pass clock request reply (Some event) → StepGives old pass clock request (stores.Step reply) (happened event ∷ [])
+  nothing : (reply : StepReply) → AnswersIn old pass clock request reply None →
+      StepGives old pass clock request (stores.Step reply) []
+  an_event : (reply : StepReply) (event : Event) →
+      AnswersIn old pass clock request reply (Some event) →
+      StepGives old pass clock request (stores.Step reply) (happened event ∷ [])
   no_room : StepGives old pass clock request stores.Full []
-  the_mark : (reply : StepReply) (event : Event) → old.stop ≡ None → AnswersIn old pass clock request reply (Some event) →
+  the_mark : (reply : StepReply) (event : Event) → old.stop ≡ None →
+      AnswersIn old pass clock request reply (Some event) →
       StepGives old pass clock request stores.Stopped (stopped pass (Some event) ∷ [])
-  had_mark : (earlier : ℕ) → old.stop ≡ Some earlier → StepGives old pass clock request stores.Stopped []
+  had_mark : (earlier : ℕ) → old.stop ≡ Some earlier →
+      StepGives old pass clock request stores.Stopped []
   no_memory : StepGives old pass clock request stores.NoMemory []
 
 -- what a checkpoint of this reply adds to a store that was stopped in that pass, if it was
@@ -32,10 +38,13 @@ checkpoint_gives None pass checkpoint_replies.NoMemory = []
 
 -- the entries grow at their end, by what a step adds
 abbrev pub StepsGrow : (D : Type 0) → (D → ℕ) → Type 0
-StepsGrow D faults = (old new : StoreView D) (pass : ℕ) (clock : ℤ) (request : StepRequest) (reply : StoreReply) → IsStore old → Steps faults old pass clock request reply new →
-    (given : List StoreEntry) × StepGives old pass clock request reply given × (entries_of new ≡ entries_of old ++ given)
+StepsGrow D faults = (old new : StoreView D) (pass : ℕ) (clock : ℤ) (request : StepRequest) (reply : StoreReply) →
+    IsStore old → Steps faults old pass clock request reply new →
+    (given : List StoreEntry) × StepGives old pass clock request reply given ×
+    (entries_of new ≡ entries_of old ++ given)
 
 -- and by what a checkpoint adds
 abbrev pub CheckpointsGrow : (D : Type 0) → (D → ℕ) → Type 0
-CheckpointsGrow D faults = (old new : StoreView D) (pass : ℕ) (reply : CheckpointReply) → IsStore old → MakesCheckpoint faults old pass reply new →
+CheckpointsGrow D faults = (old new : StoreView D) (pass : ℕ) (reply : CheckpointReply) →
+    IsStore old → MakesCheckpoint faults old pass reply new →
     entries_of new ≡ entries_of old ++ checkpoint_gives old.stop pass reply

@@ -15,10 +15,16 @@ use Rattle.shared_store.specs.Merged.{AreMerged}
 
 -- of a closed lock the store was opened as it was before, and its entries are merged
 abbrev pub ClosedAreMerged : Type 0 → Type 0
-ClosedAreMerged D = (first last : OpenedView D) (door : DoormanView (LockEntry D)) → door.opening ≡ lock_entries first → IsClosed door (lock_entries last) →
-    (last.opening ≡ first.opening) × AreMerged (entries_of first.store) door.retired (entries_of last.store)
+ClosedAreMerged D = (first last : OpenedView D) (door : DoormanView (LockEntry D)) →
+    door.opening ≡ lock_entries first → IsClosed door (lock_entries last) →
+    (last.opening ≡ first.opening) ×
+    AreMerged (entries_of first.store) door.retired (entries_of last.store)
 
--- A turn finds what was told before. When something was told under a pass, it had seen these entries of a store; if another pass has seen as much when it takes a turn, the turn finds the same store with all these entries, also if it keeps nothing.
+-- A turn finds what was told before. When something was told under a pass, it had seen these
+-- entries of a store; if another pass has seen as much when it takes a turn, the turn finds the
+-- same store with all these entries, also if it keeps nothing.
 abbrev pub TurnsFindWhatWasTold : Type 0 → (ℤ → Type 0) → Type 0
-TurnsFindWhatWasTold D gives = (told old new : PassView (LockEntry D)) (opening : StoreView D) (request : TurnRequest) (reply : TurnReply) → (h : HasHistory opening told) → IsPrefix told.seen old.seen → (a : HasAsked gives request old new reply) →
+TurnsFindWhatWasTold D gives = (told old new : PassView (LockEntry D)) (opening : StoreView D) (request : TurnRequest) (reply : TurnReply) →
+    (h : HasHistory opening told) → IsPrefix told.seen old.seen →
+    (a : HasAsked gives request old new reply) →
     (opening ≡ a.root) × IsPrefix h.entries a.found

@@ -1,4 +1,5 @@
--- The entries of a shared store, as a lock keeps them: each under the number of the pass in whose turn it was added (this project's own).
+-- The entries of a shared store, as a lock keeps them: each under the number of the pass in whose
+-- turn it was added (this project's own).
 use Rattle.std.specs.Prelude.{ℕ, List, [], ◌∷◌, map}
 use Rattle.pcfs_store.specs.Entries.{StoreEntry, happened, checkpointed, stopped, entries_of}
 use Rattle.pcfs_store.specs.StoreView.{StoreView}

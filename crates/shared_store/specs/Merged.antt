@@ -8,7 +8,8 @@ use Rattle.session_history.specs.Passes.{AllOfPass}
 use Rattle.shared_store.specs.declared.entry.LockEntry.{LockEntry}
 use Rattle.shared_store.specs.LockHistory.{bare}
 
--- The entries are those with which the lock was made, and then a merge of the passes' own entries, of which each carries its pass's number.
+-- The entries are those with which the lock was made, and then a merge of the passes' own entries,
+-- of which each carries its pass's number.
 pub record AreMerged {D : Type 0} (first : List StoreEntry) (retired : List (Retired (LockEntry D))) (entries : List StoreEntry) : Type 0 where
   pub rest : List StoreEntry
   pub parts : entries ≡ first ++ rest

@@ -6,4 +6,6 @@ use Rattle.pcfs_store.specs.StoreCode.{store_code}
 use Rattle.shared_store.specs.OpenedView.{OpenedView}
 
 abbrev pub opened_code : {D : Type 0} → Coded D → Coded (OpenedView D)
-opened_code {D} disk = code_by (StoreView D × StoreView D) (coded× (store_code disk) (store_code disk)) (λ s. (s.store, s.opening)) (λ p. record { store = p.0; opening = p.1 }) (λ _. refl)
+opened_code {D} disk = code_by (StoreView D × StoreView D)
+    (coded× (store_code disk) (store_code disk)) (λ s. (s.store, s.opening)) (λ p.
+    record { store = p.0; opening = p.1 }) (λ _. refl)

@@ -33,22 +33,30 @@ checkpoint_reply checkpoints.NoMemory = turn_replies.NoMemory
 abbrev pub pass_at : {D : Type 0} → StoreView D → ℕ → StorePass
 pass_at opening number = record { root = root_of opening; number = number }
 
--- If a turn that asks this stopped the store, the count of a disk rose in it: in a step that of the disk with the area, in a checkpoint that of the other. No other turn stops it.
+-- If a turn that asks this stopped the store, the count of a disk rose in it: in a step that of the
+-- disk with the area, in a checkpoint that of the other. No other turn stops it.
 abbrev pub HasTurnFailed : {D : Type 0} → (D → ℕ) → TurnRequest → StoreView D → StoreView D → Type 0
 HasTurnFailed faults (requests.Step request) before after = HasRisen (faults before.active) (faults after.active)
 HasTurnFailed faults (requests.Cite numbers) before after = ⊥
 HasTurnFailed faults requests.Checkpoint before after = HasRisen (faults before.other) (faults after.other)
 HasTurnFailed faults (requests.Login who nonce signature) before after = ⊥
 
--- A turn of the pass took the store from `before` to `after`: it added entries at the end, and its reply is that of a turn which finds those before. If it was this turn that stopped the store, a count rose in it.
-pub record HasTurned {D : Type 0} (faults : D → ℕ) (gives : ℤ → Type 0) (request : TurnRequest) (before : OpenedView D) (pass : ℕ) (after : OpenedView D) (reply : TurnReply) : Type 0 where
+-- A turn of the pass took the store from `before` to `after`: it added entries at the end, and its
+-- reply is that of a turn which finds those before. If it was this turn that stopped the store, a
+-- count rose in it.
+pub record HasTurned {D : Type 0} (faults : D → ℕ) (gives : ℤ → Type 0) (request : TurnRequest)
+    (before : OpenedView D) (pass : ℕ) (after : OpenedView D) (reply : TurnReply) : Type 0 where
   pub given : List StoreEntry
   pub opening_stays : after.opening ≡ before.opening
   pub grows : entries_of after.store ≡ entries_of before.store ++ given
   pub turn : Turn gives (pass_at before.opening pass) (entries_of before.store) request reply given
-  pub stops : (stopper : ℕ) → before.store.stop ≡ None → after.store.stop ≡ Some stopper → (stopper ≡ pass) × HasTurnFailed faults request before.store after.store
+  pub stops : (stopper : ℕ) → before.store.stop ≡ None → after.store.stop ≡ Some stopper →
+      (stopper ≡ pass) × HasTurnFailed faults request before.store after.store
 
--- What a turn does at the store: so it turned; and if the store is stopped then, in this turn or in an earlier one, a count has risen since the opening.
-pub record TakesTurn {D : Type 0} (faults : D → ℕ) (gives : ℤ → Type 0) (request : TurnRequest) (before : OpenedView D) (pass : ℕ) (after : OpenedView D) (reply : TurnReply) : Type 0 where
+-- What a turn does at the store: so it turned; and if the store is stopped then, in this turn or in
+-- an earlier one, a count has risen since the opening.
+pub record TakesTurn {D : Type 0} (faults : D → ℕ) (gives : ℤ → Type 0) (request : TurnRequest)
+    (before : OpenedView D) (pass : ℕ) (after : OpenedView D) (reply : TurnReply) : Type 0 where
   pub turned : HasTurned faults gives request before pass after reply
-  pub failed : (stopper : ℕ) → after.store.stop ≡ Some stopper → HasCountRisen faults after.opening after.store
+  pub failed : (stopper : ℕ) → after.store.stop ≡ Some stopper →
+      HasCountRisen faults after.opening after.store

@@ -43,7 +43,7 @@ impl<D: Disk> Model for OpenedStore<D> {
 }
 
 // What a turn replies for which the store says this.
-fn told(reply: StoreReply) -> TurnReply
+fn reply_of(reply: StoreReply) -> TurnReply
     ensures { result ≡ turn_reply reply }
 {
     match reply {
@@ -55,7 +55,7 @@ fn told(reply: StoreReply) -> TurnReply
 }
 
 // What a turn replies for which a checkpoint of the store says this.
-fn told_of_checkpoint(reply: CheckpointReply) -> TurnReply
+fn reply_of_checkpoint(reply: CheckpointReply) -> TurnReply
     ensures { result ≡ checkpoint_reply reply }
 {
     match reply {
@@ -79,14 +79,15 @@ impl<D: Disk> OpenedStore<D> {
         ensures opened { result ≡ record { store = store; opening = store } }
 
         // Of a store that was read no entry has a pass.
-        ensures numbers { AllByRecursion IsReadEvent store.events → store.checkpoints ≡ [] → AllOfNumber 0 (lock_entries result) }
+        ensures numbers { AllByRecursion IsReadEvent store.events → store.checkpoints ≡ [] →
+            AllOfNumber 0 (lock_entries result) }
     {
         let opening = Snapshot::of(&store);
         OpenedStore { store, opening }
     }
 
     // What it keeps at every moment.
-    pub(crate) fn keeps(&self)
+    pub(crate) fn lemma_has_gone_on(&self)
         ensures { HasGoneOn D.clock D.left_since D.image D.faults self.now.opening self.now.store }
     {
         let _ = &self.store;
@@ -107,24 +108,25 @@ impl<D: Disk> OpenedStore<D> {
         requires well_formed { IsWellFormed request }
         ensures { HasTurned D.faults (λ moment. moment ≡ clock) (TurnRequest.Step request) self.old pass self.new result }
     {
-        self.store.keeps();
+        self.store.lemma_is_store();
         let reply = self.store.step(alloc, pass, request, clock);
-        told(reply)
+        reply_of(reply)
     }
 
     // Makes a checkpoint.
     fn checkpoint(&mut self, alloc: Global, pass: u64) -> TurnReply
         ensures { (clock : ℤ) → HasTurned D.faults (λ moment. moment ≡ clock) TurnRequest.Checkpoint self.old pass self.new result }
     {
-        self.store.keeps();
+        self.store.lemma_is_store();
         let reply = self.store.checkpoint(alloc, pass);
-        told_of_checkpoint(reply)
+        reply_of_checkpoint(reply)
     }
 
     // The statements of these numbers.
     fn cite(&self, alloc: Global, numbers: &Numbers) -> TurnReply
         requires { AreCitable numbers.now }
-        ensures { (pass : ℕ) (clock : ℤ) → Turn (λ moment. moment ≡ clock) (pass_at self.now.opening pass) (entries_of self.now.store) (TurnRequest.Cite numbers.now) result [] }
+        ensures { (pass : ℕ) (clock : ℤ) →
+            Turn (λ moment. moment ≡ clock) (pass_at self.now.opening pass) (entries_of self.now.store) (TurnRequest.Cite numbers.now) result [] }
     {
         if self.store.is_stopped() {
             return TurnReply::Stopped;
@@ -144,7 +146,9 @@ impl<D: Disk> OpenedStore<D> {
         nonce: &[u8; 16],
         signature: &Bytes,
     ) -> TurnReply
-        ensures { (pass : ℕ) (clock : ℤ) → Turn (λ moment. moment ≡ clock) (pass_at self.now.opening pass) (entries_of self.now.store) (TurnRequest.Login who.now nonce.now signature.now) result [] }
+        ensures { (pass : ℕ) (clock : ℤ) → Turn (λ moment. moment ≡ clock)
+            (pass_at self.now.opening pass) (entries_of self.now.store)
+            (TurnRequest.Login who.now nonce.now signature.now) result [] }
     {
         if self.store.is_stopped() {
             return TurnReply::Stopped;

@@ -38,7 +38,7 @@ impl<'c, D: Disk, C: Clock> Job<OpenedStore<D>> for StoreTurn<'c, C> {
         } = self;
         let moment = clock.now();
         let reply = value.answer(alloc, pass, request, moment);
-        value.keeps();
+        value.lemma_has_gone_on();
         reply
     }
 }

@@ -11,7 +11,8 @@ ghost use Rattle.proof_text.specs.Texts.{IsProofText};
 /// A statement that a text writes has a spelling: its names and texts are in their grammars, and its numbers fit their
 /// bytes.
 pub fn read_statements_are_spellable()
-    ensures { (text : List ℕ) (s : StatementView) → IsStatementText text s → IsSpellableStatement s }
+    ensures { (text : List ℕ) (s : StatementView) → IsStatementText text s →
+        IsSpellableStatement s }
 {}
 
 /// A proof that a text says can be printed: it is within the limits, its hypotheses have numbers below 65,536, its terms

@@ -5,7 +5,9 @@ use Rattle.tree_lock.specs.Entries.{of_number}
 use Rattle.tree_lock.specs.Seen.{PassView, DoormanView, AreNumbers, AreOwn}
 
 module _ {E : Type 0} where
-  -- The doorman knows this history: the entries under each number that was retired are that pass's own, those under the number 0 are the opening ones, and there are none under a number that was not made.
+  -- The doorman knows this history: the entries under each number that was retired are that pass's
+  -- own, those under the number 0 are the opening ones, and there are none under a number that was
+  -- not made.
   pub record Knows (door : DoormanView E) (history : List (ℕ × E)) : Type 0 where
     pub opened : IsPrefix door.opening history
     pub seen : IsPrefix door.seen history
@@ -14,7 +16,8 @@ module _ {E : Type 0} where
     pub opening : of_number 0 history ≡ door.opening
     pub none_above : (n : ℕ) → door.made + 1 ≤ n → of_number n history ≡ []
 
-  -- The doorman took a pass in: it has seen all that the pass has seen, and knows the pass's own entries.
+  -- The doorman took a pass in: it has seen all that the pass has seen, and knows the pass's own
+  -- entries.
   pub record TakesIn (pass : PassView E) (old new : DoormanView E) : Type 0 where
     pub lock : new.lock ≡ old.lock
     pub opening : new.opening ≡ old.opening

@@ -1,6 +1,8 @@
 -- The rule of the lock's table. This project's own.
--- Word 0 counts the tickets that were drawn, and word 16 those that were served, both modulo 2 ^ 64. Of the words from 32 on, by which passes wake each other, the rule says nothing.
--- The one slot has the value, or is out with the pass that holds it. The seat of a pass is its number, and that of the doorman is 0.
+-- Word 0 counts the tickets that were drawn, and word 16 those that were served, both modulo 2 ^
+-- 64. Of the words from 32 on, by which passes wake each other, the rule says nothing.
+-- The one slot has the value, or is out with the pass that holds it. The seat of a pass is its
+-- number, and that of the doorman is 0.
 use Rattle.std.specs.Prelude.{◌≡◌, ℕ, ◌+◌, ◌^◌, ◌%◌, ◌<◌, ◌≤◌, List, [], length, Bool, true, false, slice_index, ◌⊎◌, Some}
 use Rattle.std.specs.List.{AllByRecursion}
 use Rattle.std.specs.Prelude as std
@@ -26,7 +28,8 @@ module _ {E : Type 0} where
   abbrev pub IsAtStage : List (ℕ × E) → ℕ → ℕ → (ℕ → ℕ) → ℕ → List (ℕ × E) → Stage → Type 0
   IsAtStage history served drawn seat_of i seen Idle = Unit {0}
   IsAtStage history served drawn seat_of i seen (Waiting t) = IsOut served drawn seat_of i t
-  IsAtStage history served drawn seat_of i seen (Holding t) = (t ≡ served) × IsOut served drawn seat_of i t × (seen ≡ history)
+  IsAtStage history served drawn seat_of i seen (Holding t) = (t ≡ served) ×
+      IsOut served drawn seat_of i t × (seen ≡ history)
 
   -- a seat that has not been retired is at its number, and knows its own entries
   abbrev pub IsKnown : List (ℕ × E) → ℕ → Knowledge E → Bool → Type 0
@@ -83,5 +86,6 @@ module _ {V E : Type 0} (entries : V → List (ℕ × E)) where
     pub counted : served + tickets_out s.views ≡ drawn
     pub doorman : IsDoorman history s.views door
     pub none_above : (n : ℕ) → length s.views ≤ n → of_number n history ≡ []
-    pub each : (i : ℕ) (v : Knowledge E) → get_elem? s.views i ≡ some v → Fits history served drawn seat_of i v
+    pub each : (i : ℕ) (v : Knowledge E) → get_elem? s.views i ≡ some v →
+        Fits history served drawn seat_of i v
     pub slot : IsHome history s.views s.homes ⊎ IsAway s.views

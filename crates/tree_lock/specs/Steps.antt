@@ -12,7 +12,9 @@ abbrev SeatState : Type 0 → Type 0 → Type 0
 SeatState V E = Me (Option V) (Knowledge E)
 
 module _ {E : Type 0} where
-  -- the doorman sees the whole history, in which the entries of each retired pass are its own, those under the number 0 are the opening ones, and there are none under a number that was not made
+  -- the doorman sees the whole history, in which the entries of each retired pass are its own,
+  -- those under the number 0 are the opening ones, and there are none under a number that was not
+  -- made
   pub record Looks (before after : Knowledge E) : Type 0 where
     pub history : List (ℕ × E)
     pub seen : IsPrefix before.seen history
@@ -27,7 +29,8 @@ module _ {E : Type 0} where
 module _ {V E : Type 0} where
   -- a ticket was drawn, and the word found is its remainder
   abbrev pub draw_step : Step (Option V) → SeatState V E → ℕ → SeatState V E → Type 0
-  draw_step step before found after = (t : ℕ) × (found ≡ t % 2 ^ 64) × (after ≡ (at_stage before.0 (Waiting t), before.1))
+  draw_step step before found after = (t : ℕ) × (found ≡ t % 2 ^ 64) ×
+      (after ≡ (at_stage before.0 (Waiting t), before.1))
 
   -- nothing is told
   abbrev pub signal_step : Step (Option V) → SeatState V E → ℕ → SeatState V E → Type 0
@@ -46,7 +49,8 @@ module _ {V E : Type 0} (entries : V → List (ℕ × E)) where
 
   -- a pass that waits for the ticket t takes the value if it is served, and else nothing changes
   abbrev pub wait_step : Step (Option V) → SeatState V E → ℕ → SeatState V E → Type 0
-  wait_step step before found after = (t : ℕ) → before.0.stage ≡ Waiting t → (found ≡ t % 2 ^ 64 → Takes t before after) × (found ≢ t % 2 ^ 64 → after ≡ before)
+  wait_step step before found after = (t : ℕ) → before.0.stage ≡ Waiting t →
+      (found ≡ t % 2 ^ 64 → Takes t before after) × (found ≢ t % 2 ^ 64 → after ≡ before)
 
   abbrev pub entries_held : List (ℕ × Option V) → List (ℕ × E)
   entries_held [] = []

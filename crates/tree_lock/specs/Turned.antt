@@ -4,7 +4,9 @@ use mathlib.Core.List.{IsPrefix}
 use Rattle.tree_lock.specs.Entries.{of_number, AllOfNumber}
 use Rattle.tree_lock.specs.Seen.{PassView}
 
--- A turn's job took the value `before` to the value `after`, and appended entries of the pass. All that the pass had seen begins the entries that the job found, and then it has seen all that the job left.
+-- A turn's job took the value `before` to the value `after`, and appended entries of the pass. All
+-- that the pass had seen begins the entries that the job found, and then it has seen all that the
+-- job left.
 pub record Turned {V E Out : Type 0} (entries : V → List (ℕ × E)) (done : V → ℕ → V → Out → Type 0) (old new : PassView E) (result : Out) : Type 0 where
   pub before : V
   pub after : V

@@ -6,5 +6,6 @@ ghost use Rattle.tree_lock.specs.Seen.{DoormanView};
 
 /// The history of a closed lock is its opening entries, and then a merge of its passes' own entries.
 pub fn closed_histories_are_merges<E>()
-    ensures { (door : DoormanView E) (history : List (ℕ × E)) → IsClosed door history → IsMerge door.opening door.retired history }
+    ensures { (door : DoormanView E) (history : List (ℕ × E)) → IsClosed door history →
+        IsMerge door.opening door.retired history }
 {}

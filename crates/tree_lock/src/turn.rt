@@ -84,7 +84,10 @@ fn work_at<V: Recorded, J: Job<V>>(
 ) -> J::Out
     requires at { IsPassAt shared.now.table_id seat.old }
     requires value { (before : V) × (seat.old.me.1 ≡ (0, Some before) ∷ []) }
-    ensures { (before after : V) × (seat.old.me.1 ≡ (0, Some before) ∷ []) × J.done job before number after result × Appends number (V.entries before) (V.entries after) × (seat.new.table_id ≡ seat.old.table_id) × (seat.new.me ≡ (seat.old.me.0, (0, Some after) ∷ [])) }
+    ensures { (before after : V) × (seat.old.me.1 ≡ (0, Some before) ∷ [])
+        × J.done job before number after result × Appends number (V.entries before)
+        (V.entries after) × (seat.new.table_id ≡ seat.old.table_id)
+        × (seat.new.me ≡ (seat.old.me.0, (0, Some after) ∷ [])) }
 {
     let Some(value) = seat.slot_mut(shared, 0) else {
         unreachable!()
@@ -96,7 +99,8 @@ fn work_at<V: Recorded, J: Job<V>>(
 fn serve<V: Recorded>(shared: &LockShared<V>, seat: &mut LockSeat<V>)
     requires { (value : V) × IsHolding V.entries shared.now.table_id seat.old value }
     ensures idle { IsIdle shared.now.table_id seat.new }
-    ensures view { (value : V) → seat.old.me.1 ≡ (0, Some value) ∷ [] → seat.new.me.0 ≡ after_turn seat.old.me.0 (V.entries value) (of_number seat.old.me.0.number (V.entries value)) }
+    ensures view { (value : V) → seat.old.me.1 ≡ (0, Some value) ∷ [] →
+        seat.new.me.0 ≡ after_turn seat.old.me.0 (V.entries value) (of_number seat.old.me.0.number (V.entries value)) }
 {
     shared.fetch_add::<ServeStep>(seat, SERVED, 1);
 }

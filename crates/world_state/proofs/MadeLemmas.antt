@@ -2,7 +2,7 @@
 use Rattle.std.proofs.Common.{◌≡◌, ℕ, List, [], ◌∷◌, None, Result, Ok, Err, map, refl, sym, ap, ap₂, ◌∙◌, subst}
 use Rattle.bl_syntax.specs.declared.terms.NodeId.{NodeId}
 use Rattle.file_world.specs.Attributes.{Mark, Marks, AreMarks}
-use Rattle.file_world.specs.Tree.{Node, Nodes, FileTree, IsTree}
+use Rattle.file_world.specs.Tree.{Nodes, FileTree, IsTree}
 use Rattle.file_world.specs.World.{Item, World, IsWorld, node_of, mark_of, tree_of, marks_of}
 use Rattle.node_rows.specs.declared.rows.TreeRow.{TreeRow}
 use Rattle.node_rows.specs.declared.rows.MetaRow.{MetaRow}
@@ -11,7 +11,7 @@ use Rattle.node_rows.specs.declared.rows.RowsFault.{RowsFault}
 use Rattle.node_rows.specs.declared.rows.RowsFault.TheVariants.{NotTree, NoMemory}
 use Rattle.file_tree.specs.State.{TreeView, directories_of_nodes, MakesTree}
 use Rattle.attr_state.specs.State.{MetaView, directories_of_marks, MakesMarks}
-use Rattle.world_state.specs.Halves.{item_of, joined_rows, joined, AreHalves}
+use Rattle.world_state.specs.Halves.{joined_rows, joined, AreHalves}
 use Rattle.world_state.specs.Made.{HaveSameNodes, JoinsHalves, world_of_rows, MakesWorld}
 use Rattle.world_state.specs.State.{WorldState, settled}
 use Rattle.world_state.proofs.HalvesLemmas.{shown}

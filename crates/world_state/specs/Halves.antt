@@ -76,12 +76,16 @@ halves_reply tree marks (meta_part op) = MetaOf (meta_reply marks op)
 
 -- the marks may be asked for what the caller's operation does to them
 abbrev pub IsAskedOf : List ℕ → FileTree → Marks → Part → Type 0
-IsAskedOf caller tree marks (tree_part op) = tree_refusal tree op ≡ None → MetaMayFollow marks (meta_op_of caller tree (tree_part op))
+IsAskedOf caller tree marks (tree_part op) = tree_refusal tree op ≡ None →
+    MetaMayFollow marks (meta_op_of caller tree (tree_part op))
 IsAskedOf caller tree marks (meta_part op) = IsAskable marks op
 
--- the operation got its reply and both halves are ready; or it is refused, and its first refusal is reported; or out of memory
-abbrev pub HalvesReserve : List ℕ → FileTree → Marks → Part → Result OpReply OpFault → TreeView → MetaView → Type 0
+-- the operation got its reply and both halves are ready; or it is refused, and its first refusal is
+-- reported; or out of memory
+abbrev pub HalvesReserve : List ℕ → FileTree → Marks → Part → Result OpReply OpFault → TreeView →
+    MetaView → Type 0
 HalvesReserve caller tree marks part (Ok told) tree_after meta_after =
-    (halves_refusal tree marks part ≡ None) × (told ≡ halves_reply tree marks part) × AreReady caller tree_after meta_after part
+    (halves_refusal tree marks part ≡ None) × (told ≡ halves_reply tree marks part) ×
+    AreReady caller tree_after meta_after part
 HalvesReserve caller tree marks part (Err (Refused refused)) tree_after meta_after = halves_refusal tree marks part ≡ Some refused
 HalvesReserve caller tree marks part (Err NoMemory) tree_after meta_after = halves_refusal tree marks part ≡ None

@@ -27,10 +27,13 @@ JoinsHalves tree marks (Err NoMemory) = ⊥
 abbrev pub world_of_rows : ℕ → List TreeRow → List MetaRow → World
 world_of_rows next trees metas = record { rows = item_rows trees metas; next = next }
 
--- the rows are of the same nodes and make a world within the limits; or they do not; or there was no memory
+-- the rows are of the same nodes and make a world within the limits; or they do not; or there was
+-- no memory
 abbrev pub MakesWorld : ℕ → List TreeRow → List MetaRow → Result WorldState RowsFault → Type 0
-MakesWorld next trees metas (Ok state) = AreOfSameNodes trees metas × (IsWorld (world_of_rows next trees metas) × (state ≡ settled (world_of_rows next trees metas)))
-MakesWorld next trees metas (Err NotTree) = AreOfSameNodes trees metas → IsWorld (world_of_rows next trees metas) → ⊥
+MakesWorld next trees metas (Ok state) = AreOfSameNodes trees metas ×
+    (IsWorld (world_of_rows next trees metas) × (state ≡ settled (world_of_rows next trees metas)))
+MakesWorld next trees metas (Err NotTree) = AreOfSameNodes trees metas →
+    IsWorld (world_of_rows next trees metas) → ⊥
 MakesWorld next trees metas (Err NoMemory) = Unit {0}
 
 -- the node is the first that was left, or it is not

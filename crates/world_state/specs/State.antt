@@ -1,4 +1,5 @@
--- What contracts see of a world: the plain world, and what its two halves are ready to change (this project's own).
+-- What contracts see of a world: the plain world, and what its two halves are ready to change (this
+-- project's own).
 use Rattle.std.specs.Prelude.{◌≡◌, ℕ, List, Option, Some, None, Result, Ok, Err}
 use Rattle.file_world.specs.declared.operation.MetaOp.{MetaOp}
 use Rattle.file_world.specs.declared.operation.Op.{Op}
@@ -54,8 +55,10 @@ pub record AreReady (caller : List ℕ) (tree : TreeView) (meta : MetaView) (par
 abbrev pub IsWorldReady : List ℕ → WorldState → Op → Type 0
 IsWorldReady caller state op = AreReady caller (tree_state state) (meta_state state) (part_of op)
 
--- the operation got its reply and the world is ready for it; or it is refused, and its first refusal is reported; or out of memory
+-- the operation got its reply and the world is ready for it; or it is refused, and its first
+-- refusal is reported; or out of memory
 abbrev pub ReservesWorld : List ℕ → World → Op → Result OpReply OpFault → WorldState → Type 0
-ReservesWorld caller world op (Ok told) after = (refusal world op ≡ None) × (told ≡ reply world op) × IsWorldReady caller after op
+ReservesWorld caller world op (Ok told) after = (refusal world op ≡ None) ×
+    (told ≡ reply world op) × IsWorldReady caller after op
 ReservesWorld caller world op (Err (Refused refused)) after = refusal world op ≡ Some refused
 ReservesWorld caller world op (Err NoMemory) after = refusal world op ≡ None

@@ -70,7 +70,8 @@ fn reserve_tree(
 fn reserve_meta(meta: &mut Meta, alloc: Global, op: &MetaOp) -> Result<OpReply, OpFault>
     requires { IsAskable meta.old.marks op.now }
     ensures meta { meta.new.marks ≡ meta.old.marks }
-    ensures answer { (caller : List ℕ) (tree : TreeView) → HalvesReserve caller tree.tree meta.old.marks (meta_part op.now) result tree meta.new }
+    ensures answer { (caller : List ℕ) (tree : TreeView) →
+        HalvesReserve caller tree.tree meta.old.marks (meta_part op.now) result tree meta.new }
 {
     let reply = meta.reserve(alloc, op)?;
     Ok(OpReply::Meta(reply))

@@ -1,6 +1,5 @@
-use Rattle.std.proofs.Common.{◌≡◌, ℕ, List, sym, ap, ◌∙◌, arith, refl}
-use Rattle.merkle_sig.specs.HashTree.{leaf_over}
-use Rattle.merkle_sig.specs.Signature.{climb, pairs_from}
+use Rattle.std.proofs.Common.{sym, ◌∙◌, arith}
+use Rattle.merkle_sig.specs.Signature.{climb}
 use Rattle.merkle_sig.proofs.StepLemmas.{decides_by_root, reaches, refuses_leaf, refuses_length}
 use Rattle.merkle_sig.proofs.accepting.accepts_root.Goals as goal
 

@@ -1,4 +1,4 @@
-use Rattle.std.proofs.Common.{refl, sym, arith, ap, ◌∙◌, ℕ, ◌/◌}
+use Rattle.std.proofs.Common.{refl, sym, ap, ◌∙◌, ℕ, ◌/◌}
 use Rattle.std.proofs.Math.Nat.{div-one}
 use Rattle.std.proofs.lemmas.Nat.{shr-shr}
 use Rattle.merkle_sig.specs.Signature.{climb}

@@ -1,4 +1,4 @@
-use Rattle.std.proofs.Common.{◌≡◌, ◌≢◌, ℕ, ◌-◌, ◌+◌, [], arith, ◌∙◌, get_or-set_other}
+use Rattle.std.proofs.Common.{◌≢◌, ◌-◌, ◌+◌, [], arith, ◌∙◌, get_or-set_other}
 use Rattle.std.proofs.lemmas.List.{length-set}
 use Rattle.merkle_sig.proofs.NodesLemmas.{AreParents-set}
 use Rattle.merkle_sig.proofs.tree.add_parents.Goals as goal

@@ -1,4 +1,4 @@
-use Rattle.std.proofs.Common.{◌≡◌, ◌+◌, ◌^◌, ◌≤◌, ℕ, List, ◌∙◌, arith, subst}
+use Rattle.std.proofs.Common.{◌+◌, ℕ, List, ◌∙◌, arith, subst}
 use Rattle.merkle_sig.specs.Nodes.{AreLeaves, AreParents}
 use Rattle.merkle_sig.proofs.NodesLemmas.{IsTree-from}
 use Rattle.merkle_sig.proofs.tree.tree.Goals as goal

@@ -1,7 +1,7 @@
 -- The operation is refused, or done.
 use Rattle.std.proofs.Common.{rules, subst, sym}
 use Rattle.access_history.specs.declared.request.StepRequest.TheVariants.{Act}
-use Rattle.op_gate.specs.declared.planned.Planned.{Planned}
+use Rattle.op_gate.specs.declared.planned.DecisionPlan.{DecisionPlan}
 use Rattle.op_gate.specs.Decision.{IsPlanned}
 use Rattle.std.specs.Int.{w64}
 use mir.Val.{SFits, to_z, of_z}
@@ -22,6 +22,6 @@ pub returns-in-Err-clause-planned : goal.returns-in-Err-clause-planned
 returns-in-Err-clause-planned c =
     let h = c.args.history.now in
     let after = c.prepare-op.new.self in
-    subst (λ (plan : Planned). IsPlanned h c.args.pass c.args.clock (Act c.args.caller c.args.op c.args.procaps) plan after) (sym c.plan_of_refusal.ensures)
+    subst (λ (plan : DecisionPlan). IsPlanned h c.args.pass c.args.clock (Act c.args.caller c.args.op c.args.procaps) plan after) (sym c.plan_of_refusal.ensures)
     (fault_decided h after c.args.pass c.args.clock c.args.caller c.args.op c.args.procaps c.in-Err.fault c.count-count.result c.requires
     (reserved_not c.args.caller (state_of h).world c.args.op c.prepare-op.result.1 c.in-Err.fault (world_of after) c.in-Err.is c.prepare-op.ensures.answer) c.count-count.ensures)

@@ -5,7 +5,7 @@ use Rattle.policy_statement.specs.Ring.{is_accepted}
 use Rattle.policy_statement.specs.Withdrawal.{MayWithdraw}
 use Rattle.access_history.specs.declared.request.StepRequest.TheVariants.{Withdraw}
 use Rattle.access_history.specs.History.{state_of}
-use Rattle.op_gate.specs.declared.planned.Planned.{Planned}
+use Rattle.op_gate.specs.declared.planned.DecisionPlan.{DecisionPlan}
 use Rattle.op_gate.specs.Decision.{IsPlanned}
 use Rattle.op_gate.proofs.DecisionLemmas.{withdrawn_decided}
 use Rattle.op_gate.proofs.RegistryLemmas.{MayWithdraw-shown, may_withdraw, withdrawal_refused}
@@ -23,5 +23,5 @@ returns-in-Err c = λ clock.
     let h = c.args.history.now in
     let may : MayWithdraw (is_accepted h.ring) (state_of h).statements c.args.number c.args.signature (Err c.in-Err.fault) = MayWithdraw-shown h.ring c.ring.result.now (state_of h).statements c.registry-registry.result.now.entries c.args.number c.args.signature c.as_slice.result.now (Err c.in-Err.fault)
     c.ring.ensures c.as_slice.ensures c.registry-registry.ensures c.in-Err.ensures in
-    subst (λ (p : Planned). IsPlanned h c.args.pass clock (Withdraw c.args.number c.args.signature) p h) (sym c.refused_withdrawal.ensures)
+    subst (λ (p : DecisionPlan). IsPlanned h c.args.pass clock (Withdraw c.args.number c.args.signature) p h) (sym c.refused_withdrawal.ensures)
     (withdrawal_refused h c.args.pass clock c.args.number c.args.signature c.in-Err.fault may)

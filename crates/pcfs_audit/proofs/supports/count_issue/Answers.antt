@@ -1,5 +1,5 @@
 -- The row of the issue's grant is written, or there is none.
-use Rattle.std.proofs.Common.{◌≡◌, ◌∙◌, ◌<◌, List, Option, ap, arith, length, refl, subst, sym, ℕ}
+use Rattle.std.proofs.Common.{◌≡◌, ◌∙◌, List, Option, ap, refl, subst, sym, ℕ}
 use Rattle.std.specs.Prelude.{Contains, MatchOption}
 use Rattle.std.proofs.lemmas.Option.{get_or_from_slice_get}
 use Rattle.bl_syntax.specs.Grant.{GrantView}
@@ -8,7 +8,6 @@ use Rattle.pcfs_audit.specs.Ends.{first_end}
 use Rattle.pcfs_audit.specs.Firsts.{tag_digest}
 use Rattle.pcfs_audit.specs.Papers.{shown}
 use Rattle.pcfs_audit.specs.Supports.{IsFirstOf, supported}
-use Rattle.pcfs_audit.proofs.ReferenceLemmas.{length-shown}
 use Rattle.pcfs_audit.proofs.SupportsLemmas.{length_set, supports_counted, supports_uncounted}
 use Rattle.pcfs_audit.proofs.supports.count_issue.Goals as goal
 

@@ -1,5 +1,5 @@
 use Rattle.std.proofs.Common.{length, ◌-◌, ◌≡◌, ◌≤◌}
-use Rattle.pcfs_ports.specs.Told.{with_front}
+use Rattle.pcfs_ports.specs.Observable.{with_front}
 use Rattle.pcfs_ports.specs.declared.streams.TheConstants.{INPUT_LIMIT}
 use Rattle.pcfs_ports.proofs.streams.read_to_end.Given as goal
 

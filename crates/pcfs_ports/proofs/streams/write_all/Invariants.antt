@@ -1,5 +1,5 @@
 use Rattle.std.proofs.Common.{length, take, ◌-◌, ◌≡◌, ◌≤◌}
-use Rattle.pcfs_ports.specs.Told.{with_back}
+use Rattle.pcfs_ports.specs.Observable.{with_back}
 use Rattle.pcfs_ports.proofs.streams.write_all.Given as goal
 
 abbrev pub invariant-loop-at : goal.invariant-loop-at

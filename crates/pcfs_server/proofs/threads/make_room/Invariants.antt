@@ -10,6 +10,7 @@ invariant-loop g l = record {
   belongs : g.H.Service.is_door l.service (g.F.Front.door l.front);
   enough : slab_len l.table ≤ g.H.Service.out (g.F.Front.door l.front);
   out : g.H.Service.out (g.F.Front.door l.front) + slab_len l.initial.table ≡ g.H.Service.out (g.F.Front.door l.initial.front) + slab_len l.table;
+  admitted : g.H.Service.admitted (g.F.Front.door l.front) ≡ g.H.Service.admitted (g.F.Front.door l.initial.front);
   served : g.H.Service.served (g.F.Front.door l.front) + slab_len l.table ≡ g.H.Service.served (g.F.Front.door l.initial.front) + slab_len l.initial.table;
   refs : g.F.Front.refs l.front ≡ g.F.Front.refs l.initial.front;
   listener : g.F.Front.listener l.front ≡ g.F.Front.listener l.initial.front;

@@ -3,10 +3,10 @@ use Rattle.pcfs_tools.proofs.TellingLemmas.{IsReport-same, counted_same}
 use Rattle.pcfs_tools.proofs.auditing.report_on.Goals as goal
 
 pub audit-requires : goal.audit-requires
-audit-requires g c = counted_same _ _ _ _ c.base-base.ensures c.events-events.ensures c.lawful.ensures.counted
+audit-requires g c = counted_same _ _ _ _ c.base-base.ensures c.events-events.ensures c.lemma_is_lawful.ensures.counted
 
 pub audit_pieces-requires-clause-counted : goal.audit_pieces-requires-clause-counted
-audit_pieces-requires-clause-counted g c _ _ = counted_same _ _ _ _ c.base-base.ensures c.events-events.ensures c.lawful.ensures.counted
+audit_pieces-requires-clause-counted g c _ _ = counted_same _ _ _ _ c.base-base.ensures c.events-events.ensures c.lemma_is_lawful.ensures.counted
 
 pub returns-in-None : goal.returns-in-None
 returns-in-None g c = IsReport-same _ _ c.args.secrets.now.ring _ _ _ _ c.as_slice-key.ensures c.base-base.ensures c.events-events.ensures _ c.audit.ensures

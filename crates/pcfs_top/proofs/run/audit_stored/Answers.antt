@@ -17,12 +17,12 @@ returns-in-Err-open_store g c words left read_faults asks =
     let not_opened =
     subst (λ k. IsNotOpened g.D.Disk.clock g.D.Disk.left_since g.D.Disk.image g.D.Disk.faults c.args.a c.args.b (authority_with k c.args.secrets.now.ring) c.in-Err-open_store.fault c.in-Err-open_store.a c.in-Err-open_store.b) c.as_slice.ensures
     (subst (λ r. IsNotOpened g.D.Disk.clock g.D.Disk.left_since g.D.Disk.image g.D.Disk.faults c.args.a c.args.b (authority_with c.as_slice.result.now r) c.in-Err-open_store.fault c.in-Err-open_store.a c.in-Err-open_store.b) c.in-Ok.ensures c.in-Err-open_store.ensures.err) in
-    EndsWith-unopened g.D.Disk.clock g.D.Disk.left_since g.D.Disk.image g.D.Disk.faults words c.args.secrets.now c.args.a c.args.b (of_audit _ asks) _ _ _ c.in-Err-open_store.fault _ _ not_opened refl c.tell_unopened.ensures
+    EndsWith-unopened g.D.Disk.clock g.D.Disk.left_since g.D.Disk.image g.D.Disk.faults words c.args.secrets.now c.args.a c.args.b (of_audit _ asks) _ _ _ c.in-Err-open_store.fault _ _ not_opened refl c.write_unopened.ensures
 
 pub returns-in-Ok-open_store : goal.returns-in-Ok-open_store
 returns-in-Ok-open_store g c words left read_faults asks =
     let opened = subst (λ k. IsOpened g.D.Disk.clock g.D.Disk.left_since g.D.Disk.image g.D.Disk.faults c.args.a c.args.b k c.args.secrets.now.ring c.in-Ok-open_store.store) c.as_slice.ensures
     (subst (λ r. IsOpened g.D.Disk.clock g.D.Disk.left_since g.D.Disk.image g.D.Disk.faults c.args.a c.args.b c.as_slice.result.now r c.in-Ok-open_store.store) c.in-Ok.ensures c.in-Ok-open_store.ensures.ok) in
     let tells = TellsAudit-same (authority_under c.args.secrets.now) _ _ _ _ _ _ _ _ _ (c.history.ensures.base ∙ ap (λ (v : GateView). v.base) c.gate.ensures) (c.history.ensures.events ∙ ap (λ (v : GateView). v.events) c.gate.ensures) c.audit_history-status.ensures in
-    EndsWith-audited g.D.Disk.clock g.D.Disk.left_since g.D.Disk.image g.D.Disk.faults words c.args.secrets.now c.args.a c.args.b (of_audit _ asks) _ _ _ _ c.in-Ok-open_store.store _ _ asks c.keeps.ensures opened tells refl
+    EndsWith-audited g.D.Disk.clock g.D.Disk.left_since g.D.Disk.image g.D.Disk.faults words c.args.secrets.now c.args.a c.args.b (of_audit _ asks) _ _ _ _ c.in-Ok-open_store.store _ _ asks c.lemma_is_store.ensures opened tells refl
     c.into_disks-first.ensures.first c.into_disks-first.ensures.second

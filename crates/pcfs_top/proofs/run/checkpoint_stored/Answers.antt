@@ -14,14 +14,14 @@ returns-in-Err-open_store g c words left read_faults asks =
     let not_opened =
     subst (λ k. IsNotOpened g.D.Disk.clock g.D.Disk.left_since g.D.Disk.image g.D.Disk.faults c.args.a c.args.b (authority_with k c.args.secrets.now.ring) c.in-Err-open_store.fault c.in-Err-open_store.a c.in-Err-open_store.b) c.as_slice.ensures
     (subst (λ r. IsNotOpened g.D.Disk.clock g.D.Disk.left_since g.D.Disk.image g.D.Disk.faults c.args.a c.args.b (authority_with c.as_slice.result.now r) c.in-Err-open_store.fault c.in-Err-open_store.a c.in-Err-open_store.b) c.in-Ok.ensures c.in-Err-open_store.ensures.err) in
-    EndsWith-unopened g.D.Disk.clock g.D.Disk.left_since g.D.Disk.image g.D.Disk.faults words c.args.secrets.now c.args.a c.args.b (of_checkpoint asks) _ _ _ c.in-Err-open_store.fault _ _ not_opened refl c.tell_unopened.ensures
+    EndsWith-unopened g.D.Disk.clock g.D.Disk.left_since g.D.Disk.image g.D.Disk.faults words c.args.secrets.now c.args.a c.args.b (of_checkpoint asks) _ _ _ c.in-Err-open_store.fault _ _ not_opened refl c.write_unopened.ensures
 
 pub returns-in-Ok-open_store : goal.returns-in-Ok-open_store
 returns-in-Ok-open_store g c words left read_faults asks =
     let opened = subst (λ k. IsOpened g.D.Disk.clock g.D.Disk.left_since g.D.Disk.image g.D.Disk.faults c.args.a c.args.b k c.args.secrets.now.ring c.in-Ok-open_store.store) c.as_slice.ensures
     (subst (λ r. IsOpened g.D.Disk.clock g.D.Disk.left_since g.D.Disk.image g.D.Disk.faults c.args.a c.args.b c.as_slice.result.now r c.in-Ok-open_store.store) c.in-Ok.ensures c.in-Ok-open_store.ensures.ok) in
     let e = c.checkpoint-reply.ensures in
-    EndsWith-checkpointed g.D.Disk.clock g.D.Disk.left_since g.D.Disk.image g.D.Disk.faults words c.args.secrets.now c.args.a c.args.b asks c.in-Ok-open_store.store c.keeps.ensures opened (λ d bytes told. g.met.D.Disk.image_may_stay d bytes told) 0 c.checkpoint-reply.new.self
+    EndsWith-checkpointed g.D.Disk.clock g.D.Disk.left_since g.D.Disk.image g.D.Disk.faults words c.args.secrets.now c.args.a c.args.b asks c.in-Ok-open_store.store c.lemma_is_store.ensures opened (λ d bytes told. g.met.D.Disk.image_may_stay d bytes told) 0 c.checkpoint-reply.new.self
     _ _ _ c.checkpoint-reply.result _ _
     (record {
       answer = e.answer;
@@ -36,4 +36,4 @@ returns-in-Ok-open_store g c words left read_faults asks =
       second_told = e.second_told;
       first_never_falls = e.first_never_falls;
       second_never_falls = e.second_never_falls;
-    }) refl c.tell_checkpoint-status.ensures c.into_disks-first_after.ensures.first c.into_disks-first_after.ensures.second
+    }) refl c.write_checkpoint-status.ensures c.into_disks-first_after.ensures.first c.into_disks-first_after.ensures.second

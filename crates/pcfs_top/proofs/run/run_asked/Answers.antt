@@ -1,5 +1,5 @@
 -- What was asked for is done, or it is no command.
-use Rattle.std.proofs.Common.{refl, subst}
+use Rattle.std.proofs.Common.{refl}
 use Rattle.command_words.proofs.TaskLemmas.{nothing_asked}
 use Rattle.pcfs_top.proofs.EndsWithLemmas.{EndsWith-usage}
 use Rattle.pcfs_top.proofs.run.run_asked.Goals as goal
@@ -11,4 +11,4 @@ pub returns-in-Some : goal.returns-in-Some
 returns-in-Some g c words asks = c.run_task.ensures words (rw c.in-Some.is at asks)
 
 pub returns-in-None : goal.returns-in-None
-returns-in-None g c words asks = EndsWith-usage words c.args.secrets.now _ _ _ _ (nothing_asked words (rw c.in-None.is at asks)) refl refl c.tell.ensures
+returns-in-None g c words asks = EndsWith-usage words c.args.secrets.now _ _ _ _ (nothing_asked words (rw c.in-None.is at asks)) refl refl c.write_last_line.ensures

@@ -52,4 +52,4 @@ pub returns-in-RootSign : goal.returns-in-RootSign
 returns-in-RootSign g c words asks = run.signing_told _ _ _ (subst (AsksFor words) c.in-RootSign.is asks) refl c.sign_statements.ensures
 
 pub returns-in-Serve : goal.returns-in-Serve
-returns-in-Serve g c words asks = EndsWith-usage words c.args.secrets.now _ _ _ _ (serves_alone words _ _ (subst (AsksFor words) c.in-Serve.is asks)) refl refl c.tell.ensures
+returns-in-Serve g c words asks = EndsWith-usage words c.args.secrets.now _ _ _ _ (serves_alone words _ _ (subst (AsksFor words) c.in-Serve.is asks)) refl refl c.write_last_line.ensures

@@ -19,5 +19,5 @@ returns-in-Err-clause-answer c =
     let within : c.loop-place.place < length payloads = omega (arith, c.loop-place-test.true, c.count-place-end.ensures) in
     subst (λ (f : OpenFault). AdmitsPayloads (authority_with key ring) base payloads (Err f) new.events) (sym c.fault_at.ensures)
     (fault_there payloads c.loop-place.place old new c.payload.result.now key ring base c.in-Err.fault new.events within c.payload.ensures c.loop-place.invariant.read same.key same.ring same.base
-    (lawful_gate c.history.result.now old key ring base c.history.ensures.key c.history.ensures.ring c.history.ensures.base c.history.ensures.events same.key same.ring same.base c.lawful.ensures)
+    (lawful_gate c.history.result.now old key ring base c.history.ensures.key c.history.ensures.ring c.history.ensures.base c.history.ensures.events same.key same.ring same.base c.lemma_is_lawful.ensures)
     c.in-Err.ensures.answer)

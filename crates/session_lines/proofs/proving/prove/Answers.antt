@@ -24,8 +24,8 @@ returns-in-Cited-clause-stopped g c = c.issue.ensures.stopped
 
 pub returns-clause-done : goal.returns-clause-done
 returns-clause-done g c =
-    done_uncited (g.C.Clock.gives c.args.clock.now) c.args.goal c.args.numbers c.args.proof c.args.pass.now c.ask.new.pass c.ask.result c.told.result
-    (subst (λ (r : TurnRequest). HasAsked (g.C.Clock.gives c.args.clock.now) r c.args.pass.now c.ask.new.pass c.ask.result) c.new-request.ensures c.ask.ensures.asked) c.told.ensures
+    done_uncited (g.C.Clock.gives c.args.clock.now) c.args.goal c.args.numbers c.args.proof c.args.pass.now c.ask.new.pass c.ask.result c.reply_of.result
+    (subst (λ (r : TurnRequest). HasAsked (g.C.Clock.gives c.args.clock.now) r c.args.pass.now c.ask.new.pass c.ask.result) c.new-request.ensures c.ask.ensures.asked) c.reply_of.ensures
 
 pub returns-clause-stopped : goal.returns-clause-stopped
-returns-clause-stopped g c = λ is. c.ask.ensures.stopped (stopped_turn c.ask.result c.told.result c.told.ensures is)
+returns-clause-stopped g c = λ is. c.ask.ensures.stopped (stopped_turn c.ask.result c.reply_of.result c.reply_of.ensures is)

@@ -1,6 +1,6 @@
 -- The line of the greeting is written, or some first part of it.
 use Rattle.std.proofs.Common.{◌∙◌, ap, refl}
-use Rattle.pcfs_ports.specs.Told.{with_back}
+use Rattle.pcfs_ports.specs.Observable.{with_back}
 use Rattle.session_service.proofs.SpokenLemmas.{nothing_out}
 use Rattle.session_service.proofs.greeting.greet.Goals as goal
 

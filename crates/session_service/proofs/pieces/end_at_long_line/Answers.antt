@@ -10,11 +10,11 @@ returns-in-Err-clause-ends g c lines whole same = EndsAtLong-cut g.D.Disk.faults
 pub returns-in-Err-clause-risen : goal.returns-in-Err-clause-risen
 returns-in-Err-clause-risen g c is = c.in-Err.ensures.risen (ap Err (unsent_write _ _ c.unsent_end.ensures is))
 
-pub returns-in-Ok-tell-clause-ends : goal.returns-in-Ok-tell-clause-ends
-returns-in-Ok-tell-clause-ends g c lines whole same = EndsAtLong-told g.D.Disk.faults (g.C.Clock.gives c.args.clock.now) c.args.nonce.now _ _ _ _ _ _ _ lines _ _ whole same c.in-Ok.ensures.ok c.in-Ok-tell.ensures.ok
+pub returns-in-Ok-write_reply-clause-ends : goal.returns-in-Ok-write_reply-clause-ends
+returns-in-Ok-write_reply-clause-ends g c lines whole same = EndsAtLong-told g.D.Disk.faults (g.C.Clock.gives c.args.clock.now) c.args.nonce.now _ _ _ _ _ _ _ lines _ _ whole same c.in-Ok.ensures.ok c.in-Ok-write_reply.ensures.ok
 
-pub returns-in-Err-tell-clause-ends : goal.returns-in-Err-tell-clause-ends
-returns-in-Err-tell-clause-ends g c lines whole same = EndsAtLong-untold g.D.Disk.faults (g.C.Clock.gives c.args.clock.now) c.args.nonce.now _ _ _ _ _ _ _ lines _ _ _ _ c.unsent_end-in-Err-tell.ensures whole same c.in-Ok.ensures.ok c.in-Err-tell.ensures.err
+pub returns-in-Err-write_reply-clause-ends : goal.returns-in-Err-write_reply-clause-ends
+returns-in-Err-write_reply-clause-ends g c lines whole same = EndsAtLong-untold g.D.Disk.faults (g.C.Clock.gives c.args.clock.now) c.args.nonce.now _ _ _ _ _ _ _ lines _ _ _ _ c.unsent_end-in-Err-write_reply.ensures whole same c.in-Ok.ensures.ok c.in-Err-write_reply.ensures.err
 
-pub returns-in-Err-tell-clause-risen : goal.returns-in-Err-tell-clause-risen
-returns-in-Err-tell-clause-risen g c is = HasRisen-earlier _ _ _ c.in-Ok.ensures.never_falls (c.in-Err-tell.ensures.risen (ap Err (unsent_write _ _ c.unsent_end-in-Err-tell.ensures is)))
+pub returns-in-Err-write_reply-clause-risen : goal.returns-in-Err-write_reply-clause-risen
+returns-in-Err-write_reply-clause-risen g c is = HasRisen-earlier _ _ _ c.in-Ok.ensures.never_falls (c.in-Err-write_reply.ensures.risen (ap Err (unsent_write _ _ c.unsent_end-in-Err-write_reply.ensures is)))

@@ -4,6 +4,10 @@ use Rattle.std.proofs.lemmas.Bool.{eqb-true, eqb-false}
 use Rattle.access_history.proofs.HistoryLemmas.{gone_plain, gone_named, no_items}
 use Rattle.access_history.proofs.history.History.gone.Goals as goal
 
+pub gone_by_issues-requires-clause-unnamed : goal.gone_by_issues-requires-clause-unnamed
+gone_by_issues-requires-clause-unnamed c =
+    sym c.cited-named.ensures.same ∙ no_items c.cited-named.result.now (eqb-true _ _ (sym c.is_empty.ensures ∙ c.if-is_empty.true))
+
 pub returns-then-is_empty : goal.returns-then-is_empty
 returns-then-is_empty c =
     gone_plain c.args.self.now c.args.procap.now.grant c.gone_by_issues.result c.cited-named.result.now c.cited-named.ensures.same (no_items c.cited-named.result.now (eqb-true _ _ (sym c.is_empty.ensures ∙ c.if-is_empty.true))) c.gone_by_issues.ensures

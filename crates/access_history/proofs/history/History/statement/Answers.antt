@@ -1,7 +1,5 @@
 -- The entry that was read is the one of that number.
-use Rattle.std.proofs.Common.{◌≡◌, ◌∙◌, List, ap, subst, sym}
-use Rattle.bl_syntax.specs.Statement.{StatementView}
-use Rattle.policy_statement.specs.Registered.{RegisteredView}
+use Rattle.std.proofs.Common.{◌∙◌, ap, subst, sym}
 use Rattle.access_history.specs.Authority.{sayings}
 use Rattle.access_history.specs.Base.{BaseView}
 use Rattle.access_history.specs.History.{state_of}

@@ -1,6 +1,6 @@
 -- What is ready is for the operation.
-use Rattle.std.proofs.Common.{◌≡◌, None, sym, ap, ◌∙◌, subst}
-use Rattle.file_world.specs.Attributes.{Marks, AreMarks}
+use Rattle.std.proofs.Common.{◌≡◌, sym, ap, ◌∙◌, subst}
+use Rattle.file_world.specs.Attributes.{AreMarks}
 use Rattle.file_world.specs.AttributeEffect.{marks_after}
 use Rattle.attr_state.specs.Index.{marks_of, marks_in}
 use Rattle.attr_state.specs.State.{MetaView, IsMetaReady}

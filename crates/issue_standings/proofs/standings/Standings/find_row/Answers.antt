@@ -1,6 +1,7 @@
 -- The front leads to the row, or to that of another grant with the same front.
 use Rattle.std.proofs.Common.{◌<◌, IsSome, List, length, map, subst, sym, refl, arith}
 use Rattle.issue_standings.specs.declared.standings.Row.{Row}
+use Rattle.issue_standings.specs.Bearing.{plain}
 use Rattle.issue_standings.specs.Rows.{ArePlaces, TellsRow}
 use Rattle.issue_standings.proofs.IndexLemmas.{tells_issued, unissued_unknown}
 use Rattle.issue_standings.proofs.ReadingLemmas.{place_within, row_found}
@@ -32,7 +33,7 @@ pub returns : goal.returns
 returns g c =
     let bearings = map g.B.Bearing.bearing c.args.issues.now in
     record {
-      row = tells_issued bearings c.args.self.now.rows.items c.args.self.now.row_of.items c.args.grant.now c.search_rows.result c.requires.rows
+      row = tells_issued bearings (plain bearings) c.args.self.now.rows.items c.args.self.now.row_of.items c.args.grant.now c.search_rows.result c.requires.rows
           (subst (λ (rs : List Row). TellsRow bearings rs c.args.grant.now c.search_rows.result) c.as_slice.ensures.value c.search_rows.ensures);
       known = λ _. subst IsSome c.in-Some.ensures.value refl;
     }

@@ -1,7 +1,7 @@
 -- The row of the grant tells it, if there is one.
 use Rattle.std.proofs.Common.{◌<◌, ap, length, map, refl, sym, ◌∙◌, arith}
 use Rattle.std.proofs.lemmas.Option.{slice_get_read, slice_get_within}
-use Rattle.issue_standings.specs.Standing.{gone_by}
+use Rattle.issue_standings.specs.GrantStanding.{gone_by}
 use Rattle.issue_standings.specs.Index.{front_of}
 use Rattle.issue_standings.proofs.IndexLemmas.{nothing_gone, standing_in, unissued_not_gone}
 use Rattle.issue_standings.proofs.standings.Standings.gone_by.Goals as goal
@@ -23,7 +23,7 @@ returns-in-Some g c =
     let within = slice_get_within c.args.self.now.rows.items c.in-Some.row row_is.kept row_is.at in
     let at = slice_get_read c.args.self.now.rows.items _ c.in-Some.row c.index.result.now refl within c.index.ensures in
     c.gone_by.ensures
-    ∙ ap gone_by (standing_in c.requires.key c.args.registry.now.entries (map g.B.Bearing.bearing c.args.issues.now) c.args.self.now c.args.procap.now.grant c.in-Some.row c.index.result.now c.requires.indexed row_is at)
+    ∙ ap gone_by (standing_in c.requires.key c.args.registry.now.entries (map g.B.Bearing.bearing c.args.issues.now) c.args.self.now c.args.procap.now.grant c.in-Some.row c.index.result.now c.requires.unnamed c.requires.indexed row_is at)
 
 pub returns-in-None : goal.returns-in-None
-returns-in-None g c = sym (unissued_not_gone c.args.registry.now.entries c.args.procap.now.grant (map g.B.Bearing.bearing c.args.issues.now) c.in-None.ensures.row)
+returns-in-None g c = sym (unissued_not_gone c.args.registry.now.entries c.args.procap.now.grant (map g.B.Bearing.bearing c.args.issues.now) c.requires.unnamed c.in-None.ensures.row)

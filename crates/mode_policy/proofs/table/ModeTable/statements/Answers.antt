@@ -3,14 +3,14 @@ use Rattle.std.proofs.Common.{◌≤◌, length, arith}
 use Rattle.mode_policy.proofs.StatingLemmas.{file_more, file_stops, all_files_said}
 use Rattle.mode_policy.proofs.table.ModeTable.statements.Goals as goal
 
-pub returns-in_err-say_file : goal.returns-in_err-say_file
-returns-in_err-say_file c =
-    file_stops c.args.self.now c.args.from c.args.to c.loop-place.place c.file.result c.loop-place.out c.file.ensures c.loop-place.invariant c.say_file.new.out c.from_residual.result c.in_err-say_file.field-0.0
-    c.from_residual.ensures.1 c.in_err-say_file.ensures
+pub returns-in_err-state_file : goal.returns-in_err-state_file
+returns-in_err-state_file c =
+    file_stops c.args.self.now c.args.from c.args.to c.loop-place.place c.file.result c.loop-place.out c.file.ensures c.loop-place.invariant c.state_file.new.out c.from_residual.result c.in_err-state_file.field-0.0
+    c.from_residual.ensures.1 c.in_err-state_file.ensures
 
 pub loop-place-preserved : goal.loop-place-preserved
 loop-place-preserved c =
-    file_more c.args.self.now c.args.from c.args.to c.loop-place.place c.file.result c.loop-place.out c.file.ensures c.loop-place.invariant c.say_file.new.out c.in_ok-say_file.ensures
+    file_more c.args.self.now c.args.from c.args.to c.loop-place.place c.file.result c.loop-place.out c.file.ensures c.loop-place.invariant c.state_file.new.out c.in_ok-state_file.ensures
 
 pub returns : goal.returns
 returns c =

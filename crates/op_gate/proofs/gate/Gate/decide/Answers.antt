@@ -6,7 +6,7 @@ use Rattle.std.proofs.lemmas.Int.{to_z-of_z}
 use Rattle.access_history.specs.History.{authority_of, state_of}
 use Rattle.access_history.specs.Lawful.{IsLawfulBase}
 use Rattle.access_history.proofs.LawfulLemmas.{IsLawfulBase-lawful}
-use Rattle.op_gate.specs.declared.planned.Planned.TheVariants.{Keep}
+use Rattle.op_gate.specs.declared.planned.DecisionPlan.TheVariants.{Keep}
 use Rattle.op_gate.specs.declared.planned.Pending.{Pending}
 use Rattle.op_gate.specs.Decision.{IsPlanned, CanKeep}
 use Rattle.op_gate.proofs.KeepLemmas.{CanKeep-planned, on_no_err}
@@ -17,7 +17,7 @@ invariant_of-self-in-Keep c =
     let before = c.reserve.new.self in
     let after = c.decide_request.new.history in
     let room = on_no_err (1 ≤ before.room) c.reserve.result (sym c.is_err.ensures.value ∙ c.if-is_err.false) c.reserve.ensures.room in
-    let base : IsLawfulBase (authority_of before) (state_of before) = IsLawfulBase-lawful (authority_of before) before.base before.events c.lawful.ensures in
+    let base : IsLawfulBase (authority_of before) (state_of before) = IsLawfulBase-lawful (authority_of before) before.base before.events c.lemma_is_lawful.ensures in
     let planned = subst (λ (z : ℤ). IsPlanned before c.args.pass z c.args.request (Keep c.in-Keep.reply c.in-Keep.pending) after) (to_z-of_z w64 c.args.clock c.ranges.clock) c.in-Keep.ensures.planned in
     subst (λ (p : Option Pending). MatchOption p ⊤ (CanKeep after)) (sym c.put.ensures)
     (CanKeep-planned before after c.args.pass c.args.clock c.args.request c.in-Keep.reply c.in-Keep.pending c.decide_request.ensures.same room base c.requires.in_range c.requires.well_formed planned)

@@ -1,4 +1,4 @@
-use Rattle.std.proofs.Common.{◌≡◌, List, [], ◌∷◌, ◌++◌, ℕ, Some, sym, ap, ◌∙◌}
+use Rattle.std.proofs.Common.{List, [], ◌∷◌, ◌++◌, ℕ, Some, sym, ap, ◌∙◌}
 use Rattle.pcfs_ports.specs.MemoryDisk.{MemoryDiskView, image_after}
 use Rattle.pcfs_ports.specs.declared.disk_call.DiskCall.TheVariants.{Wrote}
 use Rattle.pcfs_ports.specs.Disk.{written}

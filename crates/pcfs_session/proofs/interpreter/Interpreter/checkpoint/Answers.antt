@@ -6,7 +6,7 @@ use Rattle.pcfs_session.proofs.interpreter.Interpreter.checkpoint.Goals as goal
 
 pub returns-clause-ok : goal.returns-clause-ok
 returns-clause-ok g c =
-    IfOk-weaker c.told_of_checkpoint.result _ _ (λ told is.
+    IfOk-weaker c.reply_of_checkpoint.result _ _ (λ told is.
     LeadsTo-checkpoint g.D.Disk.clock g.D.Disk.left_since g.D.Disk.image g.D.Disk.faults _ c.args.self.now c.checkpoint-reply.new.self c.checkpoint-reply.result told c.self.view_is c.requires.running is
     (record {
       answer = c.checkpoint-reply.ensures.answer;
@@ -21,9 +21,9 @@ returns-clause-ok g c =
       second_told = c.checkpoint-reply.ensures.second_told;
       first_never_falls = c.checkpoint-reply.ensures.first_never_falls;
       second_never_falls = c.checkpoint-reply.ensures.second_never_falls;
-    })) c.told_of_checkpoint.ensures.ok
+    })) c.reply_of_checkpoint.ensures.ok
 
 pub returns-clause-err : goal.returns-clause-err
 returns-clause-err g c =
-    OnErr-weaker c.told_of_checkpoint.result _ _ (λ is.
-    same-checkpoint g.D.Disk.clock g.D.Disk.left_since g.D.Disk.image g.D.Disk.faults _ c.args.self.now c.checkpoint-reply.new.self c.checkpoint-reply.result c.self.view_is is c.checkpoint-reply.ensures.answer) c.told_of_checkpoint.ensures.err
+    OnErr-weaker c.reply_of_checkpoint.result _ _ (λ is.
+    same-checkpoint g.D.Disk.clock g.D.Disk.left_since g.D.Disk.image g.D.Disk.faults _ c.args.self.now c.checkpoint-reply.new.self c.checkpoint-reply.result c.self.view_is is c.checkpoint-reply.ensures.answer) c.reply_of_checkpoint.ensures.err

@@ -1,5 +1,5 @@
 -- Each end of the placing of an image says its clauses.
-use Rattle.std.proofs.Common.{◌≡◌, ◌+◌, List, length, refl, ◌∙◌, ap}
+use Rattle.std.proofs.Common.{◌+◌, List, length, refl, ◌∙◌, ap}
 use Rattle.std.specs.Prelude.{not}
 use Rattle.access_history.specs.declared.event.Event.{Event}
 use Rattle.pcfs_store.proofs.PlacingLemmas.{made_keeps, made_end, full_end, unplaced_end, failed_end}

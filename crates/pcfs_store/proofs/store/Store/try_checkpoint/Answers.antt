@@ -7,10 +7,10 @@ returns-then-is_some g c =
     stopped_end g.D.Disk.clock g.D.Disk.left_since g.D.Disk.image g.D.Disk.faults c.self.inside.active c.self.inside.other c.self.inside.second_active c.self.inside.generation c.self.inside.opened.value c.self.inside.gate c.self.inside.checkpoints.items c.self.inside.stop c.self.invariant c.args.self.now c.self.view_is c.args.pass
     (sym c.is_some.ensures ∙ c.if-is_some.true)
 
-pub returns-then-self-ge-LAST_GENERATION : goal.returns-then-self-ge-LAST_GENERATION
-returns-then-self-ge-LAST_GENERATION g c =
+pub returns-then-self-ge-MOST_EVENTS : goal.returns-then-self-ge-MOST_EVENTS
+returns-then-self-ge-MOST_EVENTS g c =
     last_end g.D.Disk.clock g.D.Disk.left_since g.D.Disk.image g.D.Disk.faults c.self.inside.active c.self.inside.other c.self.inside.second_active c.self.inside.generation c.self.inside.opened.value c.self.inside.gate c.self.inside.checkpoints.items c.self.inside.stop c.self.invariant c.args.self.now c.self.view_is c.args.pass
-    (sym c.is_some.ensures ∙ c.if-is_some.false) c.if-self-ge-LAST_GENERATION.true
+    (sym c.is_some.ensures ∙ c.if-is_some.false) c.if-self-ge-MOST_EVENTS.true
 
 pub returns-in-Err : goal.returns-in-Err
 returns-in-Err g c =

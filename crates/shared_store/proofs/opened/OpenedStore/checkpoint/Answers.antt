@@ -1,6 +1,5 @@
 -- The store makes a checkpoint, which is a turn over its entries.
 use Rattle.std.proofs.Common.{◌≡◌, subst}
-use Rattle.std.specs.Prelude.{ℤ}
 use Rattle.session_history.specs.declared.request.TurnRequest.TheVariants.{Checkpoint}
 use Rattle.shared_store.specs.OpenedView.{OpenedView}
 use Rattle.shared_store.specs.Turning.{HasTurned}
@@ -28,6 +27,6 @@ invariant_of-self g c =
 
 pub returns : goal.returns
 returns g c = λ clock.
-    subst (λ (s : OpenedView _). HasTurned g.D.Disk.faults (λ moment. moment ≡ clock) Checkpoint s c.args.pass (record { store = c.checkpoint-reply.new.self; opening = c.self.inside.opening.value }) c.told_of_checkpoint.result) c.self.view_is
-    (turned_by_checkpoint g.D.Disk.clock g.D.Disk.left_since g.D.Disk.image g.D.Disk.faults c.self.inside.opening.value c.self.inside.store c.checkpoint-reply.new.self c.args.pass clock c.checkpoint-reply.result c.told_of_checkpoint.result c.self.invariant c.keeps.ensures
-    c.checkpoint-reply.ensures.answer c.told_of_checkpoint.ensures)
+    subst (λ (s : OpenedView _). HasTurned g.D.Disk.faults (λ moment. moment ≡ clock) Checkpoint s c.args.pass (record { store = c.checkpoint-reply.new.self; opening = c.self.inside.opening.value }) c.reply_of_checkpoint.result) c.self.view_is
+    (turned_by_checkpoint g.D.Disk.clock g.D.Disk.left_since g.D.Disk.image g.D.Disk.faults c.self.inside.opening.value c.self.inside.store c.checkpoint-reply.new.self c.args.pass clock c.checkpoint-reply.result c.reply_of_checkpoint.result c.self.invariant c.lemma_is_store.ensures
+    c.checkpoint-reply.ensures.answer c.reply_of_checkpoint.ensures)

@@ -12,7 +12,7 @@ returns-clause-done g c = record {
   turned =
       turned_shown g.D.Disk.faults (g.C.Clock.gives c.args.self.clock.now) c.args.self.request c.args.value.now c.answer-reply.new.self c.args.pass c.now-moment.result c.answer-reply.result c.now-moment.ensures.given
       (turned_by_request g.D.Disk.faults c.args.value.now c.answer-reply.new.self c.args.pass _ c.now-moment.result c.args.self.request c.args.self.request c.answer-reply.result (to_z-of_z w64 c.now-moment.result (SFits-moment c.now-moment.result c.now-moment.ensures.in_range)) refl c.answer-reply.ensures);
-  failed = c.keeps.ensures.failed;
+  failed = c.lemma_has_gone_on.ensures.failed;
 }
 
 pub returns-clause-appends : goal.returns-clause-appends

@@ -1,5 +1,5 @@
 -- Halves of the same nodes are those of one world.
-use Rattle.world_state.proofs.MadeLemmas.{AreHalves-from, settled_halves}
+use Rattle.world_state.proofs.MadeLemmas.{AreHalves-from}
 use Rattle.world_state.proofs.world.World.from_parts.Goals as goal
 
 pub invariant_of-result : goal.invariant_of-result

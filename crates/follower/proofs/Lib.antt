@@ -1,0 +1,4 @@
+pub mod PrefixLemmas
+pub mod TakingLemmas
+pub mod FollowsLemmas
+pub mod AnswerLemmas

@@ -1,6 +1,0 @@
--- Each line leaves less of the text.
-use Rattle.std.proofs.Common.{length}
-use Rattle.mode_rows.proofs.tables.tell_tables.Given as goal
-
-abbrev pub decreases-loop-line : goal.decreases-loop-line
-decreases-loop-line l = length l.rest

@@ -1,0 +1,3 @@
+pub mod TermLengths
+pub mod ProofLengths
+pub mod EventLengths
