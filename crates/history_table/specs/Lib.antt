@@ -1,0 +1,10 @@
+pub mod Filtering
+pub mod Following
+pub mod Index
+pub mod Issues
+pub mod Path
+pub mod Resting
+pub mod Table
+pub mod CursorCode
+pub mod Cursor
+pub mod WhoMay
