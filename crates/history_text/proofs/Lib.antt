@@ -1,0 +1,3 @@
+pub mod BasisLemmas
+pub mod TextLemmas
+pub mod WordsLemmas

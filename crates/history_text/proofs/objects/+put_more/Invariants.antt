@@ -1,0 +1,6 @@
+-- The list gets shorter.
+use Rattle.std.proofs.Common.{length}
+use Rattle.history_text.proofs.objects.+put_more.Given as goal
+
+abbrev pub decreases-put_more : goal.decreases-put_more
+decreases-put_more l = length l.numbers.now
