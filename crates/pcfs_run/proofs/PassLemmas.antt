@@ -66,8 +66,8 @@ module _ {D : Type 0} where
 
   -- a lock was made over the first store, all its passes were taken in, and the last store came out
   pub IsGrown-closed : (sources : SessionSources) (first last : OpenedView D) (door : DoormanView (LockEntry D)) (attended count : ℕ) → first.opening ≡ first.store → door.opening ≡ lock_entries first → IsClosed door (lock_entries last) →
-      AreOfConnections (AreOfSeenSession sources door.seen) attended door.retired → door.made ≤ count → IsGrown sources attended count first.store last.store
-  IsGrown-closed sources first last door attended count opened is closed of_connections few =
+      AreOfConnections (AreOfSeenSession sources door.seen) attended door.retired → door.made ≡ attended → door.made ≤ count → IsGrown sources attended count first.store last.store
+  IsGrown-closed sources first last door attended count opened is closed of_connections every few =
       let both = closed_are_merged first last door is closed in
       let m = both.1 in
       let all : length (passes_of door.retired) ≡ length door.retired = length-map door.retired (λ (r : Retired (LockEntry D)). (r.0, bare r.1)) in
@@ -84,6 +84,7 @@ module _ {D : Type 0} where
               subst (λ (history : List StoreEntry). AreOfConnections (λ (number : ℕ) (own : List StoreEntry). AreOfSession sources (record { root = root_of first.store; number = number }) history own) attended (passes_of door.retired)) m.parts
               (connections_of (AreOfSeenSession sources door.seen) (λ (number : ℕ) (own : List StoreEntry). AreOfSession sources (record { root = root_of first.store; number = number }) (entries_of last.store) own)
               (in_whole sources last.opening first.store (entries_of last.store) door.seen (both.0 ∙ opened) closed.knows.seen) attended door.retired of_connections);
+          every = all ∙ closed.all ∙ every;
           few = subst (λ (n : ℕ). n ≤ count) (sym (all ∙ closed.all)) few;
         };
       }
@@ -94,5 +95,5 @@ module _ {D : Type 0} where
   IsGrown-none sources s count = record {
     added = [];
     parts = sym (append-nil (entries_of s));
-    of_passes = record { passes = []; distinct = tt; within = tt; own = tt; merged = ends tt; of_connections = no_more; few = omega arith };
+    of_passes = record { passes = []; distinct = tt; within = tt; own = tt; merged = ends tt; of_connections = no_more; every = refl; few = omega arith };
   }

@@ -9,12 +9,11 @@ use Rattle.session_service.specs.Connections.{AreOfConnections}
 use Rattle.session_service.specs.Sessions.{SessionSources, AreOfSession}
 
 -- These entries were added to the first ones, of a store with this root, in the turns of the
--- connections that were attended. Passes have numbers of their own from 1 on, of which there are no
--- more than `count`. As many as connections were attended are
--- those of these connections: of each the entries are those of a session in the whole history,
--- exactly what was added in the turns of the session's lines. Each other pass has no entries. A
--- pass has the entries of its turns, which carry its number, and
--- all that were added are a merge of these lists.
+-- connections that were attended. Passes have numbers of their own from 1 on. There are as many as
+-- connections were attended, and no more than `count`; each is that of one of these: its entries are
+-- those of a session in the whole history, exactly what was added in the turns of the session's
+-- lines. A pass has the entries of its turns, which carry its number, and all that were added are a
+-- merge of these lists.
 pub record AreOfPasses (sources : SessionSources) (root : Root) (first : List StoreEntry) (attended count : ℕ) (added : List StoreEntry) : Type 0 where
   pub passes : List (ℕ × List StoreEntry)
   pub distinct : IsDistinct eqb (map (λ p. p.0) passes)
@@ -22,6 +21,7 @@ pub record AreOfPasses (sources : SessionSources) (root : Root) (first : List St
   pub own : AllByRecursion (λ p. AllOfPass p.0 p.1) passes
   pub merged : Merges (map (λ p. p.1) passes) added
   pub of_connections : AreOfConnections (λ number own. AreOfSession sources (record { root = root; number = number }) (first ++ added) own) attended passes
+  pub every : length passes ≡ attended
   pub few : length passes ≤ count
 
 -- from one store to another the entries grew by those of the passes of connections

@@ -56,6 +56,7 @@ fn attend_all<
         (inputs_of L.In.left (L.queue net.old)) (N.coming front.old.nonces.now))
         front.new.door.seen) (number_of result) front.new.door.retired }
     ensures made { front.new.door.made ≤ count }
+    ensures every { front.new.door.made ≡ number_of result }
     ensures attended { AreAttended count
         (record { waiting = L.waiting net.old; over = L.over net.old; faults = L.faults net.old; nonce_faults = N.faults front.old.nonces.now })
         (record { waiting = L.waiting net.new; over = L.over net.new; faults = L.faults net.new; nonce_faults = N.faults front.new.nonces.now }) result }
@@ -93,6 +94,7 @@ fn serve_under<
         (inputs_of L.In.left (L.queue net.old)) (N.coming nonces.old)) result.1.seen)
         (number_of result.0) result.1.retired }
     ensures made { result.1.made ≤ count }
+    ensures every { result.1.made ≡ number_of result.0 }
     ensures attended { AreAttended count
         (record { waiting = L.waiting net.old; over = L.over net.old; faults = L.faults net.old; nonce_faults = N.faults nonces.old })
         (record { waiting = L.waiting net.new; over = L.over net.new; faults = L.faults net.new; nonce_faults = N.faults nonces.new }) result.0 }

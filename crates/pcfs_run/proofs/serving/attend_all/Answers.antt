@@ -39,6 +39,9 @@ returns-clause-same_reference g c = ap (λ k. k.1) c.serve_conns.ensures.kept
 pub returns-clause-opening : goal.returns-clause-opening
 returns-clause-opening g c = ap (λ k. k.0) c.serve_conns.ensures.kept
 
+pub returns-clause-every : goal.returns-clause-every
+returns-clause-every g c = omega (arith, c.serve_conns.ensures.admitted, c.requires.unmade)
+
 pub returns-clause-attended : goal.returns-clause-attended
 returns-clause-attended g c = record { taken = c.serve_conns.ensures.taken; cause = c.serve_conns.ensures.cause; risen = c.serve_conns.ensures.risen }
 
