@@ -6,7 +6,7 @@ use Rattle.std.specs.Cmp.Lexicographic.{slice_cmp}
 use Rattle.std.proofs.lemmas.Bool.{eqb-true, ltb-true, lt-ltb, and_parts, and_from, false≢true}
 use Rattle.bl_syntax.specs.declared.codec_fault.CodecFault.TheVariants as faults
 use Rattle.bl_syntax.specs.Spelling.{with_length}
-use Rattle.bl_syntax.specs.Reading.{◌>>=◌, place}
+use Rattle.bl_syntax.specs.Reading.{place}
 use Rattle.bl_syntax.specs.Codec.{AreBytes, IsCodec}
 use Rattle.bl_syntax.proofs.CodecLemmas.{bind_ok, by_test, ok_is, bind_memoryless, codec}
 use Rattle.bl_syntax.proofs.FieldLemmas.{wide64, number_again, coded_found, coded_again, coded_memoryless, word_found, word_again, word_memoryless}

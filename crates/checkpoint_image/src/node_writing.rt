@@ -1,9 +1,8 @@
 //! Writing the nodes of an image.
 
-ghost use Rattle.std.specs.Prelude.{◌≡◌, ◌≤◌, ◌<◌, ◌^◌, ◌++◌, OnOk, OnErr, length};
+ghost use Rattle.std.specs.Prelude.{◌≡◌, ◌≤◌, ◌<◌, ◌++◌, OnOk, OnErr, length};
 ghost use Rattle.std.specs.List.{AllByRecursion, flat_map};
 ghost use Rattle.bl_syntax.specs.BeginsWith.{BeginsWith};
-ghost use Rattle.bl_syntax.specs.Spelling.{with_length};
 ghost use Rattle.procap.specs.GrantSpelling.{list_spelling};
 ghost use Rattle.record_parts.specs.Fields.{FitsOneByte};
 ghost use Rattle.node_rows.specs.Rows.{item_row, item_rows, AreOfSameNodes};

@@ -9,7 +9,7 @@ use Rattle.command_words.specs.Commands.{program}
 use Rattle.command_words.specs.CommandWords.{GivesNumber}
 use Rattle.command_words.specs.Tasks.{AsksFor, Finds, IsTaskOf, texts_of}
 use Rattle.command_words.specs.declared.words.Task.{Task}
-use Rattle.command_words.specs.declared.words.Task.TheVariants.{Script, Stored, Init, Checkpoint, Audit, Check, Load, Modes, RootSign, Serve}
+use Rattle.command_words.specs.declared.words.Task.TheVariants.{Script, Stored, Init, Checkpoint, Audit, Export, Follow, Check, Load, Modes, RootSign, Serve}
 use Rattle.command_words.proofs.GivenLemmas.{given_once}
 
 -- ---- whether a script is stored
@@ -34,6 +34,8 @@ first_number Stored = None
 first_number Init = None
 first_number Checkpoint = None
 first_number (Audit pieces) = pieces
+first_number (Export from) = Some from
+first_number Follow = None
 first_number Check = None
 first_number (Load rounds seed) = Some rounds
 first_number (Modes from to) = Some from
@@ -46,6 +48,8 @@ second_number Stored = 0
 second_number Init = 0
 second_number Checkpoint = 0
 second_number (Audit pieces) = 0
+second_number (Export from) = 0
+second_number Follow = 0
 second_number Check = 0
 second_number (Load rounds seed) = seed
 second_number (Modes from to) = to
@@ -56,6 +60,7 @@ second_number (Serve port count) = count
 abbrev first_name : Text → Option Text
 first_name name =
     if bytes_eq name (codes "audit") then Some (codes "pieces")
+    else if bytes_eq name (codes "export") then Some (codes "from")
     else if bytes_eq name (codes "load") then Some (codes "rounds")
     else if bytes_eq name (codes "modes") then Some (codes "from")
     else if bytes_eq name (codes "rootsign") then Some (codes "height")
@@ -106,6 +111,8 @@ task_by name stored one other =
     else if bytes_eq name (codes "init") then Init
     else if bytes_eq name (codes "checkpoint") then Checkpoint
     else if bytes_eq name (codes "audit") then Audit one
+    else if bytes_eq name (codes "export") then Export (number_of one)
+    else if bytes_eq name (codes "follow") then Follow
     else if bytes_eq name (codes "check") then Check
     else if bytes_eq name (codes "load") then Load (number_of one) other
     else if bytes_eq name (codes "modes") then Modes (number_of one) other
@@ -122,6 +129,8 @@ module _ (name : Text) (given : List Row) where
   named Init is = ap (λ (n : Text). task_by n is_stored None 0) is
   named Checkpoint is = ap (λ (n : Text). task_by n is_stored None 0) is
   named (Audit pieces) is = ap (λ (n : Text). task_by n is_stored pieces 0) is.0
+  named (Export from) is = ap (λ (n : Text). task_by n is_stored (Some from) 0) is.0
+  named Follow is = ap (λ (n : Text). task_by n is_stored None 0) is
   named Check is = ap (λ (n : Text). task_by n is_stored None 0) is
   named (Load rounds seed) is = ap (λ (n : Text). task_by n is_stored (Some rounds) seed) is.0
   named (Modes from to) is = ap (λ (n : Text). task_by n is_stored (Some from) to) is.0
@@ -142,6 +151,8 @@ module _ (name : Text) (given : List Row) where
   first_given Init is = subst (λ (n : Text). Firsts (first_name n) None) (sym is) refl
   first_given Checkpoint is = subst (λ (n : Text). Firsts (first_name n) None) (sym is) refl
   first_given (Audit pieces) is = subst (λ (n : Text). Firsts (first_name n) pieces) (sym is.0) (pieces_given pieces (refl, is.1))
+  first_given (Export from) is = subst (λ (n : Text). Firsts (first_name n) (Some from)) (sym is.0) (1, 2 ^ 48 - 1, is.1)
+  first_given Follow is = subst (λ (n : Text). Firsts (first_name n) None) (sym is) refl
   first_given Check is = subst (λ (n : Text). Firsts (first_name n) None) (sym is) refl
   first_given (Load rounds seed) is = subst (λ (n : Text). Firsts (first_name n) (Some rounds)) (sym is.0) (0, 20000, is.1)
   first_given (Modes from to) is = subst (λ (n : Text). Firsts (first_name n) (Some from)) (sym is.0) (0, 253402300799, is.1)
@@ -157,6 +168,8 @@ module _ (name : Text) (given : List Row) where
   second_given Init is = subst (λ (n : Text). Seconds (second_name n) 0) (sym is) refl
   second_given Checkpoint is = subst (λ (n : Text). Seconds (second_name n) 0) (sym is) refl
   second_given (Audit pieces) is = subst (λ (n : Text). Seconds (second_name n) 0) (sym is.0) refl
+  second_given (Export from) is = subst (λ (n : Text). Seconds (second_name n) 0) (sym is.0) refl
+  second_given Follow is = subst (λ (n : Text). Seconds (second_name n) 0) (sym is) refl
   second_given Check is = subst (λ (n : Text). Seconds (second_name n) 0) (sym is) refl
   second_given (Load rounds seed) is = subst (λ (n : Text). Seconds (second_name n) seed) (sym is.0) (0, 2 ^ 64 - 1, is.2)
   second_given (Modes from to) is = subst (λ (n : Text). Seconds (second_name n) to) (sym is.0) (0, 253402300799, is.2)

@@ -16,7 +16,7 @@ use Rattle.command_words.specs.Commands.{program}
 use Rattle.command_words.specs.CommandWords.{GivesNumber, GivesPieces}
 use Rattle.command_words.specs.Tasks.{AreKnown, AskForNoRun, AsksFor, Finds, IsFit, IsServing, IsTaskOf, texts_of}
 use Rattle.command_words.specs.declared.words.Task.{Task}
-use Rattle.command_words.specs.declared.words.Task.TheVariants.{Script, Stored, Init, Checkpoint, Audit, Check, Load, Modes, RootSign, Serve}
+use Rattle.command_words.specs.declared.words.Task.TheVariants.{Script, Stored, Init, Checkpoint, Audit, Export, Follow, Check, Load, Modes, RootSign, Serve}
 
 -- ---- names
 
@@ -33,6 +33,8 @@ module _ (given : List Row) where
   no_audit none Init is = absurd (differ (codes "audit") (codes "init") refl is)
   no_audit none Checkpoint is = absurd (differ (codes "audit") (codes "checkpoint") refl is)
   no_audit none (Audit pieces) is = none pieces is.1
+  no_audit none (Export from) is = absurd (differ (codes "audit") (codes "export") refl is.0)
+  no_audit none Follow is = absurd (differ (codes "audit") (codes "follow") refl is)
   no_audit none Check is = absurd (differ (codes "audit") (codes "check") refl is)
   no_audit none (Load rounds seed) is = absurd (differ (codes "audit") (codes "load") refl is.0)
   no_audit none (Modes from to) is = absurd (differ (codes "audit") (codes "modes") refl is.0)
@@ -44,12 +46,28 @@ module _ (given : List Row) where
   no_pieces text is none None nothing = let e : Some text ≡ None = sym is ∙ nothing in absurd cc
   no_pieces text is none (Some n) says = none n says
 
+  pub no_export : ((from : ℕ) → GivesNumber 1 (2 ^ 48 - 1) (codes "from") given from → ⊥) → (task : Task) → IsTaskOf (codes "export") given task → ⊥
+  no_export none Script is = absurd (differ (codes "export") (codes "script") refl is.0)
+  no_export none Stored is = absurd (differ (codes "export") (codes "script") refl is.0)
+  no_export none Init is = absurd (differ (codes "export") (codes "init") refl is)
+  no_export none Checkpoint is = absurd (differ (codes "export") (codes "checkpoint") refl is)
+  no_export none (Audit pieces) is = absurd (differ (codes "export") (codes "audit") refl is.0)
+  no_export none (Export from) is = none from is.1
+  no_export none Follow is = absurd (differ (codes "export") (codes "follow") refl is)
+  no_export none Check is = absurd (differ (codes "export") (codes "check") refl is)
+  no_export none (Load rounds seed) is = absurd (differ (codes "export") (codes "load") refl is.0)
+  no_export none (Modes from to) is = absurd (differ (codes "export") (codes "modes") refl is.0)
+  no_export none (RootSign height from) is = absurd (differ (codes "export") (codes "rootsign") refl is.0)
+  no_export none (Serve port count) is = absurd (differ (codes "export") (codes "serve") refl is.0)
+
   pub no_load : ((rounds seed : ℕ) → GivesNumber 0 20000 (codes "rounds") given rounds → GivesNumber 0 (2 ^ 64 - 1) (codes "seed") given seed → ⊥) → (task : Task) → IsTaskOf (codes "load") given task → ⊥
   no_load none Script is = absurd (differ (codes "load") (codes "script") refl is.0)
   no_load none Stored is = absurd (differ (codes "load") (codes "script") refl is.0)
   no_load none Init is = absurd (differ (codes "load") (codes "init") refl is)
   no_load none Checkpoint is = absurd (differ (codes "load") (codes "checkpoint") refl is)
   no_load none (Audit pieces) is = absurd (differ (codes "load") (codes "audit") refl is.0)
+  no_load none (Export from) is = absurd (differ (codes "load") (codes "export") refl is.0)
+  no_load none Follow is = absurd (differ (codes "load") (codes "follow") refl is)
   no_load none Check is = absurd (differ (codes "load") (codes "check") refl is)
   no_load none (Load rounds seed) is = none rounds seed is.1 is.2
   no_load none (Modes from to) is = absurd (differ (codes "load") (codes "modes") refl is.0)
@@ -62,6 +80,8 @@ module _ (given : List Row) where
   no_modes none Init is = absurd (differ (codes "modes") (codes "init") refl is)
   no_modes none Checkpoint is = absurd (differ (codes "modes") (codes "checkpoint") refl is)
   no_modes none (Audit pieces) is = absurd (differ (codes "modes") (codes "audit") refl is.0)
+  no_modes none (Export from) is = absurd (differ (codes "modes") (codes "export") refl is.0)
+  no_modes none Follow is = absurd (differ (codes "modes") (codes "follow") refl is)
   no_modes none Check is = absurd (differ (codes "modes") (codes "check") refl is)
   no_modes none (Load rounds seed) is = absurd (differ (codes "modes") (codes "load") refl is.0)
   no_modes none (Modes from to) is = none from to is.1 is.2
@@ -74,6 +94,8 @@ module _ (given : List Row) where
   no_rootsign none Init is = absurd (differ (codes "rootsign") (codes "init") refl is)
   no_rootsign none Checkpoint is = absurd (differ (codes "rootsign") (codes "checkpoint") refl is)
   no_rootsign none (Audit pieces) is = absurd (differ (codes "rootsign") (codes "audit") refl is.0)
+  no_rootsign none (Export from) is = absurd (differ (codes "rootsign") (codes "export") refl is.0)
+  no_rootsign none Follow is = absurd (differ (codes "rootsign") (codes "follow") refl is)
   no_rootsign none Check is = absurd (differ (codes "rootsign") (codes "check") refl is)
   no_rootsign none (Load rounds seed) is = absurd (differ (codes "rootsign") (codes "load") refl is.0)
   no_rootsign none (Modes from to) is = absurd (differ (codes "rootsign") (codes "modes") refl is.0)
@@ -86,6 +108,8 @@ module _ (given : List Row) where
   no_serve none Init is = absurd (differ (codes "serve") (codes "init") refl is)
   no_serve none Checkpoint is = absurd (differ (codes "serve") (codes "checkpoint") refl is)
   no_serve none (Audit pieces) is = absurd (differ (codes "serve") (codes "audit") refl is.0)
+  no_serve none (Export from) is = absurd (differ (codes "serve") (codes "export") refl is.0)
+  no_serve none Follow is = absurd (differ (codes "serve") (codes "follow") refl is)
   no_serve none Check is = absurd (differ (codes "serve") (codes "check") refl is)
   no_serve none (Load rounds seed) is = absurd (differ (codes "serve") (codes "load") refl is.0)
   no_serve none (Modes from to) is = absurd (differ (codes "serve") (codes "modes") refl is.0)
@@ -93,17 +117,19 @@ module _ (given : List Row) where
   no_serve none (Serve port count) is = none port count is.1 is.2
 
   -- the name is no command's
-  pub no_command : (name : Text) → (name ≡ codes "script" → ⊥) → (name ≡ codes "init" → ⊥) → (name ≡ codes "checkpoint" → ⊥) → (name ≡ codes "audit" → ⊥) → (name ≡ codes "check" → ⊥) → (name ≡ codes "load" → ⊥) → (name ≡ codes "modes" → ⊥) → (name ≡ codes "rootsign" → ⊥) → (name ≡ codes "serve" → ⊥) → (task : Task) → IsTaskOf name given task → ⊥
-  no_command name no_script no_init no_checkpoint no_audit no_check no_load no_modes no_rootsign no_serve Script is = no_script is.0
-  no_command name no_script no_init no_checkpoint no_audit no_check no_load no_modes no_rootsign no_serve Stored is = no_script is.0
-  no_command name no_script no_init no_checkpoint no_audit no_check no_load no_modes no_rootsign no_serve Init is = no_init is
-  no_command name no_script no_init no_checkpoint no_audit no_check no_load no_modes no_rootsign no_serve Checkpoint is = no_checkpoint is
-  no_command name no_script no_init no_checkpoint no_audit no_check no_load no_modes no_rootsign no_serve (Audit pieces) is = no_audit is.0
-  no_command name no_script no_init no_checkpoint no_audit no_check no_load no_modes no_rootsign no_serve Check is = no_check is
-  no_command name no_script no_init no_checkpoint no_audit no_check no_load no_modes no_rootsign no_serve (Load rounds seed) is = no_load is.0
-  no_command name no_script no_init no_checkpoint no_audit no_check no_load no_modes no_rootsign no_serve (Modes from to) is = no_modes is.0
-  no_command name no_script no_init no_checkpoint no_audit no_check no_load no_modes no_rootsign no_serve (RootSign height from) is = no_rootsign is.0
-  no_command name no_script no_init no_checkpoint no_audit no_check no_load no_modes no_rootsign no_serve (Serve port count) is = no_serve is.0
+  pub no_command : (name : Text) → (name ≡ codes "script" → ⊥) → (name ≡ codes "init" → ⊥) → (name ≡ codes "checkpoint" → ⊥) → (name ≡ codes "audit" → ⊥) → (name ≡ codes "export" → ⊥) → (name ≡ codes "follow" → ⊥) → (name ≡ codes "check" → ⊥) → (name ≡ codes "load" → ⊥) → (name ≡ codes "modes" → ⊥) → (name ≡ codes "rootsign" → ⊥) → (name ≡ codes "serve" → ⊥) → (task : Task) → IsTaskOf name given task → ⊥
+  no_command name no_script no_init no_checkpoint no_audit no_export no_follow no_check no_load no_modes no_rootsign no_serve Script is = no_script is.0
+  no_command name no_script no_init no_checkpoint no_audit no_export no_follow no_check no_load no_modes no_rootsign no_serve Stored is = no_script is.0
+  no_command name no_script no_init no_checkpoint no_audit no_export no_follow no_check no_load no_modes no_rootsign no_serve Init is = no_init is
+  no_command name no_script no_init no_checkpoint no_audit no_export no_follow no_check no_load no_modes no_rootsign no_serve Checkpoint is = no_checkpoint is
+  no_command name no_script no_init no_checkpoint no_audit no_export no_follow no_check no_load no_modes no_rootsign no_serve (Audit pieces) is = no_audit is.0
+  no_command name no_script no_init no_checkpoint no_audit no_export no_follow no_check no_load no_modes no_rootsign no_serve (Export from) is = no_export is.0
+  no_command name no_script no_init no_checkpoint no_audit no_export no_follow no_check no_load no_modes no_rootsign no_serve Follow is = no_follow is
+  no_command name no_script no_init no_checkpoint no_audit no_export no_follow no_check no_load no_modes no_rootsign no_serve Check is = no_check is
+  no_command name no_script no_init no_checkpoint no_audit no_export no_follow no_check no_load no_modes no_rootsign no_serve (Load rounds seed) is = no_load is.0
+  no_command name no_script no_init no_checkpoint no_audit no_export no_follow no_check no_load no_modes no_rootsign no_serve (Modes from to) is = no_modes is.0
+  no_command name no_script no_init no_checkpoint no_audit no_export no_follow no_check no_load no_modes no_rootsign no_serve (RootSign height from) is = no_rootsign is.0
+  no_command name no_script no_init no_checkpoint no_audit no_export no_follow no_check no_load no_modes no_rootsign no_serve (Serve port count) is = no_serve is.0
 
   -- it is this command's
   pub as_named : (name literal : Text) (task : Option Task) → name ≡ literal → MatchOption task ((t : Task) → IsTaskOf literal given t → ⊥) (IsTaskOf literal given) → MatchOption task ((t : Task) → IsTaskOf name given t → ⊥) (IsTaskOf name given)
@@ -147,6 +173,8 @@ fits_found (Some f) Init finds = tt
 fits_found (Some f) Checkpoint finds = tt
 fits_found (Some f) (Audit None) finds = tt
 fits_found (Some f) (Audit (Some n)) finds = finds.1.not_below
+fits_found (Some f) (Export from) finds = (finds.1.not_below, finds.1.not_above)
+fits_found (Some f) Follow finds = tt
 fits_found (Some f) Check finds = tt
 fits_found (Some f) (Load rounds seed) finds = finds.1.not_above
 fits_found (Some f) (Modes from to) finds = (finds.1.not_above, finds.2.not_above)
@@ -168,6 +196,8 @@ serving_only (Some f) port count serves Stored finds = absurd (differ (codes "se
 serving_only (Some f) port count serves Init finds = absurd (differ (codes "serve") (codes "init") refl (sym serves.0 ∙ finds))
 serving_only (Some f) port count serves Checkpoint finds = absurd (differ (codes "serve") (codes "checkpoint") refl (sym serves.0 ∙ finds))
 serving_only (Some f) port count serves (Audit pieces) finds = absurd (differ (codes "serve") (codes "audit") refl (sym serves.0 ∙ finds.0))
+serving_only (Some f) port count serves (Export from) finds = absurd (differ (codes "serve") (codes "export") refl (sym serves.0 ∙ finds.0))
+serving_only (Some f) port count serves Follow finds = absurd (differ (codes "serve") (codes "follow") refl (sym serves.0 ∙ finds))
 serving_only (Some f) port count serves Check finds = absurd (differ (codes "serve") (codes "check") refl (sym serves.0 ∙ finds))
 serving_only (Some f) port count serves (Load rounds seed) finds = absurd (differ (codes "serve") (codes "load") refl (sym serves.0 ∙ finds.0))
 serving_only (Some f) port count serves (Modes from to) finds = absurd (differ (codes "serve") (codes "modes") refl (sym serves.0 ∙ finds.0))

@@ -29,6 +29,12 @@ checkpoint_app = new_app (codes "checkpoint")
 abbrev pub audit_app : App
 audit_app = with_rule (new_app (codes "audit")) (option_rule (codes "pieces"))
 
+abbrev pub export_app : App
+export_app = with_rule (new_app (codes "export")) (word_rule (codes "from"))
+
+abbrev pub follow_app : App
+follow_app = new_app (codes "follow")
+
 abbrev pub check_app : App
 check_app = new_app (codes "check")
 
@@ -49,7 +55,9 @@ abbrev pub no_commands : App
 no_commands = record { top = record (new_shape (codes "pcfs")) { no_binary_name = true; subcommand_required = true }; subs = [] }
 
 abbrev pub stored_commands : App
-stored_commands = with_subcommand (with_subcommand (with_subcommand (with_subcommand no_commands script_app.top) init_app.top) audit_app.top) checkpoint_app.top
+stored_commands = with_subcommand (with_subcommand
+    (with_subcommand (with_subcommand (with_subcommand (with_subcommand no_commands script_app.top) init_app.top) audit_app.top)
+    checkpoint_app.top) export_app.top) follow_app.top
 
 abbrev pub program : App
 program = with_subcommand (with_subcommand

@@ -4,7 +4,7 @@ use Rattle.std.specs.String.{string_bytes}
 use Rattle.std.specs.declared.alloc.Global.{Global}
 use Rattle.clap.specs.Words.{Row, Text, fault_of, first_of, subcommand_of}
 use Rattle.command_words.specs.declared.words.Task.{Task}
-use Rattle.command_words.specs.declared.words.Task.TheVariants.{Script, Stored, Init, Checkpoint, Audit, Check, Load, Modes, RootSign, Serve}
+use Rattle.command_words.specs.declared.words.Task.TheVariants.{Script, Stored, Init, Checkpoint, Audit, Export, Follow, Check, Load, Modes, RootSign, Serve}
 use Rattle.command_words.specs.CommandWords.{GivesNumber, GivesPieces}
 use Rattle.command_words.specs.Commands.{program}
 
@@ -17,6 +17,9 @@ IsTaskOf name given Stored = (name ≡ codes "script") ×
 IsTaskOf name given Init = name ≡ codes "init"
 IsTaskOf name given Checkpoint = name ≡ codes "checkpoint"
 IsTaskOf name given (Audit pieces) = (name ≡ codes "audit") × GivesPieces given pieces
+IsTaskOf name given (Export from) = (name ≡ codes "export") ×
+    GivesNumber 1 (2 ^ 48 - 1) (codes "from") given from
+IsTaskOf name given Follow = name ≡ codes "follow"
 IsTaskOf name given Check = name ≡ codes "check"
 IsTaskOf name given (Load rounds seed) = (name ≡ codes "load") ×
     GivesNumber 0 20000 (codes "rounds") given rounds ×
@@ -56,6 +59,8 @@ IsFit Stored = Unit {0}
 IsFit Init = Unit {0}
 IsFit Checkpoint = Unit {0}
 IsFit (Audit pieces) = IfSome pieces (λ n. 1 ≤ n)
+IsFit (Export from) = (1 ≤ from) × (from ≤ 2 ^ 48 - 1)
+IsFit Follow = Unit {0}
 IsFit Check = Unit {0}
 IsFit (Load rounds seed) = rounds ≤ 20000
 IsFit (Modes from to) = (from ≤ 253402300799) × (to ≤ 253402300799)
@@ -69,6 +74,8 @@ IsServing Stored = ⊥
 IsServing Init = ⊥
 IsServing Checkpoint = ⊥
 IsServing (Audit pieces) = ⊥
+IsServing (Export from) = ⊥
+IsServing Follow = ⊥
 IsServing Check = ⊥
 IsServing (Load rounds seed) = ⊥
 IsServing (Modes from to) = ⊥

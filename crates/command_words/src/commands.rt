@@ -3,7 +3,7 @@
 ghost use Rattle.std.specs.Prelude.{◌≡◌, IfOk, false};
 ghost use Rattle.clap.specs.Words.{AddsSubcommand, app_of, rule_of, with_subcommand};
 ghost use Rattle.clap.specs.declared.builder.command.Command.{Command};
-ghost use Rattle.command_words.specs.Commands.{audit_app, flag_rule, load_app, modes_app, no_commands, option_rule, program, rootsign_app, script_app, serve_app, stored_commands, word_rule};
+ghost use Rattle.command_words.specs.Commands.{audit_app, export_app, flag_rule, load_app, modes_app, no_commands, option_rule, program, rootsign_app, script_app, serve_app, stored_commands, word_rule};
 
 use clap::{Arg, ArgAction, Command};
 use std::alloc::{AllocError, Global};
@@ -43,6 +43,13 @@ fn audit_command<'a>(alloc: Global) -> Result<Command<'a>, AllocError>
     ensures { IfOk result (λ c. (old new : Command) → AddsSubcommand old c new → app_of new ≡ with_subcommand (app_of old) audit_app.top) }
 {
     let command = Command::new(alloc, "audit").arg(option(alloc, "pieces"))?;
+    Ok(command)
+}
+
+fn export_command<'a>(alloc: Global) -> Result<Command<'a>, AllocError>
+    ensures { IfOk result (λ c. (old new : Command) → AddsSubcommand old c new → app_of new ≡ with_subcommand (app_of old) export_app.top) }
+{
+    let command = Command::new(alloc, "export").arg(word(alloc, "from"))?;
     Ok(command)
 }
 
@@ -93,10 +100,13 @@ fn stored_commands<'a>(alloc: Global) -> Result<Command<'a>, AllocError>
 {
     let script = script_command(alloc)?;
     let audit = audit_command(alloc)?;
+    let export = export_command(alloc)?;
     let with_script = no_commands(alloc).subcommand(script)?;
     let with_init = with_script.subcommand(Command::new(alloc, "init"))?;
     let with_audit = with_init.subcommand(audit)?;
-    let command = with_audit.subcommand(Command::new(alloc, "checkpoint"))?;
+    let with_checkpoint = with_audit.subcommand(Command::new(alloc, "checkpoint"))?;
+    let with_export = with_checkpoint.subcommand(export)?;
+    let command = with_export.subcommand(Command::new(alloc, "follow"))?;
     Ok(command)
 }
 

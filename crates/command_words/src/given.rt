@@ -13,6 +13,9 @@ use clap::ArgMatches;
 /// The most pieces of an audit.
 const MOST_PIECES: u64 = 64;
 
+/// The greatest number of an event, 2^48 - 1.
+const LAST_EVENT: u64 = 281_474_976_710_655;
+
 /// The most rounds of a generated script.
 const MOST_ROUNDS: u64 = 20_000;
 
@@ -77,6 +80,18 @@ pub fn audit_task(given: &ArgMatches<'_>) -> Option<Task>
     }
     match number_given(given, "pieces", 1, MOST_PIECES) {
         Some(pieces) => Some(Task::Audit(Some(pieces as usize))),
+        None => None,
+    }
+}
+
+/// From which event on messages are asked for; none if the word is no such number.
+pub fn export_task(given: &ArgMatches<'_>) -> Option<Task>
+    ensures { MatchOption result ((task : Task) →
+        IsTaskOf (codes "export") (rows_of (found_of given.now)) task → ⊥)
+        (IsTaskOf (codes "export") (rows_of (found_of given.now))) }
+{
+    match number_given(given, "from", 1, LAST_EVENT) {
+        Some(from) => Some(Task::Export(from)),
         None => None,
     }
 }

@@ -5,7 +5,9 @@ ghost use Rattle.clap.specs.Words.{found_of, rows_of, subcommand_rows_of};
 ghost use Rattle.command_words.specs.Tasks.{AreKnown, AsksFor, Finds, IsTaskOf};
 
 use crate::commands::program;
-use crate::given::{audit_task, load_task, modes_task, rootsign_task, script_task, serve_task};
+use crate::given::{
+    audit_task, export_task, load_task, modes_task, rootsign_task, script_task, serve_task,
+};
 use bl_syntax::NoMemory;
 use clap::ArgMatches;
 use clap::error::ErrorKind;
@@ -24,6 +26,10 @@ pub enum Task {
     Checkpoint,
     /// An audit of the history in the areas, at once or in so many pieces.
     Audit(Option<usize>),
+    /// The events of the history in the areas as messages, from this number on.
+    Export(u64),
+    /// Events in messages, which the store in the areas takes.
+    Follow,
     /// An inquiry.
     Check,
     /// So many rounds of the script that is generated from this seed.
@@ -52,6 +58,12 @@ fn task_named(name: &str, given: &ArgMatches<'_>) -> Option<Task>
     }
     if name == "audit" {
         return audit_task(given);
+    }
+    if name == "export" {
+        return export_task(given);
+    }
+    if name == "follow" {
+        return Some(Task::Follow);
     }
     if name == "check" {
         return Some(Task::Check);

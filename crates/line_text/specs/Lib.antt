@@ -1,3 +1,4 @@
 pub mod HexWord
+pub mod Greeting
 pub mod Lines
 pub mod Words

@@ -1,5 +1,5 @@
 -- The digits of a word, and the number that they write.
-use Rattle.std.proofs.Common.{◌≡◌, ℕ, zero, suc, ◌+◌, ◌*◌, ◌-◌, ◌^◌, ◌<◌, ◌≤◌, ℤ, pos, Result, Ok, Err, false, List, ◌∷◌, length, take, get_or, IsTrue, Option, None, sym, ap, ◌∙◌, subst, arith, rules}
+use Rattle.std.proofs.Common.{◌≡◌, ℕ, zero, suc, ◌+◌, ◌*◌, ◌-◌, ◌^◌, ◌<◌, ◌≤◌, ℤ, Result, Ok, Err, false, List, ◌∷◌, length, take, get_or, IsTrue, Option, None, sym, ap, ◌∙◌, subst, arith, rules}
 use Rattle.std.specs.Result.{OkIff, result_ok}
 use Rattle.std.specs.List.{list_all}
 use Rattle.std.specs.Char.{digit_value}

@@ -19,5 +19,6 @@ pub use arguments::Arguments;
 pub use cutting::first_word;
 pub use fault::WordFault;
 pub use kinds::WordKind;
-pub use procap_word::{ProcapWord, ProcapWords};
+pub use named::{principal, signature_hex};
+pub use procap_word::{ProcapWord, ProcapWords, procap_of_hex};
 pub use reading::{after_words, read_words};

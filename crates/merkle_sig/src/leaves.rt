@@ -1,6 +1,6 @@
 //! Leaves, made of a seed or of what a signature shows. No call takes memory.
 
-ghost use Rattle.std.specs.Prelude.{◌≡◌, ◌<◌, ◌++◌, ℕ, List, length};
+ghost use Rattle.std.specs.Prelude.{◌≡◌, ◌++◌, ℕ, List, length};
 ghost use Rattle.sha2.specs.Hashers.{Holds256};
 ghost use Rattle.merkle_sig.specs.HashTree.{leaf_over, node};
 ghost use Rattle.merkle_sig.specs.Signature.{pair_from, pairs_from};

@@ -346,6 +346,7 @@ impl Case {
             ">>" => add_lines(alloc, text, &mut self.input.bytes),
             "<<" => add_lines(alloc, text, &mut self.wanted),
             ">." => add_written_out(alloc, &self.texts, text, &mut self.input.bytes),
+            "<." => add_written_out(alloc, &self.texts, text, &mut self.wanted),
             "let" => self.name_text(alloc, text),
             "secret" => add_line(alloc, &self.texts, text, &mut self.secrets),
             "words" => set_words(alloc, text, &mut self.words),

@@ -9,7 +9,12 @@ use Rattle.pcfs_ports.specs.Observable.{ReadsToEnd}
 use Rattle.pcfs_secrets.specs.declared.secrets.Secrets.{Secrets}
 use Rattle.pcfs_server.specs.declared.end.ServeEnd.{ServeEnd}
 use Rattle.command_words.specs.Tasks.{AsksFor}
-use Rattle.command_words.specs.declared.words.Task.TheVariants.{Script, Stored, Audit, Check, Modes, RootSign}
+use Rattle.command_words.specs.declared.words.Task.TheVariants.{Script, Stored, Audit, Export, Follow, Check, Modes, RootSign}
+use Rattle.event_messages.specs.Messages.{Message}
+use Rattle.export_run.specs.Exported.{TellsExport}
+use Rattle.export_run.specs.Exported as exports
+use Rattle.follow_run.specs.FollowRun.{FollowEnds, HasEnded}
+use Rattle.follow_run.specs.FollowRun as follows
 use Rattle.pcfs_audit.specs.Report.{IsReport}
 use Rattle.pcfs_audit.specs.declared.report.Report.{Report}
 use Rattle.pcfs_audit.specs.declared.report.ReportRow.{ReportRow}
@@ -101,6 +106,33 @@ module _ (secrets : Secrets) (words : List (String Global)) (before after : Serv
   of_memory _ asks (in_memory.ended status end runs_on s) = of_script status _ end (inl asks) (λ met is five. runs_on five) s
   of_memory _ asks (in_memory.disk_failed end s) = healthy.out_of_memory
 
+  -- ---- messages that are taken
+
+  module _ (end : ScriptState) (asks : AsksFor words Follow) (runs_on : (met : StoreEntry) → end.met ≡ Some met → ⊥) where
+    by_ended : (messages : List Message) (status : ℕ) (last : List ℕ) → HasEnded end before.ports.streams after.ports.streams messages status last → Ends status
+    by_ended messages _ _ (follows.done all running) = healthy.done
+    by_ended messages _ _ (follows.bad_frame bad running) = healthy.no_message messages asks bad
+    by_ended messages _ _ (follows.read_fault risen all running) = absurd (sound.input risen)
+    by_ended messages _ _ (follows.input_too_long first all running) = healthy.messages_too_many_bytes asks first
+    by_ended messages _ _ (follows.stopped entry taken met) = absurd (runs_on entry met)
+
+    of_following : (start : ScriptState) (status : ℕ) → FollowEnds start end before.ports.streams after.ports.streams status → Ends status
+    of_following start _ (follows.written status messages lines last over ended out) = by_ended messages status last ended
+    of_following start _ (follows.last_line_cut status messages lines last over ended risen some) = absurd (sound.output risen)
+    of_following start _ (follows.cut_short messages lines over taken running risen some) = absurd (sound.output risen)
+    of_following start _ (follows.out_of_memory messages lines over taken running some) = healthy.out_of_memory
+
+  -- ---- events that are exported
+
+  module _ (from generation : ℕ) (image : List ℕ) (start : ScriptState) (asks : AsksFor words (Export from)) (opened : IsOpened secrets generation image before.ports.disks start) where
+    of_export : (status : ℕ) → TellsExport start.base start.events from before.ports.streams.held before.ports.streams.write_faults status after.ports.streams.held after.ports.streams.write_faults → Ends status
+    of_export status (exports.exported later (inl told)) = subst Ends (sym told.0) healthy.done
+    of_export status (exports.exported later (inr failed)) = absurd (sound.output failed.1)
+    of_export status (exports.cut_short later is some) = subst Ends (sym is) healthy.out_of_memory
+    of_export status (exports.gone within (inl told)) = subst Ends (sym told.0) (healthy.events_gone from generation image start asks opened within)
+    of_export status (exports.gone within (inr failed)) = absurd (sound.output failed.1)
+    of_export status (exports.untold within untold) = subst Ends (sym untold.0) healthy.out_of_memory
+
   -- ---- an inquiry
 
   by_answer : (status : ℕ) (line : List ℕ) → AsksFor words Check → InquiryEnds before.ports.streams.left after.ports.streams.left before.ports.streams.read_faults after.ports.streams.read_faults status line → Ends status
@@ -180,6 +212,8 @@ module _ (secrets : Secrets) (words : List (String Global)) (before after : Serv
   of_run : (rests : Rests) (status : ℕ) → ((port count : ℕ) → IsServe words port count → ⊥) → EndsWith secrets words rests before.ports after.ports status → Ends status
   of_run rests _ alone (runs.in_memory status asks same ends) = of_memory status asks ends
   of_run rests _ alone (runs.stored status generation image start end asks opened back ends) = of_script status start end (inr asks) (λ met is five. no_disk_failed (back.failed met is)) ends
+  of_run rests _ alone (runs.followed status generation image start end asks opened back ends) = of_following end asks (λ met is. no_disk_failed (back.failed met is)) start status ends
+  of_run rests _ alone (runs.exported from status generation image start asks opened same rest left tells) = of_export from generation image start asks opened status tells
   of_run rests _ alone (runs.told status line cause left out) = by_cause rests status line alone cause
   of_run rests _ alone (runs.cut_short status line cause left risen some) = absurd (sound.output risen)
   of_run rests _ alone (runs.inquired status asks same ends) = of_inquiry status asks ends

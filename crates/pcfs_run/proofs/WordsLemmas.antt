@@ -4,7 +4,7 @@ use Rattle.std.specs.Prelude.{List, MatchOption, String}
 use Rattle.std.specs.declared.alloc.Global.{Global}
 use Rattle.command_words.specs.Tasks.{AreKnown, AsksFor, IsServing}
 use Rattle.command_words.specs.declared.words.Task.{Task}
-use Rattle.command_words.specs.declared.words.Task.TheVariants.{Script, Stored, Init, Checkpoint, Audit, Check, Load, Modes, RootSign, Serve}
+use Rattle.command_words.specs.declared.words.Task.TheVariants.{Script, Stored, Init, Checkpoint, Audit, Export, Follow, Check, Load, Modes, RootSign, Serve}
 use Rattle.command_words.proofs.TaskLemmas.{serves_alone}
 
 -- this is what asks for sessions
@@ -14,6 +14,8 @@ is_serving Stored serves = absurd serves
 is_serving Init serves = absurd serves
 is_serving Checkpoint serves = absurd serves
 is_serving (Audit pieces) serves = absurd serves
+is_serving (Export from) serves = absurd serves
+is_serving Follow serves = absurd serves
 is_serving Check serves = absurd serves
 is_serving (Load rounds seed) serves = absurd serves
 is_serving (Modes from to) serves = absurd serves

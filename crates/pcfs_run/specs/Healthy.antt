@@ -1,5 +1,5 @@
 -- How a run ends whose ports do not fail (this project's own).
-use Rattle.std.specs.Prelude.{◌≡◌, ◌⊎◌, ℕ, List, ◌∷◌, pos, String, Option}
+use Rattle.std.specs.Prelude.{◌≡◌, ◌⊎◌, ◌≤◌, ℕ, List, ◌∷◌, pos, String, Option}
 use Rattle.std.specs.declared.alloc.Global.{Global}
 use Rattle.bl_syntax.specs.declared.terms.TimePoint.TheVariants.{At}
 use Rattle.pcfs_ports.specs.Faults.{HasRisen}
@@ -10,12 +10,14 @@ use Rattle.line_forms.specs.declared.fault.LineFault.{LineFault}
 use Rattle.op_gate.specs.declared.damage.Damage.{Damage}
 use Rattle.pcfs_secrets.specs.declared.secrets.Secrets.{Secrets}
 use Rattle.command_words.specs.Tasks.{AskForNoRun, AsksFor}
-use Rattle.command_words.specs.declared.words.Task.TheVariants.{Script, Stored, Init, Checkpoint, Audit, Check, Modes, RootSign}
+use Rattle.command_words.specs.declared.words.Task.TheVariants.{Script, Stored, Init, Checkpoint, Audit, Export, Follow, Check, Modes, RootSign}
 use Rattle.pcfs_audit.specs.Report.{IsReport}
 use Rattle.pcfs_audit.specs.declared.report.Report.{Report}
 use Rattle.pcfs_audit.specs.declared.report.ReportRow.{ReportRow}
 use Rattle.pcfs_inquiry.specs.Inquiry.{HasFirstFault}
 use Rattle.pcfs_modes.specs.Answers.{ComesTo}
+use Rattle.event_messages.specs.Messages.{Message}
+use Rattle.follow_run.specs.Taken.{HasBadFrame}
 use Rattle.pcfs_session.specs.LineAnswer.{authority_under}
 use Rattle.pcfs_session.specs.ScriptRun.{ScriptState}
 use Rattle.pcfs_session.specs.Streams.{Streams}
@@ -54,8 +56,9 @@ pub data IsUnopened (secrets : Secrets) (before : Disks) : ℕ → Type 0 where
 -- here; 9, out of memory; or one with a cause. The words ask for
 -- nothing; a script's input is given up, or that of an inquiry, of a table of modes or of
 -- statements to be signed; there is no store that can be opened; there is
--- one already where one is to be made; an audit reports something; a checkpoint does not fit; a
--- line of an inquiry is wrong; a table of modes has a wrong line or too many statements; or of
+-- one already where one is to be made; an audit reports something; a checkpoint does not fit; the
+-- event from which on messages are asked for is in the base; at a place of an input of messages none
+-- stands, or it is too long; a line of an inquiry is wrong; a table of modes has a wrong line or too many statements; or of
 -- statements to be signed a line is wrong, or no leaf is left for one.
 pub data EndsHealthy (secrets : Secrets) (words : List (String Global)) (before after : ServePorts) : ℕ → Type 0 where
   done : EndsHealthy secrets words before after 0
@@ -77,6 +80,15 @@ pub data EndsHealthy (secrets : Secrets) (words : List (String Global)) (before 
   has_no_room : (generation : ℕ) (image : List ℕ) (start : ScriptState) → AsksFor words Checkpoint →
       IsOpened secrets generation image before.ports.disks start →
       HasNoNextArea generation (state_of_start start) → EndsHealthy secrets words before after 14
+  events_gone : (from generation : ℕ) (image : List ℕ) (start : ScriptState) →
+      AsksFor words (Export from) → IsOpened secrets generation image before.ports.disks start →
+      from ≤ start.base.count → EndsHealthy secrets words before after 17
+  no_message : (messages : List Message) → AsksFor words Follow →
+      HasBadFrame before.ports.streams.left after.ports.streams.left messages →
+      EndsHealthy secrets words before after 16
+  messages_too_many_bytes : AsksFor words Follow →
+      TakesFirst 1073741824 before.ports.streams.left after.ports.streams.left →
+      EndsHealthy secrets words before after 13
   inquiry_wrong : (bytes : List ℕ) (number : ℕ) (fault : LineFault) → AsksFor words Check →
       ReadsToEnd before.ports.streams.left after.ports.streams.left bytes →
       (HasLongLine (lines_of bytes) → ⊥) → HasFirstFault (lines_of bytes) number fault →

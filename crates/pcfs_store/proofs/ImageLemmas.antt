@@ -1,5 +1,5 @@
 -- Which states have an image.
-use Rattle.std.proofs.Common.{◌≡◌, [], ◌∷◌, false, refl, sym, subst, arith}
+use Rattle.std.proofs.Common.{◌≡◌, [], false, refl, sym, subst, arith}
 use Rattle.access_history.specs.Replay.{fresh}
 use Rattle.access_history.specs.Authority.{Authority}
 use Rattle.access_history.specs.Lawful.{IsLawfulBase}

@@ -18,7 +18,7 @@ use Rattle.pcfs_store.specs.declared.reply.StoreReply.{StoreReply}
 use Rattle.pcfs_store.specs.declared.reply.StoreReply.TheVariants.{Step, Stopped}
 use Rattle.pcfs_store.specs.StoredHistory.{area_since}
 use Rattle.pcfs_store.specs.Newest.{one_of, SurvivesWholeClosed}
-use Rattle.pcfs_store.specs.StoreView.{StoreView, first_disk, second_disk, settled_of, image_since, image_of, body_of, AnswersIn, IsStore}
+use Rattle.pcfs_store.specs.StoreView.{StoreView, settled_of, image_since, image_of, body_of, AnswersIn, IsStore}
 use Rattle.pcfs_store.specs.Ready.{IsBehind, IsReady, IsCurrent, StopsNow, SurvivesWithOrWithout, Keeps, ready, halted}
 use Rattle.pcfs_store.specs.Promises.{Promises}
 use Rattle.pcfs_store.specs.Steps.{IsFullFor, with_event, Steps, kept, failed, LeavesStep}

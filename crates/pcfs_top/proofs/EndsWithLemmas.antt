@@ -38,15 +38,17 @@ use Rattle.pcfs_session.specs.LineAnswer.{authority_under}
 use Rattle.pcfs_session.specs.Streams.{Streams}
 use Rattle.pcfs_audit.specs.ReportText.{report_text}
 use Rattle.command_words.specs.Tasks.{AskForNoRun, AsksFor}
-use Rattle.command_words.specs.declared.words.Task.TheVariants.{Stored, Init, Audit, Load}
+use Rattle.command_words.specs.declared.words.Task.TheVariants.{Stored, Init, Audit, Export, Follow, Load}
 use Rattle.command_words.specs.declared.words.Task.TheVariants as tasks
+use Rattle.export_run.specs.Exported.{TellsExport}
+use Rattle.follow_run.specs.FollowRun.{FollowsInput}
 use Rattle.pcfs_tools.specs.Audited.{TellsAudit, reported, unreported, audit_status}
 use Rattle.pcfs_tools.specs.LastLine.{Wrote, WroteNothing}
 use Rattle.pcfs_tools.specs.Load.{IsLoaded}
 use Rattle.pcfs_tools.specs.ScriptStatus.{AnswersInput}
 use Rattle.pcfs_tools.proofs.MemoryLemmas.{secrets_of}
 use Rattle.pcfs_top.specs.Ports.{Disks, Ports, Rests, AreBytesKept, IfTold}
-use Rattle.pcfs_top.specs.Run.{AreOfStore, of_script, of_checkpoint, HasNoArea, IsNotLost, IsOpened, IsNewestOf, IsNewestImage, NewestStays, Returns, HasCause, EndsWith, TellsCheckpoint, TellsUnopened, TellsUnmade, damaged_text}
+use Rattle.pcfs_top.specs.Run.{AreOfStore, of_script, of_checkpoint, of_follow, HasNoArea, IsNotLost, IsOpened, IsNewestOf, IsNewestImage, NewestStays, Returns, HasCause, EndsWith, TellsCheckpoint, TellsUnopened, TellsUnmade, damaged_text}
 use Rattle.pcfs_top.specs.Run as run
 use Rattle.pcfs_session.specs.ScriptRun.{IsLawfulStanding, script_pass}
 use Rattle.pcfs_session.specs.Stored.{StoreGoesOn}
@@ -336,6 +338,14 @@ module _ {D : Type 0} (clock : D → ℕ) (left_since : D → ℕ → List ℕ �
         untold_as words secrets (rests_of a b a' b') (record { streams = before; disks = disks_of a b }) (record { streams = after; disks = disks_of a' b' }) result
         (record { a_stays = ap image a_is ∙ opened.first_read.same; b_stays = ap image b_is ∙ opened.second_read.same }) left untold
 
+    -- an export leaves the disks as they were
+    pub EndsWith-exported : (from : ℕ) (before after : Streams) (result : ℕ) (s : StoreView D) (a' b' : D) → AsksFor words (Export from) → IsStore s → opening.IsOpened clock left_since image faults a b secrets.seal_key secrets.ring s →
+        TellsExport s.base s.events from before.held before.write_faults result after.held after.write_faults → after.left ≡ before.left → a' ≡ first_disk s → b' ≡ second_disk s →
+        EndsWith secrets words (rests_of a b a' b') (record { streams = before; disks = disks_of a b }) (record { streams = after; disks = disks_of a' b' }) result
+    EndsWith-exported from before after result s a' b' asks store opened tells left a_is b_is =
+        run.exported from result s.generation s.opened (standing_over s None (first_asker script_pass)) asks (is_opened s store opened) (record { a_stays = ap image a_is ∙ opened.first_read.same; b_stays = ap image b_is ∙ opened.second_read.same })
+        (subst (IsPinned clock left_since image) (sym a_is) opened.first_read.pinned, subst (IsPinned clock left_since image) (sym b_is) opened.second_read.pinned) left tells
+
   -- ---- a checkpoint
 
   -- what is said of two disks by their place, of the one that counts and of the other
@@ -452,9 +462,9 @@ module _ {D : Type 0} (clock : D → ℕ) (left_since : D → ℕ → List ℕ �
         (subst (λ (y : D). EndsWith secrets words (rests_of a b (first_disk s') y) (record { streams = before; disks = disks_of a b }) (record { streams = after; disks = disks_of (first_disk s') y }) result) (sym b_is)
         (ends before after result reply made left tells))
 
-  -- ---- a script over a store that is opened
+  -- ---- a script over a store that is opened, and messages that it takes
 
-  module _ (words : List (String Global)) (secrets : Secrets) (a b : D) (is : AsksFor words Stored) where
+  module _ (secrets : Secrets) (a b : D) where
     returns_of : (may_stay : (d : D) (bytes : List ℕ) → image d ≡ Some bytes → left_since d (clock d) bytes) (s s' : StoreView D) (met : Option StoreEntry) (asker : ScriptContext) → IsStore s → IsStore s' → opening.IsOpened clock left_since image faults a b secrets.seal_key secrets.ring s →
         StoreGoesOn clock left_since image faults s s' met → Returns (rests_of a b (first_disk s') (second_disk s')) s.generation s.opened (disks_of a b) (disks_of (first_disk s') (second_disk s')) (standing_over s None (first_asker script_pass)) (standing_over s' met asker)
     returns_of may_stay s s' met asker store store' opened goes =
@@ -481,13 +491,23 @@ module _ {D : Type 0} (clock : D → ℕ) (left_since : D → ℕ → List ℕ �
               (other_is secrets a b s s' opened (goes.other_stays (all ∙ none) untried) (place_kept added s.second_active s'.second_active (all ∙ none) goes.place_is));
         }
 
+  module _ (words : List (String Global)) (secrets : Secrets) (a b : D) (is : AsksFor words Stored) where
     pub EndsWith-stored : (may_stay : (d : D) (bytes : List ℕ) → image d ≡ Some bytes → left_since d (clock d) bytes) (before after : Streams) (result : ℕ) (s s' : StoreView D) (asker : ScriptContext) (a' b' : D) → IsStore s → IsStore s' →
         opening.IsOpened clock left_since image faults a b secrets.seal_key secrets.ring s → AnswersInput clock left_since image faults (record { store = s; asker = first_asker script_pass }) before result (record { store = s'; asker = asker }) after →
         a' ≡ first_disk s' → b' ≡ second_disk s' → EndsWith secrets words (rests_of a b a' b') (record { streams = before; disks = disks_of a b }) (record { streams = after; disks = disks_of a' b' }) result
     EndsWith-stored may_stay before after result s s' asker a' b' store store' opened answers a_is b_is =
         subst (λ (x : D). EndsWith secrets words (rests_of a b x b') (record { streams = before; disks = disks_of a b }) (record { streams = after; disks = disks_of x b' }) result) (sym a_is)
         (subst (λ (y : D). EndsWith secrets words (rests_of a b (first_disk s') y) (record { streams = before; disks = disks_of a b }) (record { streams = after; disks = disks_of (first_disk s') y }) result) (sym b_is)
-        (run.stored result s.generation s.opened (standing_over s None (first_asker script_pass)) (standing_over s' answers.met asker) is (is_opened words secrets a b (of_script is) s store opened) (returns_of may_stay s s' answers.met asker store store' opened answers.goes_on) answers.ends))
+        (run.stored result s.generation s.opened (standing_over s None (first_asker script_pass)) (standing_over s' answers.met asker) is (is_opened words secrets a b (of_script is) s store opened) (returns_of secrets a b may_stay s s' answers.met asker store store' opened answers.goes_on) answers.ends))
+
+  module _ (words : List (String Global)) (secrets : Secrets) (a b : D) (is : AsksFor words Follow) where
+    pub EndsWith-followed : (may_stay : (d : D) (bytes : List ℕ) → image d ≡ Some bytes → left_since d (clock d) bytes) (before after : Streams) (result : ℕ) (s s' : StoreView D) (asker : ScriptContext) (a' b' : D) → IsStore s → IsStore s' →
+        opening.IsOpened clock left_since image faults a b secrets.seal_key secrets.ring s → FollowsInput clock left_since image faults (record { store = s; asker = first_asker script_pass }) before result (record { store = s'; asker = asker }) after →
+        a' ≡ first_disk s' → b' ≡ second_disk s' → EndsWith secrets words (rests_of a b a' b') (record { streams = before; disks = disks_of a b }) (record { streams = after; disks = disks_of a' b' }) result
+    EndsWith-followed may_stay before after result s s' asker a' b' store store' opened follows a_is b_is =
+        subst (λ (x : D). EndsWith secrets words (rests_of a b x b') (record { streams = before; disks = disks_of a b }) (record { streams = after; disks = disks_of x b' }) result) (sym a_is)
+        (subst (λ (y : D). EndsWith secrets words (rests_of a b (first_disk s') y) (record { streams = before; disks = disks_of a b }) (record { streams = after; disks = disks_of (first_disk s') y }) result) (sym b_is)
+        (run.followed result s.generation s.opened (standing_over s None (first_asker script_pass)) (standing_over s' follows.met asker) is (is_opened words secrets a b (of_follow is) s store opened) (returns_of secrets a b may_stay s s' follows.met asker store store' opened follows.goes_on) follows.ends))
 
 -- ---- no memory for the words
 

@@ -10,7 +10,6 @@ use Rattle.access_history.specs.Base.{BaseView}
 use Rattle.access_history.specs.Replay.{replay}
 use Rattle.access_history.specs.declared.event.Event.{Event}
 use Rattle.op_gate.specs.declared.damage.Damage.{Damage}
-use Rattle.op_gate.specs.declared.damage.Damage.TheVariants.{Header, Shape, Unsigned, Unproved, NotAdmitted, MomentFalls, Duplicate}
 use Rattle.checkpoint_image.specs.ImageSpelling.{image_spelling}
 use Rattle.pcfs_store.specs.Image.{fresh_image}
 use Rattle.pcfs_store.specs.StoredHistory.{payloads_of, state_after, StandsFor}
@@ -35,7 +34,10 @@ use Rattle.pcfs_audit.specs.Report.{IsReport}
 use Rattle.pcfs_audit.specs.ReportText.{report_text}
 use Rattle.pcfs_audit.specs.declared.report.Report.{Report}
 use Rattle.command_words.specs.Tasks.{AskForNoRun, AsksFor}
-use Rattle.command_words.specs.declared.words.Task.TheVariants.{Script, Stored, Init, Checkpoint, Audit, Check, Load, Modes, RootSign}
+use Rattle.command_words.specs.declared.words.Task.TheVariants.{Script, Stored, Init, Checkpoint, Audit, Export, Follow, Check, Load, Modes, RootSign}
+use Rattle.export_run.specs.Exported.{TellsExport}
+use Rattle.follow_run.specs.DamageNumber.{damage_number}
+use Rattle.follow_run.specs.FollowRun.{FollowEnds}
 use Rattle.pcfs_tools.specs.Audited.{audit_status}
 use Rattle.pcfs_tools.specs.Inquired.{TellsInquiry}
 use Rattle.pcfs_tools.specs.LastLine.{Wrote, WroteNothing}
@@ -46,22 +48,14 @@ use Rattle.pcfs_tools.specs.Signed.{TellsSigning}
 use Rattle.pcfs_tools.specs.Stated.{TellsModes}
 use Rattle.pcfs_top.specs.Ports.{Disks, Ports, Rests, IfTold, HasDiskFailed, AreBytesKept}
 
--- the words ask for a script over the store in the areas, for a checkpoint of it, or for an audit
--- of it
+-- the words ask for a script over the store in the areas, for a checkpoint or an audit of it, for an
+-- export of its events, or that it takes those of another one
 pub data AreOfStore (words : List (String Global)) : Type 0 where
   of_script : AsksFor words Stored → AreOfStore words
   of_checkpoint : AsksFor words Checkpoint → AreOfStore words
   of_audit : (pieces : Option ℕ) → AsksFor words (Audit pieces) → AreOfStore words
-
--- the number under which a damage is reported
-abbrev pub damage_number : Damage → ℕ
-damage_number Header = 1
-damage_number Shape = 2
-damage_number Unsigned = 3
-damage_number Unproved = 4
-damage_number NotAdmitted = 5
-damage_number MomentFalls = 6
-damage_number Duplicate = 7
+  of_export : (from : ℕ) → AsksFor words (Export from) → AreOfStore words
+  of_follow : AsksFor words Follow → AreOfStore words
 
 -- the line that reports the damage of a record
 abbrev pub damaged_text : ℕ → Damage → List ℕ
@@ -235,7 +229,10 @@ TellsUnmade formats.NoMemory held faults result held_after faults_after = WroteN
 -- The status that a run ends with, and its cause. A script in memory ends as its lines say, and
 -- leaves the disks alone; its own disks are in memory, and fail only if memory runs out. A script
 -- over the areas
--- begins where they stand. An inquiry ends as its lines say, and leaves the disks alone. Any other
+-- begins where they stand, and so do messages that are taken by their store. An export writes the
+-- messages of the events in the areas, or that they are gone, and leaves the bytes of the disks as
+-- they are. An inquiry ends as its lines say, and
+-- leaves the disks alone. Any other
 -- run writes its line, or the output failed and holds some first part of it; an audit, the lines of
 -- its report. Memory may run out before
 -- that, and then nothing changes.
@@ -247,6 +244,18 @@ pub data EndsWith (secrets : Secrets) (words : List (String Global)) (rests : Re
       IsOpened secrets generation image before.disks start →
       Returns rests generation image before.disks after.disks start end →
       ScriptStatus start end before.streams after.streams status →
+      EndsWith secrets words rests before after status
+  followed : (status generation : ℕ) (image : List ℕ) (start end : ScriptState) →
+      AsksFor words Follow → IsOpened secrets generation image before.disks start →
+      Returns rests generation image before.disks after.disks start end →
+      FollowEnds start end before.streams after.streams status →
+      EndsWith secrets words rests before after status
+  exported : (from status generation : ℕ) (image : List ℕ) (start : ScriptState) →
+      AsksFor words (Export from) → IsOpened secrets generation image before.disks start →
+      AreBytesKept before.disks after.disks → rests.after →
+      after.streams.left ≡ before.streams.left →
+      TellsExport start.base start.events from before.streams.held before.streams.write_faults
+      status after.streams.held after.streams.write_faults →
       EndsWith secrets words rests before after status
   told : (status : ℕ) (line : List ℕ) →
       HasCause secrets words rests before.disks after.disks status line →

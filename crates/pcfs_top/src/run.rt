@@ -5,13 +5,15 @@ ghost use Rattle.std.specs.declared.alloc.Global.{Global};
 ghost use Rattle.pcfs_ports.specs.Disk.{IsPinned};
 ghost use Rattle.pcfs_session.specs.ScriptEnds.{with_line_end};
 ghost use Rattle.command_words.specs.Tasks.{AreKnown, AsksFor, IsFit};
-ghost use Rattle.command_words.specs.declared.words.Task.TheVariants.{Stored, Init, Checkpoint, Audit};
-ghost use Rattle.pcfs_top.specs.Run.{EndsWith, TellsCheckpoint, TellsUnopened, TellsUnmade, damage_number, damaged_text};
+ghost use Rattle.command_words.specs.declared.words.Task.TheVariants.{Stored, Init, Checkpoint, Audit, Export, Follow};
+ghost use Rattle.pcfs_top.specs.Run.{EndsWith, TellsCheckpoint, TellsUnopened, TellsUnmade, damaged_text};
 ghost use Rattle.pcfs_top.specs.Ports.{ports_beside, ports_of, rests_of};
 
 use bl_syntax::decimal::put_counted;
 use bl_syntax::{Bytes, NoMemory};
 use command_words::{Task, task_of};
+use export_run::export_history;
+use follow_run::{follow_over, number_of};
 use op_gate::Damage;
 use pcfs_ports::{Disk, Sink, Source};
 use pcfs_secrets::Secrets;
@@ -44,21 +46,6 @@ pub struct Ended<D> {
     pub status: u8,
     pub a: D,
     pub b: D,
-}
-
-// The number under which a damage is reported.
-fn number_of(damage: Damage) -> u64
-    ensures { result ≡ damage_number damage }
-{
-    match damage {
-        Damage::Header => 1,
-        Damage::Shape => 2,
-        Damage::Unsigned => 3,
-        Damage::Unproved => 4,
-        Damage::NotAdmitted => 5,
-        Damage::MomentFalls => 6,
-        Damage::Duplicate => 7,
-    }
 }
 
 // The line that reports the damage of a record.
@@ -237,6 +224,95 @@ fn audit_stored<R: Threads + Sync, O: Sink, D: Disk>(
     }
 }
 
+// Writes the messages of the events of the store on the disks, from that number on. The disks stay as they are.
+fn export_stored<O: Sink, D: Disk>(
+    alloc: Global,
+    secrets: &Secrets,
+    from: u64,
+    output: &mut O,
+    a: D,
+    b: D,
+) -> Ended<D>
+    ensures { (words : List (String Global)) (left : Option (List ℕ)) (read_faults : ℕ) →
+        AsksFor words (Export from) →
+        EndsWith secrets.now words
+        (rests_of (IsPinned D.clock D.left_since D.image) a b result.a result.b)
+        (ports_beside left read_faults O.held O.faults D.image D.faults output.old a b)
+        (ports_beside left read_faults O.held O.faults D.image D.faults output.new result.a result.b)
+        result.status }
+{
+    let ring = match secrets.ring.copy(alloc) {
+        Ok(ring) => ring,
+        Err(_) => return Ended {
+            status: OUT_OF_MEMORY,
+            a,
+            b,
+        },
+    };
+    match open_store(alloc, a, b, secrets.seal_key.as_slice(), ring) {
+        Ok(store) => {
+            store.lemma_is_store();
+            let status = export_history(alloc, store.gate().history(), from, output);
+            let (first, second) = store.into_disks();
+            Ended {
+                status,
+                a: first,
+                b: second,
+            }
+        }
+        Err((fault, a, b)) => Ended {
+            status: write_unopened(alloc, output, fault),
+            a,
+            b,
+        },
+    }
+}
+
+// Takes the events in the messages of the input by the store on the disks. A line is written for each message before the
+// next one is taken.
+fn follow_stored<I: Source, O: Sink, D: Disk>(
+    alloc: Global,
+    secrets: &Secrets,
+    input: &mut I,
+    output: &mut O,
+    a: D,
+    b: D,
+) -> Ended<D>
+    ensures { (words : List (String Global)) → AsksFor words Follow →
+        EndsWith secrets.now words
+        (rests_of (IsPinned D.clock D.left_since D.image) a b result.a result.b)
+        (ports_of I.left I.faults O.held O.faults D.image D.faults input.old output.old a b)
+        (ports_of I.left I.faults O.held O.faults D.image D.faults input.new output.new result.a result.b)
+        result.status }
+{
+    let ring = match secrets.ring.copy(alloc) {
+        Ok(ring) => ring,
+        Err(_) => return Ended {
+            status: OUT_OF_MEMORY,
+            a,
+            b,
+        },
+    };
+    match open_store(alloc, a, b, secrets.seal_key.as_slice(), ring) {
+        Ok(store) => {
+            store.lemma_is_store();
+            let (status, store) = follow_over(alloc, store, input, output);
+            store.lemma_is_store();
+            let (first, second) = store.into_disks();
+            Ended {
+                status,
+                a: first,
+                b: second,
+            }
+        }
+        Err((fault, a, b)) => Ended {
+            status: write_unopened(alloc, output, fault),
+            a,
+            b,
+        },
+    }
+}
+
 // Writes why no store was made, and returns the status to end with.
 fn write_unmade<O: Sink>(output: &mut O, fault: FormatFault) -> u8
     ensures { TellsUnmade fault (O.held output.old) (O.faults output.old) result (O.held output.new) (O.faults output.new) }
@@ -312,6 +388,8 @@ fn run_task<R: Threads + Wait + Sync, I: Source, O: Sink, D: Disk>(
         Task::Init => init(alloc, secrets, output, a, b),
         Task::Checkpoint => checkpoint_stored(alloc, secrets, output, a, b),
         Task::Audit(pieces) => audit_stored(rt, alloc, secrets, pieces, output, a, b),
+        Task::Export(from) => export_stored(alloc, secrets, from, output, a, b),
+        Task::Follow => follow_stored(alloc, secrets, input, output, a, b),
         Task::Check => Ended {
             status: inquire(alloc, input, output),
             a,
@@ -374,8 +452,10 @@ pub fn run_asked<R: Threads + Wait + Sync, I: Source, O: Sink, D: Disk>(
 /// Runs the program: with the word `script` the lines of the input are answered over a store in memory, with
 /// `script --stored` over the one on the disks; with `init` a store is made on the first disk, and with `checkpoint` the state
 /// of the one on the disks is written as the image of a new area on the disk that does not count. With `audit` the history of
-/// the one on the disks is audited, with `audit --pieces N` in so many pieces; with `check` the inquiry in the input is
-/// answered; with `load N S` the script that so many rounds and that seed generate is run over a store in memory; with
+/// the one on the disks is audited, with `audit --pieces N` in so many pieces; with `export FROM` the messages of its events
+/// from that number on are written; with `follow` it takes the events in the messages of the input, and a line is written for
+/// each: `kept`, `known`, `damaged` or `full` with the message's number, or `missing` with the next one; with `check` the
+/// inquiry in the input is answered; with `load N S` the script that so many rounds and that seed generate is run over a store in memory; with
 /// `modes FROM TO` the lines are written that register the statements of the table of modes in the input from one second to
 /// another; with `rootsign H FROM` the root of the tree of height H of the seed in the input is written, and the lines that
 /// register the statements after it by its leaves from FROM on, each once. Procaps are sealed under the key of the secrets, and
@@ -389,9 +469,11 @@ pub fn run_asked<R: Threads + Wait + Sync, I: Source, O: Sink, D: Disk>(
 /// without a last line; 10, an area is open already: `exists`; 11, the report of the audit has a row; 12, a line of the
 /// inquiry or of `rootsign` is wrong: `line` with its number, `bad`, and the fault; 13, the input has 1 GiB or more: `toolong`;
 /// 14, the image of a checkpoint does not fit into an area, or there is no next generation: `full`; 15, a line of the table of
-/// modes is wrong: `line` with its number, and `mode 1` or `mode 2`, or its statements are more than 4,096: `mode 3`; 18, there
-/// is no leaf for a statement: `leaves` with their count. At 2, 5, 6 and 13 the replies of a script to the lines before come
-/// before that line, and at 12 and 18 what `rootsign` wrote of the lines before.
+/// modes is wrong: `line` with its number, and `mode 1` or `mode 2`, or its statements are more than 4,096: `mode 3`; 16, at a
+/// place of the input no message stands, or it ends within one: `frame` with the place; 17, the event of that number is in the
+/// base alone: `gone` with the base's count; 18, there
+/// is no leaf for a statement: `leaves` with their count. At 2, 5, 6, 13 and 16 the replies of a script to the lines before,
+/// and the lines for the messages before, come before that line, and at 12 and 18 what `rootsign` wrote of the lines before.
 pub fn run_alone<R: Threads + Wait + Sync, I: Source, O: Sink, D: Disk>(
     rt: &R,
     alloc: Global,

@@ -14,7 +14,7 @@ use Rattle.tree_lock.specs.Seen.{PassView}
 use Rattle.line_wire.specs.declared.reply.LineReply.{LineReply}
 use Rattle.line_wire.specs.declared.reply.LineReply.TheVariants.{TooLong}
 use Rattle.line_wire.specs.ReplyText.{output_of}
-use Rattle.session_history.specs.Output.{greeting_text}
+use Rattle.line_text.specs.Greeting.{greeting_text}
 use Rattle.shared_store.specs.declared.entry.LockEntry.{LockEntry}
 use Rattle.pcfs_session.specs.Streams.{Streams}
 use Rattle.pcfs_session.specs.Taken.{AreTaken, AreAllTaken, IsCutAtLong}

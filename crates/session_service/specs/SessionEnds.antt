@@ -11,7 +11,8 @@ use Rattle.line_wire.specs.declared.reply.LineReply.TheVariants.{TooLong}
 use Rattle.line_wire.specs.ReplyText.{output_of}
 use Rattle.tree_lock.specs.Seen.{PassView}
 use Rattle.pcfs_store.specs.Entries.{StoreEntry}
-use Rattle.session_history.specs.Output.{greeting_text, session_output}
+use Rattle.line_text.specs.Greeting.{greeting_text}
+use Rattle.session_history.specs.Output.{session_output}
 use Rattle.session_history.specs.SessionState.{SessionState, guest_with}
 use Rattle.session_history.specs.Placed.{LinesPlaced}
 use Rattle.shared_store.specs.declared.entry.LockEntry.{LockEntry}

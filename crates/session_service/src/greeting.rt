@@ -1,27 +1,14 @@
 //! The first line of a session.
 
-ghost use Rattle.std.specs.Prelude.{◌≡◌, ◌≤◌, ◌++◌, ◌∷◌, [], IfOk, OnOk, OnErr, IsErrOf};
+ghost use Rattle.std.specs.Prelude.{◌≡◌, ◌≤◌, ◌++◌, ◌∷◌, [], OnOk, OnErr, IsErrOf};
 ghost use Rattle.pcfs_ports.specs.Faults.{HasRisen};
 ghost use Rattle.pcfs_ports.specs.Observable.{with_back, HoldsSome};
-ghost use Rattle.session_history.specs.Output.{greeting_text};
+ghost use Rattle.line_text.specs.Greeting.{greeting_text};
 
-use bl_syntax::decimal::put_text;
-use bl_syntax::{Bytes, NoMemory};
-use line_text::write_hex;
+use line_text::greeting_line;
 use pcfs_ports::{Sink, write_all};
 use pcfs_session::SendFault;
 use std::alloc::Global;
-
-// The greeting with its end.
-fn greeting_line(alloc: Global, nonce: &[u8; 16]) -> Result<Bytes, NoMemory>
-    ensures { IfOk result (λ bytes. bytes ≡ greeting_text nonce.now ++ 10 ∷ []) }
-{
-    let mut bytes = Bytes::new(alloc);
-    put_text(&mut bytes, "hello ")?;
-    write_hex(alloc, nonce, &mut bytes)?;
-    bytes.push(b'\n')?;
-    Ok(bytes)
-}
 
 /// Writes the greeting that gives this nonce.
 ///

@@ -1,5 +1,5 @@
 -- What a world is made of: two halves, or rows (this project's own).
-use Rattle.std.specs.Prelude.{◌≡◌, ℕ, List, [], ◌∷◌, Bool, true, false, Result, Ok, Err}
+use Rattle.std.specs.Prelude.{◌≡◌, ℕ, List, ◌∷◌, Bool, true, false, Result, Ok, Err}
 use Rattle.file_world.specs.Attributes.{Marks}
 use Rattle.file_world.specs.Tree.{FileTree}
 use Rattle.file_world.specs.World.{World, IsWorld}

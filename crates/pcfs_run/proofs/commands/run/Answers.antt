@@ -1,12 +1,19 @@
 -- A run serves, or another command is run.
 use Rattle.std.proofs.Common.{refl}
-use Rattle.command_words.proofs.TaskLemmas.{fits_asked}
+use Rattle.command_words.specs.declared.words.Task.TheVariants.{Serve}
+use Rattle.command_words.proofs.TaskLemmas.{fits, fits_asked}
 use Rattle.pcfs_run.specs.Served as serving
 use Rattle.pcfs_run.proofs.WordsLemmas.{asks_other}
 use Rattle.pcfs_run.proofs.commands.run.Goals as goal
 
 pub run_asked-requires-clause-fit : goal.run_asked-requires-clause-fit
 run_asked-requires-clause-fit g c κs within = fits_asked c.args.words.now.items c.in-Ok.asked c.in-Ok.ensures
+
+pub serve-requires-clause-some : goal.serve-requires-clause-some
+serve-requires-clause-some g c κs within = (fits c.args.words.now.items (Serve c.in-Some.port c.in-Some.count) (rw c.in-Some.ensures at c.in-Ok.ensures)).0
+
+pub serve-requires-clause-few : goal.serve-requires-clause-few
+serve-requires-clause-few g c κs within = (fits c.args.words.now.items (Serve c.in-Some.port c.in-Some.count) (rw c.in-Some.ensures at c.in-Ok.ensures)).1
 
 pub returns-in-Err : goal.returns-in-Err
 returns-in-Err g c = serving.unread (record { a_stays = refl; b_stays = refl }) (record { waiting_stays = refl; faults_stay = refl; nonce_faults_stay = refl }) refl refl refl

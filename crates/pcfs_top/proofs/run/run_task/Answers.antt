@@ -24,6 +24,12 @@ audit_stored-requires-clause-some g c _ _ = subst IsFit c.in-Audit.is c.requires
 pub returns-in-Audit : goal.returns-in-Audit
 returns-in-Audit g c words asks = c.audit_stored.ensures words _ _ (subst (AsksFor words) c.in-Audit.is asks)
 
+pub returns-in-Export : goal.returns-in-Export
+returns-in-Export g c words asks = c.export_stored.ensures words _ _ (subst (AsksFor words) c.in-Export.is asks)
+
+pub returns-in-Follow : goal.returns-in-Follow
+returns-in-Follow g c words asks = c.follow_stored.ensures words (subst (AsksFor words) c.in-Follow.is asks)
+
 pub returns-in-Check : goal.returns-in-Check
 returns-in-Check g c words asks = run.inquired _ (subst (AsksFor words) c.in-Check.is asks) refl c.inquire.ensures
 

@@ -1,0 +1,93 @@
+//! Messages on their way out: they are collected, and written in large pieces.
+
+ghost use Rattle.std.specs.Prelude.{◌≡◌, ◌≤◌, ◌<◌, ◌+◌, ◌^◌, ◌++◌, [], IfErr, OnOk, OnErr, length};
+ghost use Rattle.pcfs_ports.specs.Faults.{HasRisen};
+ghost use Rattle.pcfs_ports.specs.Observable.{with_back, HoldsSome};
+ghost use Rattle.event_messages.specs.Messages.{message_spelling, messages_spelling};
+ghost use Rattle.export_run.specs.Exported.{message_of, messages_of};
+ghost use Rattle.export_run.specs.Outgoing.{AreCollectedOrOut, AreCutShort, FitMessages, FitsMessage, IsUnsent};
+
+use access_history::Event;
+use bl_syntax::{Bytes, NoMemory};
+use event_messages::write_message;
+use journal_records::write_event;
+use pcfs_ports::{Failed, Sink};
+use pcfs_session::{SendFault, flush};
+use std::alloc::Global;
+
+/// How many bytes are collected before they are written.
+const ENOUGH: usize = 65_536;
+
+// Adds the message of an event, or nothing. Its payload is written into memory that is used again.
+fn add_message(
+    number: u64,
+    event: &Event,
+    payload: &mut Bytes,
+    collected: &mut Bytes,
+) -> Result<(), NoMemory>
+    requires { FitsMessage event.now }
+    ensures ok { OnOk result (collected.new ≡ collected.old ++ message_spelling (message_of number event.now)) }
+    ensures err { OnErr result (collected.new ≡ collected.old) }
+{
+    payload.clear();
+    write_event(event, payload)?;
+    write_message(number, payload.as_slice(), collected)
+}
+
+// Writes what was collected once it is enough.
+fn flush_if_enough<O: Sink>(collected: &mut Bytes, output: &mut O) -> Result<(), Failed>
+    ensures ok { OnOk result (AreCollectedOrOut (O.held output.old) collected.old (O.held output.new) collected.new) }
+    ensures err { OnErr result (HoldsSome (O.held output.old) (O.held output.new) collected.old) }
+    ensures risen { OnErr result (HasRisen (O.faults output.old) (O.faults output.new)) }
+    ensures never_falls { O.faults output.old ≤ O.faults output.new }
+{
+    if ENOUGH <= collected.len() {
+        return flush(collected, output);
+    }
+    Ok(())
+}
+
+// Collects the message of an event, and writes what was collected once it is enough.
+fn send_message<O: Sink>(
+    number: u64,
+    event: &Event,
+    payload: &mut Bytes,
+    collected: &mut Bytes,
+    output: &mut O,
+) -> Result<(), SendFault>
+    requires { FitsMessage event.now }
+    ensures ok { OnOk result (AreCollectedOrOut (O.held output.old)
+        (collected.old ++ message_spelling (message_of number event.now)) (O.held output.new) collected.new) }
+    ensures err { IfErr result (λ fault. IsUnsent fault (O.held output.old) (O.faults output.old)
+        (collected.old ++ message_spelling (message_of number event.now)) (O.held output.new) (O.faults output.new)) }
+    ensures never_falls { O.faults output.old ≤ O.faults output.new }
+{
+    match add_message(number, event, payload, collected) {
+        Ok(()) => Ok(flush_if_enough(collected, output)?),
+        Err(_) => Err(SendFault::NoMemory),
+    }
+}
+
+/// Writes the messages of the events, of which the first has that number. Of them no more than the piece that is written
+/// next and one message is kept.
+pub fn write_messages<O: Sink>(
+    alloc: Global,
+    first: u64,
+    events: &[Event],
+    output: &mut O,
+) -> Result<(), SendFault>
+    requires fit { FitMessages events.now }
+    requires counted { first + length events.now < 2 ^ 64 }
+    ensures ok { OnOk result (O.held output.new ≡ with_back (O.held output.old) (messages_spelling (messages_of first events.now))) }
+    ensures err { IfErr result (λ fault. AreCutShort fault (O.held output.old) (O.faults output.old)
+        (messages_of first events.now) (O.held output.new) (O.faults output.new)) }
+{
+    let mut collected = Bytes::new(alloc);
+    let mut payload = Bytes::new(alloc);
+    let mut number = first;
+    for event in events {
+        send_message(number, event, &mut payload, &mut collected, output)?;
+        number += 1;
+    }
+    Ok(flush(&mut collected, output)?)
+}

@@ -1,0 +1,196 @@
+-- A message that is taken by a store, and the store after it.
+use Rattle.std.proofs.Common.{◌≡◌, ◌≢◌, ◌⊎◌, inl, inr, ◌≤◌, ℕ, Bool, true, false, List, [], ◌∷◌, Option, Some, None, Result, Ok, Err, refl, sym, ap, subst, ◌∙◌, arith, append-nil}
+use Rattle.std.specs.Prelude.{IfErr}
+use Rattle.pcfs_ports.specs.Faults.{HasRisen}
+use Rattle.pcfs_ports.specs.Observable.{with_back}
+use Rattle.access_history.specs.declared.event.Event.{Event}
+use Rattle.event_messages.specs.Messages.{Message}
+use Rattle.follower.specs.declared.taking.Taken.{Taken}
+use Rattle.follower.specs.declared.taking.Taken.TheVariants as answers
+use Rattle.follower.specs.Taking.{IsNextEvent, Takes}
+use Rattle.follower.specs.Taking as takes
+use Rattle.pcfs_store.specs.Checkpoints.{SurvivesMet}
+use Rattle.pcfs_store.specs.Entries.{StoreEntry, happened}
+use Rattle.pcfs_store.specs.Newest.{one_of}
+use Rattle.pcfs_store.specs.Ready.{IsReady, IsCurrent, StopsNow, SurvivesStop}
+use Rattle.pcfs_store.specs.StoreView.{StoreView, first_disk, second_disk}
+use Rattle.pcfs_session.specs.Stored.{StoreGoesOn}
+use Rattle.pcfs_session.proofs.OutboxLemmas.{with_back-nil}
+use Rattle.pcfs_session.proofs.StoredLemmas.{none_some, running_for, StoreGoesOn-same}
+use Rattle.follow_run.specs.AnswerText.{answer_line}
+use Rattle.follow_run.specs.FollowRun.{IsNextIn, TakesIn}
+use Rattle.follow_run.specs.FollowRun as follows
+use Rattle.follow_run.specs.Followed.{standing_at, IsOutAt, IsMetAt, WereTaken, AreAnswered, HaltsAt, HaltsBy}
+use Rattle.follow_run.specs.declared.follow_end.FollowEnd.{FollowEnd}
+use Rattle.follow_run.specs.declared.follow_end.FollowEnd.TheVariants as ends
+use Rattle.follow_run.proofs.RunLemmas.{lines-one}
+
+-- what follows of a fault from two facts on it
+pub by_both : {A E : Type 0} (r : Result A E) (P Q R : E → Type 0) → ((e : E) → P e → Q e → R e) → IfErr r P → IfErr r Q → IfErr r R
+by_both (Ok x) P Q R both p q = tt
+by_both (Err e) P Q R both p q = both e p q
+
+some_same : {A : Type 0} (x y : A) → Some x ≡ Some y → x ≡ y
+some_same x y is = cc
+
+-- the count of the disk in its place
+risen_at : {D : Type 0} (faults : D → ℕ) (old active other : D) (second_active : Bool) → HasRisen (faults old) (faults active) →
+    HasRisen (faults (one_of old other second_active)) (faults (one_of active other second_active)) ⊎ HasRisen (faults (one_of other old second_active)) (faults (one_of other active second_active))
+risen_at faults old active other false risen = inl risen
+risen_at faults old active other true risen = inr risen
+
+-- the area stays in its place, the other disk is not touched, and no checkpoint is made
+record StaysInPlace {D : Type 0} (old new : StoreView D) : Type 0 where
+  generation : new.generation ≡ old.generation
+  place : new.second_active ≡ old.second_active
+  other : new.other ≡ old.other
+  checkpoints : new.checkpoints ≡ old.checkpoints
+  opened : new.opened ≡ old.opened
+
+-- ---- the answer
+
+next_in : {D : Type 0} (old : StoreView D) (message : Message) (event : Event) → IsNextEvent old message.number message.payload event → IsNextIn (standing_at old None) message event
+next_in old message event n = record { numbered = n.numbered; payload_is = n.payload_is; enters = n.enters }
+
+module _ {D : Type 0} (faults : D → ℕ) where
+  takes_in : (old new : StoreView D) (message : Message) (taken : Taken) → taken ≢ answers.Stopped → taken ≢ answers.NoMemory → Takes faults old message.number message.payload taken new → TakesIn (standing_at old None) message taken (standing_at new None)
+  takes_in old _ message _ going had (takes.stopped earlier is) = absurd (going refl)
+  takes_in old _ message _ going had (takes.known goes few) = follows.known few
+  takes_in old _ message _ going had (takes.missing goes more) = follows.missing more
+  takes_in old _ message _ going had (takes.damaged damage goes at is) = follows.damaged damage at is
+  takes_in old _ message _ going had (takes.full event goes n over) = follows.full event (next_in old message event n) over
+  takes_in old _ message _ going had (takes.failed event active goes n fits risen) = absurd (going refl)
+  takes_in old _ message _ going had (takes.kept event active goes n fits) = follows.kept event (next_in old message event n) fits
+  takes_in old _ message _ going had (takes.without_memory goes at) = absurd (had refl)
+
+  -- no disk failed for a message that is answered otherwise
+  still_runs : (old new : StoreView D) (number : ℕ) (payload : List ℕ) (taken : Taken) → taken ≢ answers.Stopped → Takes faults old number payload taken new → new.stop ≡ None
+  still_runs old _ number payload _ going (takes.stopped earlier is) = absurd (going refl)
+  still_runs old _ number payload _ going (takes.known goes few) = goes
+  still_runs old _ number payload _ going (takes.missing goes more) = goes
+  still_runs old _ number payload _ going (takes.damaged damage goes at is) = goes
+  still_runs old _ number payload _ going (takes.full event goes n over) = goes
+  still_runs old _ number payload _ going (takes.failed event active goes n fits risen) = absurd (going refl)
+  still_runs old _ number payload _ going (takes.kept event active goes n fits) = goes
+  still_runs old _ number payload _ going (takes.without_memory goes at) = goes
+
+  stays_in_place : (old new : StoreView D) (number : ℕ) (payload : List ℕ) (taken : Taken) → Takes faults old number payload taken new → StaysInPlace old new
+  stays_in_place old _ number payload _ (takes.stopped earlier is) = record { generation = refl; place = refl; other = refl; checkpoints = refl; opened = refl }
+  stays_in_place old _ number payload _ (takes.known goes few) = record { generation = refl; place = refl; other = refl; checkpoints = refl; opened = refl }
+  stays_in_place old _ number payload _ (takes.missing goes more) = record { generation = refl; place = refl; other = refl; checkpoints = refl; opened = refl }
+  stays_in_place old _ number payload _ (takes.damaged damage goes at is) = record { generation = refl; place = refl; other = refl; checkpoints = refl; opened = refl }
+  stays_in_place old _ number payload _ (takes.full event goes n over) = record { generation = refl; place = refl; other = refl; checkpoints = refl; opened = refl }
+  stays_in_place old _ number payload _ (takes.failed event active goes n fits risen) = record { generation = refl; place = refl; other = refl; checkpoints = refl; opened = refl }
+  stays_in_place old _ number payload _ (takes.kept event active goes n fits) = record { generation = refl; place = refl; other = refl; checkpoints = refl; opened = refl }
+  stays_in_place old _ number payload _ (takes.without_memory goes at) = record { generation = refl; place = refl; other = refl; checkpoints = refl; opened = refl }
+
+  no_memory : (old new : StoreView D) (number : ℕ) (payload : List ℕ) → Takes faults old number payload answers.NoMemory new → new ≡ old
+  no_memory old _ number payload (takes.without_memory goes at) = refl
+
+-- ---- the store goes on
+
+module _ {D : Type 0} (clock : D → ℕ) (left_since : D → ℕ → List ℕ → Type 0) (image : D → Option (List ℕ)) (faults : D → ℕ) where
+  -- what the taking of a message says
+  pub record Took (old : StoreView D) (message : Message) (taken : Taken) (new : StoreView D) : Type 0 where
+    pub answer : Takes faults old message.number message.payload taken new
+    pub ready : IsReady clock left_since image old → taken ≢ answers.Stopped → IsReady clock left_since image new
+    pub current : IsCurrent clock left_since image old → taken ≢ answers.Stopped → IsCurrent clock left_since image new
+    pub met : IsReady clock left_since image old → taken ≡ answers.Stopped → StopsNow clock left_since image new (SurvivesStop old.base old.events new.met)
+    pub first_never_falls : faults (first_disk old) ≤ faults (first_disk new)
+    pub second_never_falls : faults (second_disk old) ≤ faults (second_disk new)
+
+  goes_running : (old new : StoreView D) (message : Message) (taken : Taken) → taken ≢ answers.Stopped → Took old message taken new → StoreGoesOn clock left_since image faults old new None
+  goes_running old new message taken going t =
+      let place = stays_in_place faults old new message.number message.payload taken t.answer in
+      record {
+        stop_for = running_for new.stop (still_runs faults old new message.number message.payload taken going t.answer);
+        opened_stays = place.opened;
+        checkpoints_go_on = ([], append-nil old.checkpoints ∙ sym place.checkpoints);
+        generation_grows = omega (arith, place.generation);
+        place_is = place.place;
+        other_stays = λ none untried. place.other;
+        ready = λ is none. t.ready is going;
+        halts = λ is entry same. none_some entry same;
+        current = λ is none. t.current is going;
+        first_never_falls = t.first_never_falls;
+        second_never_falls = t.second_never_falls;
+        failed = λ entry same. none_some entry same;
+      }
+
+  were_taken : (old new : StoreView D) (message : Message) (taken : Taken) → taken ≢ answers.Stopped → taken ≢ answers.NoMemory → Took old message taken new → WereTaken clock left_since image faults (message ∷ []) old new None (taken ∷ [])
+  were_taken old new message taken going had t = record {
+    run = follows.one_more (standing_at old None) message [] taken [] (standing_at new None) (standing_at new None) refl (takes_in faults old new message taken going had t.answer) (follows.ended (standing_at new None));
+    goes_on = goes_running old new message taken going t;
+  }
+
+  -- ---- one message
+
+  -- it was answered, and its line is out
+  pub AreAnswered-one : (old new : StoreView D) (message : Message) (taken : Taken) (held held_after : Option (List ℕ)) → taken ≢ answers.Stopped → taken ≢ answers.NoMemory → Took old message taken new → held_after ≡ with_back held (answer_line message.number taken) →
+      AreAnswered clock left_since image faults (message ∷ []) old new held held_after
+  AreAnswered-one old new message taken held held_after going had t out = record {
+    told = taken ∷ [];
+    were = were_taken old new message taken going had t;
+    out = out ∙ ap (with_back held) (sym (lines-one message taken));
+  }
+
+  -- it was answered, and its line is not all out
+  pub HaltsBy-unwritten : (old new : StoreView D) (message : Message) (taken : Taken) (held held_after : Option (List ℕ)) (how : FollowEnd) → taken ≢ answers.Stopped → taken ≢ answers.NoMemory → Took old message taken new →
+      IsOutAt how held held_after (answer_line message.number taken) → IsMetAt how None → HaltsBy clock left_since image faults message old new held how held_after
+  HaltsBy-unwritten old new message taken held held_after how going had t out met = inl (record {
+    told = taken ∷ [];
+    met = None;
+    were = were_taken old new message taken going had t;
+    is_met = met;
+    out = subst (IsOutAt how held held_after) (sym (lines-one message taken)) out;
+  })
+
+  -- a disk failed for its event
+  by_fault : (old new : StoreView D) (message : Message) (held held_after : Option (List ℕ)) → old.stop ≡ None → held_after ≡ held → Took old message answers.Stopped new → Takes faults old message.number message.payload answers.Stopped new →
+      HaltsAt clock left_since image faults (message ∷ []) old new held ends.Stopped held_after
+  by_fault old _ message held held_after running same t (takes.stopped earlier is) = none_some earlier (sym running ∙ is)
+  by_fault old _ message held held_after running same t (takes.failed event active goes n fits risen) = record {
+    told = answers.Stopped ∷ [];
+    met = Some (happened event);
+    were = record {
+      run = follows.one_more (standing_at old None) message [] answers.Stopped [] (record (standing_at old None) { met = Some (happened event) }) (record (standing_at old None) { met = Some (happened event) }) refl (follows.failed event (next_in old message event n) fits) (follows.ended (record (standing_at old None) { met = Some (happened event) }));
+      goes_on = record {
+        stop_for = tt;
+        opened_stays = refl;
+        checkpoints_go_on = ([], append-nil old.checkpoints);
+        generation_grows = omega arith;
+        place_is = refl;
+        other_stays = λ none untried. refl;
+        ready = λ is_ready none. none_some (happened event) (sym none);
+        halts = λ is_ready entry same.
+            subst (λ (x : StoreEntry). StopsNow clock left_since image (record old { active = active; stop = Some 0; met = Some event }) (SurvivesMet old.base old.events x)) (some_same (happened event) entry same) (t.met is_ready refl);
+        current = λ is_current none. none_some (happened event) (sym none);
+        first_never_falls = t.first_never_falls;
+        second_never_falls = t.second_never_falls;
+        failed = λ entry same. risen_at faults old.active active old.other old.second_active risen;
+      };
+    };
+    is_met = (happened event, refl);
+    out = same ∙ with_back-nil held;
+  }
+
+  pub HaltsBy-stopped : (old new : StoreView D) (message : Message) (taken : Taken) (held held_after : Option (List ℕ)) → taken ≡ answers.Stopped → old.stop ≡ None → held_after ≡ held → Took old message taken new → HaltsBy clock left_since image faults message old new held ends.Stopped held_after
+  HaltsBy-stopped old new message taken held held_after is running same took =
+      let t = subst (λ (x : Taken). Took old message x new) is took in
+      inl (by_fault old new message held held_after running same t t.answer)
+
+  -- no message was taken, and no line is out
+  pub HaltsAt-none : (s : StoreView D) (held held_after : Option (List ℕ)) → s.stop ≡ None → held_after ≡ held → HaltsAt clock left_since image faults [] s s held ends.NoMemory held_after
+  HaltsAt-none s held held_after running same = record {
+    told = [];
+    met = None;
+    were = record { run = follows.ended (standing_at s None); goes_on = StoreGoesOn-same clock left_since image faults s running };
+    is_met = refl;
+    out = record { count = 0; within = omega arith; held = same ∙ with_back-nil held };
+  }
+
+  -- memory ran out for it
+  pub HaltsBy-memory : (old new : StoreView D) (message : Message) (taken : Taken) (held held_after : Option (List ℕ)) → taken ≡ answers.NoMemory → old.stop ≡ None → held_after ≡ held → Took old message taken new → HaltsBy clock left_since image faults message old new held ends.NoMemory held_after
+  HaltsBy-memory old new message taken held held_after is running same took =
+      let t = subst (λ (x : Taken). Took old message x new) is took in
+      inr (subst (λ (s : StoreView D). HaltsAt clock left_since image faults [] old s held ends.NoMemory held_after) (sym (no_memory faults old new message.number message.payload t.answer)) (HaltsAt-none old held held_after running same))
