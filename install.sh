@@ -1,11 +1,11 @@
 #!/usr/bin/env bash
-# Installs the programs that `rt ci` built, pcfs and pcfs-prove, and the client, pcfs-client, with their manual pages and
-# completions, and the script of the nightly checkpoint. Nothing is installed if one of the programs was not built.
+# Installs the programs that `rt ci` built, pcfs, pcfs-prove and pcfs-history, and the client, pcfs-client, with their manual pages
+# and completions, and the script of the nightly checkpoint. Nothing is installed if one of the programs was not built.
 # usage: ./install.sh [PREFIX]     by default /usr/local
 set -euo pipefail
 cd "$(dirname "$0")"
 prefix=${1:-/usr/local}
-programs=(pcfs pcfs-prove)
+programs=(pcfs pcfs-prove pcfs-history)
 
 built() {
     echo "crates/${1//-/_}/out/${1//-/_}"
