@@ -116,7 +116,8 @@ class Trial:
         """The leader answers some random lines."""
         count = self.draw.choice((0, 1, 3, 10, 40))
         drawn = subprocess.run([sys.executable, MODEL, "random", str(self.draw.randrange(10**6)), str(count), self.secrets], stdout=subprocess.PIPE, check=True)
-        self.leader.script([*POLICY[:1], *drawn.stdout.decode().splitlines(), *POLICY[3:], f"do create #1 n{turn} @1"])
+        lines = [line for line in drawn.stdout.decode().splitlines() if line != "checkpoint"]  # what it has before is exported first
+        self.leader.script([*POLICY[:1], *lines, *POLICY[3:], f"do create #1 n{turn} @1"])
         self.collect()
         if self.draw.random() < 0.05:
             self.leader.checkpoint(max(self.sent))
@@ -124,7 +125,8 @@ class Trial:
     def delivered(self):
         """What the link delivers: number, payload, whether the payload is whole."""
         near = range(max(1, self.kept - 3), min(max(self.sent), self.kept + self.draw.choice((2, 5, 30, 200))) + 1)
-        chosen = [number for number in near if self.draw.random() < 0.9]
+        lost = self.draw.choice((0, 0, 0.01, 0.1))
+        chosen = [number for number in near if self.draw.random() >= lost]
         chosen += [number for number in chosen if self.draw.random() < 0.2]
         chosen.sort(key=lambda number: number + (self.draw.random() * 8 if self.draw.random() < 0.2 else 0))
         found = [(number, self.sent[number], True) for number in chosen]
