@@ -224,7 +224,7 @@ def running(run):
         copy = shutil.copytree if name == "stored" else shutil.copy
         copy(EXAMPLES / name, run.folder / name)
     found = run.shell("".join(block for block in blocks(text_of("docs/RUNNING.md"), "sh")))
-    for want in ("ok bytes 6869", "ok checkpoint"):
+    for want in ("ok bytes 6869", "ok checkpoint", "kept 3"):
         if want not in found:
             yield f"no {want} in {found}"
     if found.count("ok bytes 6869") < 2:

@@ -4,17 +4,17 @@
     history.py PROGRAM random FIRST LAST     histories drawn from these seeds, each in one to four areas, with grants and images of version 1
                                              and 2: rows, filters, who may, what rests on a statement, chains
     history.py PROGRAM wrong                 wrong words, files and areas, and areas that do not go on from the one before
-    history.py PROGRAM speed [EVENTS]        who read node 7 between two dates, among so many events, 100,000 by default
+    history.py PROGRAM speed [EVENTS]        who read node 7 between two dates, among so many events, 100,000 by default: at most two seconds of a processor
 
 PROGRAM is the built program. It ends with status 1 if anything differs, and prints what. Nothing is read but the files of
 this repository.
 """
 import json
 import random
+import resource
 import subprocess
 import sys
 import tempfile
-import time
 from collections import Counter
 from datetime import datetime, timedelta
 from pathlib import Path
@@ -446,17 +446,23 @@ def large_store(events):
     return area_of(1, fresh(), b"".join(map(record, payloads)))
 
 
+def processor_seconds():
+    """What the programs that were run took of a processor: it does not grow if others run beside them."""
+    used = resource.getrusage(resource.RUSAGE_CHILDREN)
+    return used.ru_utime + used.ru_stime
+
+
 def try_speed(program, events):
     with tempfile.TemporaryDirectory() as folder:
         (Path(folder) / "pcfs.secrets").write_text(model.LOAD_SECRETS)
         (Path(folder) / "pcfs.a").write_bytes(large_store(events))
         count = Counter()
         for options in ["--file", "#7", "--from", date_of(2000), "--to", date_of(12000)], ["--json"]:
-            begin = time.monotonic()
+            begin = processor_seconds()
             status, output, _ = run(program, folder, *options)
-            took = time.monotonic() - begin
+            took = processor_seconds() - begin
             count.update(tried=1, bad=status != 0 or (took > SPEED_LIMIT and options != ["--json"]))
-            print(f"{' '.join(options)}: {len(output.splitlines())} lines of {events} events in {took:.2f} s")
+            print(f"{' '.join(options)}: {len(output.splitlines())} lines of {events} events in {took:.2f} s of a processor")
     return count
 
 
