@@ -1,5 +1,5 @@
 -- The nodes of a world within its limits have a spelling.
-use Rattle.std.proofs.Common.{◌≡◌, ℕ, ◌<◌, ◌^◌, ◌-◌, true, false, Option, Some, option_map, List, [], ◌∷◌, length, map, refl, sym, ap, ◌∙◌, subst, arith, nat_eq, nat_cmp}
+use Rattle.std.proofs.Common.{◌≡◌, ℕ, ◌<◌, ◌^◌, false, Option, Some, option_map, List, [], ◌∷◌, map, refl, sym, ap, ◌∙◌, subst, arith, nat_eq, nat_cmp}
 use Rattle.std.specs.Prelude.{IsTrue}
 use Rattle.std.specs.List.{AllByRecursion}
 use Rattle.std.specs.List.Sorted.{IsStrictlySortedBy}
@@ -9,7 +9,7 @@ use Rattle.std.proofs.lemmas.List.{length-map}
 use Rattle.std.proofs.lemmas.Option.{same_Some}
 use Rattle.file_world.specs.FileNames.{is_node_name}
 use Rattle.file_world.specs.Limits.{root_number}
-use Rattle.file_world.specs.Tree.{Node, node_at, ReachesRoot, at_root, below, root}
+use Rattle.file_world.specs.Tree.{root, Node, node_at, ReachesRoot, at_root, below}
 use Rattle.file_world.specs.Attributes.{mark_at}
 use Rattle.file_world.specs.World.{Item, World, node_of, mark_of, tree_of, marks_of, IsWorld}
 use Rattle.file_world.proofs.RowLemmas.{split, lookup_here, lookup_later, AreRising, rising_head, rising_tail, above_found}

@@ -2,7 +2,7 @@
 -- fault. A node's number has to pass that of the node before it, and an attribute's name
 -- has to come after the one before it in byte order; one that does not has its fault at its first
 -- byte. The order of the faults is this project's own.
-use Rattle.std.specs.Prelude.{ℕ, List, [], ◌∷◌, Bool, ◌&&◌, nat_lt, ◌==◌, if◌then◌else◌, Option, Some, None, Ok, Err}
+use Rattle.std.specs.Prelude.{ℕ, List, [], Bool, ◌&&◌, nat_lt, ◌==◌, if◌then◌else◌, Option, Some, None, Ok, Err}
 use Rattle.std.specs.Ordering.{is_lt, nat_cmp}
 use Rattle.std.specs.Cmp.Lexicographic.{slice_cmp}
 use Rattle.bl_syntax.specs.declared.codec_fault.CodecFault.TheVariants.{NotCanonical}

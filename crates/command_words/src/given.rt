@@ -8,13 +8,11 @@ ghost use Rattle.command_words.specs.declared.words.Task.{Task};
 
 use crate::numerals::long_number;
 use crate::words::Task;
+use bl_syntax::limits::MOST_EVENTS;
 use clap::ArgMatches;
 
 /// The most pieces of an audit.
 const MOST_PIECES: u64 = 64;
-
-/// The greatest number of an event, 2^48 - 1.
-const LAST_EVENT: u64 = 281_474_976_710_655;
 
 /// The most rounds of a generated script.
 const MOST_ROUNDS: u64 = 20_000;
@@ -90,7 +88,7 @@ pub fn export_task(given: &ArgMatches<'_>) -> Option<Task>
         IsTaskOf (codes "export") (rows_of (found_of given.now)) task → ⊥)
         (IsTaskOf (codes "export") (rows_of (found_of given.now))) }
 {
-    match number_given(given, "from", 1, LAST_EVENT) {
+    match number_given(given, "from", 1, MOST_EVENTS) {
         Some(from) => Some(Task::Export(from)),
         None => None,
     }

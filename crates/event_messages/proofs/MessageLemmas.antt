@@ -4,6 +4,7 @@ use Rattle.std.specs.Prelude.{◌==◌}
 use Rattle.std.specs.Int.{w32, w64, to_be_bytes}
 use Rattle.std.proofs.lemmas.Bool.{ltb-false, le-ltb, eqb-true}
 use Rattle.std.proofs.lemmas.List.{take_at, drop_at, take-append-drop, length-append, length-take}
+use Rattle.bl_syntax.specs.declared.limits.TheConstants.{LONGEST_MESSAGE}
 use Rattle.bl_syntax.specs.declared.codec_fault.CodecFault.TheVariants.{Short, BadTag, TooLarge}
 use Rattle.bl_syntax.specs.declared.codec_fault.CodecFault.TheVariants as faults
 use Rattle.bl_syntax.specs.Reading.{number_at}
@@ -15,22 +16,22 @@ use Rattle.event_messages.specs.Messages.{Message, IsMessage, message_spelling, 
 -- ---- what was read
 
 payload_found : (number : ℕ) (bytes rest : List ℕ) (m : Message) → AreBytes bytes → payload_at number bytes ≡ Ok (m, rest) →
-    (m.number ≡ number) × (length m.payload ≤ 1048576) × (bytes ≡ (to_be_bytes w32 (length m.payload) ++ m.payload) ++ rest)
+    (m.number ≡ number) × (length m.payload ≤ LONGEST_MESSAGE) × (bytes ≡ (to_be_bytes w32 (length m.payload) ++ m.payload) ++ rest)
 unfolding payload_at
 payload_found number bytes rest m fits e =
     let a = bind_ok (number_at w32 bytes) (λ len. payload_of number len.0 len.1) (m, rest) e in
     let len = number_found w32 (2 ^ 32) wide32 bytes a.0.0 a.0.1 fits a.1 in
-    by_test (ltb 1048576 a.0.0) _ _ _ a.2 (λ _ fault. absurd cc) (λ few e1.
+    by_test (ltb LONGEST_MESSAGE a.0.0) _ _ _ a.2 (λ _ fault. absurd cc) (λ few e1.
     by_test (ltb (length a.0.1) a.0.0) _ _ _ e1 (λ _ fault. absurd cc) (λ long found.
     let enough : a.0.0 ≤ length a.0.1 = ltb-false _ _ long in
-    let small : a.0.0 ≤ 1048576 = ltb-false _ _ few in
+    let small : a.0.0 ≤ LONGEST_MESSAGE = ltb-false _ _ few in
     let count : length (take a.0.0 a.0.1) ≡ a.0.0 = omega (arith, length-take a.0.0 a.0.1) in
-    let fit : length (take a.0.0 a.0.1) ≤ 1048576 = rw count small in
+    let fit : length (take a.0.0 a.0.1) ≤ LONGEST_MESSAGE = rw count small in
     let whole : bytes ≡ (to_be_bytes w32 a.0.0 ++ take a.0.0 a.0.1) ++ drop a.0.0 a.0.1 =
     len.1 ∙ ap (λ (end : List ℕ). to_be_bytes w32 a.0.0 ++ end) (sym (take-append-drop a.0.0 a.0.1)) ∙ sym (append_assoc (to_be_bytes w32 a.0.0) (take a.0.0 a.0.1) (drop a.0.0 a.0.1)) in
     let sized : bytes ≡ (to_be_bytes w32 (length (take a.0.0 a.0.1)) ++ take a.0.0 a.0.1) ++ drop a.0.0 a.0.1 = whole ∙ ap (λ (k : ℕ). (to_be_bytes w32 k ++ take a.0.0 a.0.1) ++ drop a.0.0 a.0.1) (sym count) in
     let read : Message = record { number = number; payload = take a.0.0 a.0.1 } in
-    subst (λ (p : Message × List ℕ). (p.0.number ≡ number) × (length p.0.payload ≤ 1048576) × (bytes ≡ (to_be_bytes w32 (length p.0.payload) ++ p.0.payload) ++ p.1))
+    subst (λ (p : Message × List ℕ). (p.0.number ≡ number) × (length p.0.payload ≤ LONGEST_MESSAGE) × (bytes ≡ (to_be_bytes w32 (length p.0.payload) ++ p.0.payload) ++ p.1))
     (ok_is (read, drop a.0.0 a.0.1) (m, rest) found) (refl, fit, sized)))
 
 fields_found : (bytes rest : List ℕ) (m : Message) → AreBytes bytes → fields_at bytes ≡ Ok (m, rest) →
@@ -56,10 +57,10 @@ found (first ∷ more) rest m fits e =
 
 -- ---- what was spelled
 
-payload_again : (m : Message) (rest : List ℕ) → length m.payload ≤ 1048576 → payload_at m.number ((to_be_bytes w32 (length m.payload) ++ m.payload) ++ rest) ≡ Ok (m, rest)
+payload_again : (m : Message) (rest : List ℕ) → length m.payload ≤ LONGEST_MESSAGE → payload_at m.number ((to_be_bytes w32 (length m.payload) ++ m.payload) ++ rest) ≡ Ok (m, rest)
 unfolding payload_at
 payload_again m rest few =
-    let small : ltb 1048576 (length m.payload) ≡ false = le-ltb _ _ few in
+    let small : ltb LONGEST_MESSAGE (length m.payload) ≡ false = le-ltb _ _ few in
     let enough : ltb (length (m.payload ++ rest)) (length m.payload) ≡ false = le-ltb _ _ (omega (arith, length-append m.payload rest)) in
     rw (
       number_again w32 (2 ^ 32) wide32 (length m.payload) (m.payload ++ rest) (omega (arith, few)),
@@ -80,7 +81,7 @@ payload_memoryless : (number : ℕ) (bytes : List ℕ) → payload_at number byt
 unfolding payload_at
 payload_memoryless number bytes e =
     bind_memoryless (number_at w32 bytes) (λ len. payload_of number len.0 len.1) (number_memoryless w32 bytes)
-    (λ len h. by_test (ltb 1048576 len.0) _ _ _ h (λ _ fault. cc) (λ _ e1. by_test (ltb (length len.1) len.0) _ _ _ e1 (λ _ fault. cc) (λ _ read. cc))) e
+    (λ len h. by_test (ltb LONGEST_MESSAGE len.0) _ _ _ h (λ _ fault. cc) (λ _ e1. by_test (ltb (length len.1) len.0) _ _ _ e1 (λ _ fault. cc) (λ _ read. cc))) e
 
 memoryless : (bytes : List ℕ) → message_at bytes ≡ Err faults.NoMemory → ⊥
 unfolding message_at fields_at

@@ -4,6 +4,7 @@ use Rattle.std.specs.Prelude.{◌==◌, min, OnOk, IsTrue, nat_eq}
 use Rattle.std.specs.Int.{Width, w32, w64, byte_len, from_be_bytes, to_be_bytes}
 use Rattle.std.proofs.lemmas.Bool.{ltb-false, le-ltb, eqb-true}
 use Rattle.std.proofs.lemmas.List.{take-append-le, drop-append-le, drop-drop, length-append, length-take, length-drop}
+use Rattle.bl_syntax.specs.declared.limits.TheConstants.{LONGEST_MESSAGE}
 use Rattle.bl_syntax.specs.declared.codec_fault.CodecFault.{CodecFault}
 use Rattle.bl_syntax.specs.declared.codec_fault.CodecFault.TheVariants.{Short, BadTag}
 use Rattle.bl_syntax.specs.Reading.{◌>>=◌, Reading, number_at}
@@ -47,7 +48,7 @@ unfolding payload_at
 payload_stands number bytes rest m e =
     let a = bind_ok (number_at w32 bytes) (λ len. payload_of number len.0 len.1) (m, rest) e in
     let ends = number_ends w32 bytes a.0.0 a.0.1 a.1 in
-    by_test (ltb 1048576 a.0.0) _ _ _ a.2 (λ _ fault. absurd cc) (λ few e1.
+    by_test (ltb LONGEST_MESSAGE a.0.0) _ _ _ a.2 (λ _ fault. absurd cc) (λ few e1.
     by_test (ltb (length a.0.1) a.0.0) _ _ _ e1 (λ _ fault. absurd cc) (λ long found.
     let enough : a.0.0 ≤ length a.0.1 = ltb-false _ _ long in
     let count : length (take a.0.0 a.0.1) ≡ a.0.0 = omega (arith, length-take a.0.0 a.0.1) in
@@ -63,7 +64,7 @@ payload_stands number bytes rest m e =
 
 of_more : (number len : ℕ) (bytes more rest : List ℕ) (m : Message) → payload_of number len bytes ≡ Ok (m, rest) → payload_of number len (bytes ++ more) ≡ Ok (m, rest ++ more)
 of_more number len bytes more rest m e =
-    by_test (ltb 1048576 len) _ _ _ e (λ _ fault. absurd cc) (λ few e1.
+    by_test (ltb LONGEST_MESSAGE len) _ _ _ e (λ _ fault. absurd cc) (λ few e1.
     by_test (ltb (length bytes) len) _ _ _ e1 (λ _ fault. absurd cc) (λ long found.
     let enough : len ≤ length bytes = ltb-false _ _ long in
     let long_more : ltb (length (bytes ++ more)) len ≡ false = le-ltb _ _ (omega (arith, enough, length-append bytes more)) in
@@ -73,7 +74,7 @@ of_more number len bytes more rest m e =
 
 of_none : (number len : ℕ) (bytes more : List ℕ) (fault : CodecFault) → fault ≢ Short → payload_of number len bytes ≡ Err fault → payload_of number len (bytes ++ more) ≡ Err fault
 of_none number len bytes more fault other e =
-    by_test (ltb 1048576 len) _ _ _ e (λ large is. rw large is) (λ few e1. by_test (ltb (length bytes) len) _ _ _ e1 (λ _ is. absurd (other cc)) (λ _ read. absurd cc))
+    by_test (ltb LONGEST_MESSAGE len) _ _ _ e (λ large is. rw large is) (λ few e1. by_test (ltb (length bytes) len) _ _ _ e1 (λ _ is. absurd (other cc)) (λ _ read. absurd cc))
 
 -- ---- messages
 

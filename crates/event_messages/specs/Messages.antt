@@ -3,6 +3,7 @@
 use Rattle.std.specs.Prelude.{◌==◌, ℕ, List, [], ◌∷◌, ◌++◌, ◌<◌, ◌≤◌, ◌^◌, length, take, drop, nat_lt, if◌then◌else◌, Ok, Err}
 use Rattle.std.specs.Int.{w32, w64, to_be_bytes}
 use Rattle.bl_syntax.specs.declared.codec_fault.CodecFault.TheVariants.{Short, BadTag, TooLarge}
+use Rattle.bl_syntax.specs.declared.limits.TheConstants.{LONGEST_MESSAGE}
 use Rattle.bl_syntax.specs.Reading.{◌>>=◌, Reading, number_at}
 
 -- an event's number, from 1 in its history, and the payload of its record
@@ -13,7 +14,7 @@ pub record Message : Type 0 where
 -- a message that can be sent: its number fits eight bytes, and its payload has at most 1,048,576
 pub record IsMessage (m : Message) : Type 0 where
   pub numbered : m.number < 2 ^ 64
-  pub few : length m.payload ≤ 1048576
+  pub few : length m.payload ≤ LONGEST_MESSAGE
 
 -- the byte 0x52, the number in eight bytes, the length of the payload in four, and the payload
 unfoldable pub message_spelling : Message → List ℕ
@@ -31,7 +32,7 @@ message_length m = length (message_spelling m)
 -- the payload of the message of that number, of so many bytes; one over the limit is TooLarge
 abbrev pub payload_of : ℕ → ℕ → List ℕ → Reading Message
 payload_of number len bytes =
-    if nat_lt 1048576 len then Err (TooLarge 0) else
+    if nat_lt LONGEST_MESSAGE len then Err (TooLarge 0) else
     if nat_lt (length bytes) len then Err Short else
     Ok (record { number = number; payload = take len bytes }, drop len bytes)
 

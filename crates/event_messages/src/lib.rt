@@ -10,5 +10,4 @@ mod reading;
 mod writing;
 
 pub use reader::{BadFrame, MessageReader};
-pub use reading::MOST_PAYLOAD;
 pub use writing::write_message;

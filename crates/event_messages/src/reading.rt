@@ -5,9 +5,7 @@ ghost use Rattle.event_messages.specs.Messages.{fields_at, message_at, payload_a
 
 use bl_syntax::CodecFault;
 use bl_syntax::fields::{u32_at, u64_at};
-
-/// The most bytes that a payload has.
-pub const MOST_PAYLOAD: usize = 1_048_576;
+use bl_syntax::limits::LONGEST_MESSAGE;
 
 // The payload of the message of that number, after its length.
 #[tactic(auto, unfolding(crate::specs::Messages::payload_at))]
@@ -16,7 +14,7 @@ fn payload_at(number: u64, bytes: &[u8]) -> Result<(u64, &[u8], &[u8]), CodecFau
 {
     let (len, rest) = u32_at(bytes)?;
     let len = len as usize;
-    if MOST_PAYLOAD < len {
+    if LONGEST_MESSAGE < len {
         return Err(CodecFault::TooLarge(0));
     }
     if rest.len() < len {

@@ -2,6 +2,7 @@
 
 ghost use Rattle.std.specs.Prelude.{◌≡◌, ◌≤◌, ◌++◌, OnOk, OnErr, length};
 ghost use Rattle.bl_syntax.specs.BeginsWith.{BeginsWith};
+ghost use Rattle.bl_syntax.specs.declared.limits.TheConstants.{LONGEST_MESSAGE};
 ghost use Rattle.event_messages.specs.Messages.{message_spelling};
 
 use bl_syntax::fields::{u32_bytes, u64_bytes};
@@ -13,7 +14,7 @@ const FIRST_BYTE: u8 = 0x52;
 // Adds a message, or a front of it.
 #[tactic(auto, using(bl_syntax::proofs::BeginsWithLemmas::writing), unfolding(crate::specs::Messages::message_spelling))]
 fn put_message(number: u64, payload: &[u8], out: &mut Bytes) -> Result<(), NoMemory>
-    requires { length payload.now ≤ 1048576 }
+    requires { length payload.now ≤ LONGEST_MESSAGE }
     ensures ok { OnOk result (out.new ≡ out.old ++ message_spelling (record { number = number; payload = payload.now })) }
     ensures err { OnErr result (BeginsWith out.new out.old) }
 {
@@ -25,7 +26,7 @@ fn put_message(number: u64, payload: &[u8], out: &mut Bytes) -> Result<(), NoMem
 
 /// Adds the message of that number with this payload, of at most 1,048,576 bytes, or nothing.
 pub fn write_message(number: u64, payload: &[u8], out: &mut Bytes) -> Result<(), NoMemory>
-    requires { length payload.now ≤ 1048576 }
+    requires { length payload.now ≤ LONGEST_MESSAGE }
     ensures ok { OnOk result (out.new ≡ out.old ++ message_spelling (record { number = number; payload = payload.now })) }
     ensures err { OnErr result (out.new ≡ out.old) }
 {

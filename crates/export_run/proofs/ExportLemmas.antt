@@ -1,7 +1,7 @@
 -- Messages that are written in large pieces.
-use Rattle.std.proofs.Common.{◌≡◌, ◌⊎◌, inl, inr, ◌+◌, ◌-◌, ◌^◌, ◌<◌, ◌≤◌, ℕ, zero, suc, List, [], ◌∷◌, ◌++◌, length, get_or, take, drop, Option, refl, sym, ap, ap₂, ◌∙◌, subst, arith, append_assoc, append-nil}
+use Rattle.std.proofs.Common.{◌≡◌, inl, inr, ◌+◌, ◌-◌, ◌^◌, ◌<◌, ◌≤◌, ℕ, zero, suc, List, [], ◌∷◌, ◌++◌, length, get_or, take, drop, Option, refl, sym, ap, ◌∙◌, subst, arith, append_assoc, append-nil}
 use Rattle.std.specs.Prelude.{IfErr, Result, Err}
-use Rattle.std.proofs.lemmas.List.{length-take-le, take-append-drop, take_all, length-drop}
+use Rattle.std.proofs.lemmas.List.{length-take-le, take-append-drop, length-drop}
 use Rattle.policy_statement.specs.Ring.{KeyView}
 use Rattle.access_history.specs.Base.{BaseView}
 use Rattle.access_history.specs.History.{authority_with}
@@ -9,9 +9,7 @@ use Rattle.access_history.specs.Lawful.{IsLawful}
 use Rattle.access_history.specs.Replay.{replay}
 use Rattle.access_history.specs.declared.event.Event.{Event}
 use Rattle.event_messages.specs.Messages.{Message, message_spelling, messages_spelling}
-use Rattle.op_gate.specs.Damage.{MayComeNext}
 use Rattle.payload_limits.specs.Limits.{PayloadsAreShort}
-use Rattle.pcfs_ports.specs.Faults.{HasRisen}
 use Rattle.pcfs_ports.specs.Observable.{with_back, HoldsSome}
 use Rattle.pcfs_session.specs.Outbox.{GoesOut}
 use Rattle.pcfs_session.specs.declared.outbox.SendFault.{SendFault}
@@ -20,7 +18,7 @@ use Rattle.pcfs_session.proofs.OutboxLemmas.{with_back-nil, GoesOut-all, GoesOut
 use Rattle.pcfs_session.proofs.StoredLemmas.{HasRisen-earlier}
 use Rattle.pcfs_store.proofs.FittingLemmas.{fits_fields}
 use Rattle.recover.proofs.FollowingLemmas.{next_at}
-use Rattle.export_run.specs.Exported.{HoldsFirst, TellsExport, message_of, messages_of, messages_from}
+use Rattle.export_run.specs.Exported.{TellsExport, message_of, messages_of, messages_from}
 use Rattle.export_run.specs.Outgoing.{AreCollectedOrOut, AreCutShort, FitMessages, FitsMessage, IsUnsent}
 
 -- ---- spellings

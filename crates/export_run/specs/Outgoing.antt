@@ -1,4 +1,5 @@
 -- Messages that are collected before they are written (this project's own).
+use Rattle.bl_syntax.specs.declared.limits.TheConstants.{LONGEST_MESSAGE}
 use Rattle.std.specs.Prelude.{◌≡◌, ◌⊎◌, ◌≤◌, ℕ, List, [], length, Option}
 use Rattle.std.specs.List.{AllByRecursion}
 use Rattle.pcfs_ports.specs.Faults.{HasRisen}
@@ -13,7 +14,7 @@ use Rattle.export_run.specs.Exported.{HoldsFirst}
 -- the event fits the fields of its record, and its record a message
 pub record FitsMessage (event : Event) : Type 0 where
   pub fields : HasFittingFields event
-  pub few : IsSpellableEvent event → length (event_spelling event) ≤ 1048576
+  pub few : IsSpellableEvent event → length (event_spelling event) ≤ LONGEST_MESSAGE
 
 abbrev pub FitMessages : List Event → Type 0
 FitMessages events = AllByRecursion FitsMessage events

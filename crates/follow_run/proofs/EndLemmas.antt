@@ -2,7 +2,7 @@
 use Rattle.std.proofs.Common.{◌≡◌, ◌≤◌, ◌+◌, ℕ, List, [], ◌∷◌, ◌++◌, length, Option, None, refl, sym, ap, ◌∙◌, subst, append_assoc, append-nil, length-append, arith}
 use Rattle.std.specs.List.{AllByRecursion}
 use Rattle.pcfs_ports.specs.Faults.{HasRisen}
-use Rattle.pcfs_ports.specs.Observable.{with_front, with_back, IsAtEnd, ReadsToEnd}
+use Rattle.pcfs_ports.specs.Observable.{with_front, IsAtEnd, ReadsToEnd}
 use Rattle.pcfs_ports.proofs.TakesLemmas.{first_of_taken}
 use Rattle.bl_syntax.specs.Codec.{AreBytes}
 use Rattle.event_messages.specs.Messages.{Message, IsMessage, messages_spelling}

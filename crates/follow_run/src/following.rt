@@ -11,10 +11,9 @@ ghost use Rattle.follow_run.specs.FollowRun.{FollowsInput};
 ghost use Rattle.follow_run.specs.Followed.{TakesAll, StopsWithin, EndsFollowing, standing_at};
 
 use crate::follow_end::{FollowEnd, write_end};
-use crate::input::{new_piece, read_piece};
 use crate::taking::take_messages;
 use event_messages::MessageReader;
-use pcfs_ports::{Disk, INPUT_LIMIT, Sink, Source};
+use pcfs_ports::{Disk, INPUT_LIMIT, Sink, Source, new_piece, read_piece};
 use pcfs_store::Store;
 use std::alloc::Global;
 

@@ -7,7 +7,6 @@
 mod answers;
 mod follow_end;
 mod following;
-mod input;
 mod taking;
 
 pub use answers::number_of;

@@ -25,7 +25,6 @@ use Rattle.line_forms.specs.Modes.{known}
 use Rattle.line_words.specs.Cutting.{first_cut}
 use Rattle.line_forms.specs.Lines.{IsAsked, IsLineIn, IsUnreadIn}
 use Rattle.line_text.specs.Lines.{lines_of}
-use Rattle.pcfs_inquiry.specs.declared.reading.InquiryFault.TheVariants as faults
 use Rattle.pcfs_inquiry.specs.Inquiry.{AreSaid, HasFirstFault, IsBadAfter, IsOutOfPlace, SaysStatement, after_goal, early_goal, faulty, in_line, late_statement, no_goal, numbered_from}
 use Rattle.pcfs_inquiry.specs.Reading.{IsAskedAfter, IsEnding, IsRead, IsUnread, IsUnreadAfter, fault_at}
 

@@ -10,3 +10,4 @@ pub mod Image
 pub mod DiskLaws
 pub mod MemoryListener
 pub mod Accepted
+pub mod Telling

@@ -1,9 +1,10 @@
 //! Listeners: where connections come from.
 
-ghost use Rattle.std.specs.Prelude.{◌≡◌, ◌≢◌, ℕ, ◌≤◌, ◌↔◌, [], ◌∷◌, ◌++◌, Option, Some, IfSome, IsErr, OnOk, OnErr, length};
+ghost use Rattle.std.specs.Prelude.{◌≡◌, ◌≢◌, ℕ, ◌≤◌, ◌↔◌, [], ◌∷◌, ◌++◌, List, Option, Some, IfSome, IsErr, OnOk, OnErr, length};
 ghost use Rattle.pcfs_ports.specs.Faults.{HasRisen};
 ghost use Rattle.pcfs_ports.specs.Calls.{no_calls, FailsNext, after_call, after_failed_call};
 ghost use Rattle.pcfs_ports.specs.Accepted.{connections_of, count_of, FallsBy};
+ghost use Rattle.pcfs_ports.specs.Telling.{IfGiven, IsAt, AreTakenOff, AreAllGiven};
 
 use super::accepted::Accepted;
 use super::faults::{CallPlan, Failed};
@@ -16,15 +17,18 @@ use std::marker::Model;
 
 /// Where connections come from, one after another.
 ///
-/// Its meaning is how many connections are still to come, which it tells or does not tell; whether it is over; and a count
-/// of faults that never falls, and counts as risen if it stands at `u64::MAX`. Whether it tells how many come is the
-/// same after each call as before.
+/// Its meaning is which connections are still to come, in their order, each with its input and its output as they are when
+/// it is accepted, and how many come; it may tell both, the number alone, or nothing, and does so after each call as before.
+/// Further whether it is over; and a count of faults that never falls, and counts as risen if it stands at `u64::MAX`.
 pub trait Listener {
     /// Where a connection's bytes come from.
     type In: Source + Send + Drop;
 
     /// Where a connection's bytes go.
     type Out: Sink + Send + Drop;
+
+    // The connections that are still to come, if it tells them.
+    ghost queue: { Self → Option (List (Self.In × Self.Out)) };
 
     // How many connections are still to come, if it tells that.
     ghost waiting: { Self → Option ℕ };
@@ -35,20 +39,24 @@ pub trait Listener {
     // How many faults it has had.
     ghost faults: { Self → ℕ };
 
-    /// Begins to listen on a port. `Failed` comes only if the count of faults rose.
+    /// Begins to listen on a port. It gives no connection. `Failed` comes only if the count of faults rose.
     fn listen(&mut self, port: u16) -> Result<(), Failed>
+        ensures queue { queue self.new ≡ queue self.old }
         ensures waiting { waiting self.new ≡ waiting self.old }
         ensures risen { OnErr result (HasRisen (faults self.old) (faults self.new)) }
         ensures never_falls { faults self.old ≤ faults self.new };
 
-    /// The next connection. It may wait for one.
+    /// The next connection, the first of those that are told. It may wait for one.
     ///
     /// `Closed` comes only if it is over, and none is still to come. `Failed` comes only if the count of faults rose.
     fn accept(&mut self, alloc: Global) -> Accepted<Self::In, Self::Out>
+        ensures first { IfGiven result (λ input output. IsAt (queue self.old) 0 input output) }
+        ensures queue { AreTakenOff (count_of result) (queue self.old) (queue self.new) }
         ensures waiting { FallsBy (count_of result) (waiting self.old) (waiting self.new) }
         ensures closed { result ≡ Accepted.Closed → over self.new }
         ensures none_left { result ≡ Accepted.Closed →
             IfSome (waiting self.new) (λ left. left ≡ 0) }
+        ensures all_given { result ≡ Accepted.Closed → AreAllGiven (queue self.new) }
         ensures risen { result ≡ Accepted.Failed → HasRisen (faults self.old) (faults self.new) }
         ensures never_falls { faults self.old ≤ faults self.new };
 }
@@ -94,6 +102,8 @@ impl Listener for MemoryListener {
     type In = MemorySource;
 
     type Out = MemorySink;
+
+    ghost queue = { λ s. Some s.queue };
 
     ghost waiting = { λ s. Some (length s.queue) };
 

@@ -1,9 +1,10 @@
 //! Nonces: sixteen bytes at a time that a client has to sign.
 
-ghost use Rattle.std.specs.Prelude.{◌≡◌, ℕ, ◌<◌, ◌≤◌, ◌↔◌, ◌⊎◌, IfOk, IsErr, OnOk, OnErr, length, take, is_ok, if◌then◌else◌};
+ghost use Rattle.std.specs.Prelude.{◌≡◌, ℕ, ◌<◌, ◌≤◌, ◌↔◌, ◌⊎◌, List, Option, Some, None, IfOk, IsErr, OnOk, OnErr, length, take, is_ok, if◌then◌else◌};
 ghost use Rattle.pcfs_ports.specs.Faults.{HasRisen, raise};
 ghost use Rattle.pcfs_ports.specs.Calls.{no_calls, FailsNext};
 ghost use Rattle.pcfs_ports.specs.MemorySource.{after_read, after_failed_read};
+ghost use Rattle.pcfs_ports.specs.Telling.{AreTakenOff, IsNextNonce, bytes_taken};
 
 use super::faults::{CallPlan, Failed};
 use bl_syntax::{Bytes, Numbers};
@@ -18,14 +19,20 @@ pub const NONCE_LEN: usize = 16;
 
 /// Where nonces come from.
 ///
-/// Its meaning is a count of faults that never falls, and counts as risen if it stands at `u64::MAX`. Nothing is told
-/// of the bytes. Asking takes no memory.
+/// Its meaning is of which bytes they are made, sixteen at a time, which it tells or does not tell, after each call as
+/// before; and a count of faults that never falls, and counts as risen if it stands at `u64::MAX`. Asking takes no memory.
 pub trait Nonces {
+    // The bytes that are still to be given, if it tells them.
+    ghost coming: { Self → Option (List ℕ) };
+
     // How many faults it has had.
     ghost faults: { Self → ℕ };
 
-    /// The next nonce. `Failed` comes only if the count of faults rose.
+    /// The next nonce: the first sixteen of the bytes that are told. `Failed` comes only if the count of faults rose.
     fn next(&mut self) -> Result<[u8; 16], Failed>
+        ensures sixteen { IfOk result (λ nonce. length nonce ≡ NONCE_LEN) }
+        ensures first { IfOk result (λ nonce. IsNextNonce (coming self.old) nonce) }
+        ensures coming { AreTakenOff (bytes_taken (is_ok result)) (coming self.old) (coming self.new) }
         ensures risen { OnErr result (HasRisen (faults self.old) (faults self.new)) }
         ensures never_falls { faults self.old ≤ faults self.new };
 }
@@ -65,6 +72,8 @@ impl ListNonces {
 }
 
 impl Nonces for ListNonces {
+    ghost coming = { λ s. Some s.left };
+
     ghost faults = { λ s. s.calls.faults };
 
     fn next(&mut self) -> Result<[u8; 16], Failed>
@@ -137,9 +146,13 @@ fn read_nonce<R: Files>(rt: &R, file: &mut Option<R::File>) -> io::Result<[u8; 1
 }
 
 impl<'a, R: Files + Eprint> Nonces for UrandomNonces<'a, R> {
+    ghost coming = { λ _. None };
+
     ghost faults = { λ s. s };
 
     fn next(&mut self) -> Result<[u8; 16], Failed>
+        ensures sixteen { IfOk result (λ nonce. length nonce ≡ NONCE_LEN) }
+        ensures first { IfOk result (λ nonce. IsNextNonce None nonce) }
         ensures faults { self.new ≡ (if is_ok result then self.old else raise self.old) }
         ensures risen { OnErr result (HasRisen self.old self.new) }
         ensures never_falls { self.old ≤ self.new }

@@ -28,13 +28,14 @@ pub trait Sink {
     /// Adds the first bytes of `piece` after those that are held, and returns how many: at least one
     /// of a piece that is not empty.
     ///
-    /// `Failed` comes only if the count of faults rose, and adds nothing.
+    /// `Failed` comes only if the count of faults rose, and adds nothing; at each other answer it stands still.
     fn write(&mut self, piece: &[u8]) -> Result<usize, Failed>
         ensures bound { IfOk result (λ count. count ≤ length piece.now) }
         ensures progress { IfOk result (λ count. 0 < length piece.now → 0 < count) }
         ensures ok { IfOk result (λ count.
             held self.new ≡ with_back (held self.old) (take count piece.now)) }
         ensures err { OnErr result (held self.new ≡ held self.old) }
+        ensures steady { OnOk result (faults self.new ≡ faults self.old) }
         ensures risen { OnErr result (HasRisen (faults self.old) (faults self.new)) }
         ensures never_falls { faults self.old ≤ faults self.new };
 }

@@ -1,6 +1,6 @@
 //! Sources: where bytes come from.
 
-ghost use Rattle.std.specs.Prelude.{◌≡◌, ℕ, ◌<◌, ◌≤◌, ◌↔◌, List, Option, None, Some, IfOk, IsErr, OnErr, length, take, min, is_ok, if◌then◌else◌};
+ghost use Rattle.std.specs.Prelude.{◌≡◌, ℕ, ◌<◌, ◌≤◌, ◌↔◌, List, Option, None, Some, IfOk, IsErr, OnOk, OnErr, length, take, min, is_ok, if◌then◌else◌};
 ghost use Rattle.std.specs.Io.KnownBytes.{ReadConsumes};
 ghost use Rattle.pcfs_ports.specs.Faults.{HasRisen, raise};
 ghost use Rattle.pcfs_ports.specs.Observable.{with_front, IsAtEnd};
@@ -28,8 +28,8 @@ pub trait Source {
     /// Takes the next bytes into the front of `buf`, and returns how many.
     ///
     /// No byte for a `buf` that is not empty is the end of the input. `Failed` comes only if the
-    /// count of faults rose, and takes nothing. What stands in `buf` after the bytes that were
-    /// taken, or at `Failed`, is left open.
+    /// count of faults rose, and takes nothing; at each other answer it stands still. What stands in
+    /// `buf` after the bytes that were taken, or at `Failed`, is left open.
     fn read(&mut self, buf: &mut [u8]) -> Result<usize, Failed>
         ensures bound { IfOk result (λ count. count ≤ length buf.new) }
         ensures ok { IfOk result (λ count.
@@ -37,6 +37,7 @@ pub trait Source {
         ensures end { IfOk result (λ count.
             count ≡ 0 → 0 < length buf.new → IsAtEnd (left self.new)) }
         ensures err { OnErr result (left self.new ≡ left self.old) }
+        ensures steady { OnOk result (faults self.new ≡ faults self.old) }
         ensures risen { OnErr result (HasRisen (faults self.old) (faults self.new)) }
         ensures never_falls { faults self.old ≤ faults self.new };
 }

@@ -6,6 +6,7 @@ ghost use Rattle.pcfs_ports.specs.Observable.{with_front, with_back, IsAtEnd, Re
 ghost use Rattle.pcfs_ports.specs.declared.streams.TakeFault.TheVariants.{NoMemory as OutOfMemory, Failed as SourceFailed};
 
 use super::faults::Failed;
+use super::pieces::{new_piece, read_piece};
 use super::sinks::Sink;
 use super::sources::Source;
 use bl_syntax::{Bytes, NoMemory};
@@ -13,9 +14,6 @@ use std::alloc::{AllocError, Global};
 
 /// An input is shorter than this many bytes, 1 GiB.
 pub const INPUT_LIMIT: usize = 1_073_741_824;
-
-/// How many bytes a source is asked for at once, at most.
-const PIECE_LEN: usize = 65_536;
 
 /// Why an input was not read to its end.
 #[derive(Clone, Copy, Debug, PartialEq, Eq)]
@@ -55,10 +53,11 @@ impl From<Failed> for TakeFault {
 /// Writes all of the bytes, in as many calls as the sink takes for it.
 ///
 /// `Failed` comes only if the sink's count of faults rose. Some first part may have been written
-/// then.
+/// then. If all were written, the count stands still.
 pub fn write_all<O: Sink>(output: &mut O, bytes: &[u8]) -> Result<(), Failed>
     ensures ok { OnOk result (O.held output.new ≡ with_back (O.held output.old) bytes.now) }
     ensures err { OnErr result (HoldsSome (O.held output.old) (O.held output.new) bytes.now) }
+    ensures steady { OnOk result (O.faults output.new ≡ O.faults output.old) }
     ensures risen { OnErr result (HasRisen (O.faults output.old) (O.faults output.new)) }
     ensures never_falls { O.faults output.old ≤ O.faults output.new }
 {
@@ -67,13 +66,6 @@ pub fn write_all<O: Sink>(output: &mut O, bytes: &[u8]) -> Result<(), Failed>
         at += output.write(&bytes[at..])?;
     }
     Ok(())
-}
-
-// A buffer of zeros.
-fn zeros(alloc: Global, len: usize) -> Result<Vec<u8>, AllocError>
-    ensures { IfOk result (λ buffer. length buffer.items ≡ len) }
-{
-    vec![in alloc; 0u8; len]
 }
 
 // Moves bytes from the input after those that were taken, by one read, and returns how many: none
@@ -96,8 +88,7 @@ fn take_piece<I: Source>(
         HasRisen (I.faults input.old) (I.faults input.new) }
     ensures never_falls { I.faults input.old ≤ I.faults input.new }
 {
-    let room = piece.len().min(INPUT_LIMIT - bytes.len());
-    let count = input.read(&mut piece[..room])?;
+    let count = read_piece(input, piece, INPUT_LIMIT - bytes.len())?;
     bytes.extend(&piece[..count])?;
     Ok(count)
 }
@@ -117,7 +108,7 @@ pub fn read_to_end<I: Source>(alloc: Global, input: &mut I) -> Result<Bytes, Tak
         HasRisen (I.faults input.old) (I.faults input.new) }
     ensures never_falls { I.faults input.old ≤ I.faults input.new }
 {
-    let mut piece = zeros(alloc, PIECE_LEN)?;
+    let mut piece = new_piece(alloc)?;
     let mut bytes = Bytes::new(alloc);
     while bytes.len() < INPUT_LIMIT {
         if take_piece(input, &mut piece, &mut bytes)? == 0 {
@@ -130,6 +121,7 @@ pub fn read_to_end<I: Source>(alloc: Global, input: &mut I) -> Result<Bytes, Tak
 #[cfg(test)]
 mod tests {
     use super::*;
+    use crate::pieces::PIECE_LEN;
     use crate::sinks::{MemorySink, StdSink};
     use crate::sources::{MemorySource, StdSource};
     use bl_syntax::Numbers;

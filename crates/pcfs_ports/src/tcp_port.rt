@@ -2,6 +2,7 @@
 
 ghost use Rattle.std.specs.Prelude.{◌≡◌, ◌≢◌, ℕ, ◌≤◌, None, OnErr, is_ok, if◌then◌else◌};
 ghost use Rattle.pcfs_ports.specs.Faults.{raise, HasRisen};
+ghost use Rattle.pcfs_ports.specs.Telling.{IfGiven, IsAt};
 
 use super::accepted::Accepted;
 use super::faults::Failed;
@@ -19,7 +20,7 @@ use std::net::{Ipv4Addr, Net, OpenListener, OpenStream, TcpListener};
 /// A connection is read and written in pieces, and its two halves can be used at once. It is sent without delay, where
 /// the system has `TCP_NODELAY`, and closes once both halves were dropped. A connection that was broken off before it was
 /// accepted is passed over. Each other error is a fault, and is said on the standard error; so is that it listens. It is
-/// never over, and does not tell how many connections come.
+/// never over, and does not tell which connections come, nor how many.
 #[derive(Drop)]
 pub struct TcpPort<'a, R: Net> {
     rt: &'a R,
@@ -78,6 +79,8 @@ where
 
     type Out = StdSink<R::Stream>;
 
+    ghost queue = { λ _. None };
+
     ghost waiting = { λ _. None };
 
     ghost over = { λ _. ⊥ };
@@ -104,6 +107,7 @@ where
     }
 
     fn accept(&mut self, _alloc: Global) -> Accepted<StdSource<R::Stream>, StdSink<R::Stream>>
+        ensures first { IfGiven result (λ input output. IsAt None 0 input output) }
         ensures never_closed { result ≢ Accepted.Closed }
         ensures memory { result ≢ Accepted.NoMemory }
         ensures failed { result ≡ Accepted.Failed → self.new ≡ raise self.old }

@@ -11,12 +11,12 @@ use crate::serving::serve_store;
 use crate::status_lines::write_end;
 use bl_syntax::limits::FIRST_MOMENT;
 use command_words::{Task, task_of};
-use pcfs_ports::{Clock, Disk, Sink, Source};
+use pcfs_ports::{Disk, Listener, Nonces, Sink, Source};
 use pcfs_secrets::Secrets;
-use pcfs_server::{TellingListener, TellingNonces};
 use pcfs_tools::answering::OUT_OF_MEMORY;
 use pcfs_top::run::{Ended, run_asked, write_unopened};
 use recover::open_store;
+use session_history::TurnClock;
 use std::alloc::Global;
 use std::io::Eprint;
 use std::sync::Wait;
@@ -44,9 +44,9 @@ fn serve<
     R: Threads + Wait + Sync + Eprint,
     O: Sink,
     D: Disk + Send,
-    C: Clock + Sync,
-    L: TellingListener + Sync,
-    N: TellingNonces + Sync,
+    C: TurnClock + Sync,
+    L: Listener + Sync,
+    N: Nonces + Sync,
 >(
     rt: &R,
     alloc: Global,
@@ -86,7 +86,7 @@ fn serve<
     match open_store(alloc, a, b, secrets.seal_key.as_slice(), ring) {
         Ok(store) => {
             store.lemma_is_store();
-            warn_of_clock(rt, clock.now(), store.gate().history().moment());
+            warn_of_clock(rt, clock.now(&store), store.gate().history().moment());
             let (end, store) = serve_store(rt, alloc, store, port, count, clock, net, nonces);
             store.lemma_is_store();
             let status = write_end(alloc, output, end, &store);
@@ -132,9 +132,9 @@ pub fn run<
     I: Source,
     O: Sink,
     D: Disk + Send,
-    C: Clock + Sync,
-    L: TellingListener + Sync,
-    N: TellingNonces + Sync,
+    C: TurnClock + Sync,
+    L: Listener + Sync,
+    N: Nonces + Sync,
 >(
     rt: &R,
     alloc: Global,

@@ -7,10 +7,11 @@ ghost use Rattle.session_service.specs.Sessions.{sources_of};
 ghost use Rattle.pcfs_run.specs.Laws.{GoneAdmitNothing, AddsNothing, NothingIsAddedUnsaid, EachEntryHasItsLine};
 ghost use Rattle.pcfs_run.specs.Healthy.{HealthyRunsEndSo};
 
-use pcfs_ports::{Clock, Disk, Listener, Source};
+use pcfs_ports::{Disk, Listener, Source};
+use session_history::TurnClock;
 
 /// If no connection may say a line, nothing is added.
-pub fn nothing_is_added_unsaid<I: Source, C: Clock>(input: &I, clock: &C)
+pub fn nothing_is_added_unsaid<I: Source, C: TurnClock>(input: &I, clock: &C)
     ensures { (inputs : Option (List (Option (List ℕ)))) (nonces : Option (List ℕ)) →
         NothingIsAddedUnsaid (sources_of (C.gives clock.now) I.left inputs nonces) }
 {
@@ -20,7 +21,7 @@ pub fn nothing_is_added_unsaid<I: Source, C: Clock>(input: &I, clock: &C)
 
 /// If the listener tells its connections before the run, and the inputs of all of them tell that they are empty, nothing is
 /// added.
-pub fn empty_connections_add_nothing<I: Source, C: Clock>(input: &I, clock: &C)
+pub fn empty_connections_add_nothing<I: Source, C: TurnClock>(input: &I, clock: &C)
     ensures { (inputs : List (Option (List ℕ))) (nonces : Option (List ℕ)) →
         AllByRecursion (λ left. left ≡ Some []) inputs →
         AddsNothing (sources_of (C.gives clock.now) I.left (Some inputs) nonces) }
@@ -31,7 +32,7 @@ pub fn empty_connections_add_nothing<I: Source, C: Clock>(input: &I, clock: &C)
 
 /// Each entry that was added is one that a line of a session asks for, of somebody who logged in, at a moment that the clock
 /// gives; and so is the event with which a disk failed, which may be on the disk.
-pub fn each_entry_has_its_line<I: Source, C: Clock>(input: &I, clock: &C)
+pub fn each_entry_has_its_line<I: Source, C: TurnClock>(input: &I, clock: &C)
     ensures { (inputs : Option (List (Option (List ℕ)))) (nonces : Option (List ℕ)) →
         EachEntryHasItsLine (sources_of (C.gives clock.now) I.left inputs nonces) }
 {
@@ -41,7 +42,7 @@ pub fn each_entry_has_its_line<I: Source, C: Clock>(input: &I, clock: &C)
 
 /// A run over ports of which no count of faults rose ends with 0 or 9, or with another status by its cause, and never with 5
 /// to 8.
-pub fn healthy_runs_end_so<I: Source, D: Disk, C: Clock, L: Listener>(
+pub fn healthy_runs_end_so<I: Source, D: Disk, C: TurnClock, L: Listener>(
     input: &I,
     disk: &D,
     clock: &C,

@@ -10,9 +10,10 @@ ghost use Rattle.shared_store.specs.GoesOn.{HasGoneOn};
 ghost use Rattle.pcfs_run.specs.Passes.{IsGrown};
 ghost use Rattle.pcfs_run.specs.Served.{AreAttended};
 
-use pcfs_ports::{Clock, Disk};
-use pcfs_server::{ServeEnd, TellingListener, TellingNonces, serve_conns};
+use pcfs_ports::{Disk, Listener, Nonces};
+use pcfs_server::{ServeEnd, serve_conns};
 use pcfs_store::Store;
+use session_history::TurnClock;
 use session_service::{SessionDoor, SessionService};
 use shared_store::OpenedStore;
 use std::alloc::Global;
@@ -28,9 +29,9 @@ fn attend_all<
     'a,
     R: Threads + Wait + Sync,
     D: Disk + Send,
-    C: Clock + Sync,
-    L: TellingListener + Sync,
-    N: TellingNonces + Sync,
+    C: TurnClock + Sync,
+    L: Listener + Sync,
+    N: Nonces + Sync,
 >(
     rt: &R,
     alloc: Global,
@@ -68,9 +69,9 @@ fn attend_all<
 fn serve_under<
     R: Threads + Wait + Sync,
     D: Disk + Send,
-    C: Clock + Sync,
-    L: TellingListener + Sync,
-    N: TellingNonces + Sync,
+    C: TurnClock + Sync,
+    L: Listener + Sync,
+    N: Nonces + Sync,
 >(
     rt: &R,
     alloc: Global,
@@ -121,9 +122,9 @@ fn serve_under<
 pub fn serve_store<
     R: Threads + Wait + Sync,
     D: Disk + Send,
-    C: Clock + Sync,
-    L: TellingListener + Sync,
-    N: TellingNonces + Sync,
+    C: TurnClock + Sync,
+    L: Listener + Sync,
+    N: Nonces + Sync,
 >(
     rt: &R,
     alloc: Global,

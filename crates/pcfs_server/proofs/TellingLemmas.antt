@@ -3,7 +3,7 @@ use Rattle.std.proofs.Common.{◌≡◌, ◌∙◌, ℕ, zero, suc, ◌+◌, Lis
 use Rattle.std.specs.Prelude.{slice_get}
 use Rattle.std.specs.Option.{option_map}
 use Rattle.std.proofs.lemmas.List.{drop-drop}
-use Rattle.pcfs_server.specs.Telling.{IsAt, AreTakenOff}
+use Rattle.pcfs_ports.specs.Telling.{IsAt, AreTakenOff}
 
 -- nothing was taken at first
 pub taken_none : {A : Type 0} (told : Option (List A)) → AreTakenOff 0 told told

@@ -11,7 +11,6 @@ pub mod laws;
 mod listener_and_door;
 mod service;
 mod serving;
-mod telling;
 #[cfg(test)]
 mod tests;
 mod threads;
@@ -19,4 +18,3 @@ mod threads;
 pub use end::ServeEnd;
 pub use service::{AdmitFault, Service};
 pub use serving::serve_conns;
-pub use telling::{TellingListener, TellingNonces};

@@ -4,16 +4,15 @@ ghost use Rattle.std.specs.Prelude.{◌≡◌, ◌+◌, ◌<◌, ◌≤◌, true
 ghost use Rattle.std.specs.Borrow.{GName};
 ghost use Rattle.pcfs_ports.specs.Faults.{HasRisen};
 ghost use Rattle.pcfs_ports.specs.Accepted.{count_of, FallsBy};
-ghost use Rattle.pcfs_server.specs.Telling.{IfGiven, IsAt, AreTakenOff};
+ghost use Rattle.pcfs_ports.specs.Telling.{IfGiven, IsAt, AreTakenOff};
 
 use super::end::ServeEnd;
 use super::service::{AdmitFault, Service};
-use super::telling::TellingListener;
-use pcfs_ports::Accepted;
+use pcfs_ports::{Accepted, Listener};
 use std::alloc::Global;
 
 /// A listener and a service's door, by reference, and the end that was noted.
-pub(crate) trait Front<L: TellingListener, H: Service<L::In, L::Out>> {
+pub(crate) trait Front<L: Listener, H: Service<L::In, L::Out>> {
     ghost use Rattle.pcfs_server.specs.declared.end.ServeEnd.{ServeEnd};
 
     ghost listener: { Self → L };
@@ -85,7 +84,7 @@ pub(crate) struct ListenerAndDoor<'l, 'd, L, D> {
     pub(crate) end: ServeEnd,
 }
 
-impl<'l, 'd, L: TellingListener, H: Service<L::In, L::Out>> Front<L, H>
+impl<'l, 'd, L: Listener, H: Service<L::In, L::Out>> Front<L, H>
     for ListenerAndDoor<'l, 'd, L, H::Door> {
     ghost listener = { λ d. d.listener.now };
 
@@ -96,7 +95,7 @@ impl<'l, 'd, L: TellingListener, H: Service<L::In, L::Out>> Front<L, H>
     ghost refs = { λ d. (d.listener.ghost_name, d.door.ghost_name) };
 
     fn accept(&mut self, alloc: Global) -> Accepted<L::In, L::Out> {
-        self.listener.next(alloc)
+        self.listener.accept(alloc)
     }
 
     fn admit(&mut self, service: &H, alloc: Global) -> Result<H::Token, AdmitFault> {

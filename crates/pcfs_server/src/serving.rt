@@ -4,16 +4,15 @@ ghost use Rattle.std.specs.Prelude.{◌≡◌, ℕ, ◌+◌, ◌<◌, ◌≤◌,
 ghost use Rattle.slab.specs.Slab.{slab_len};
 ghost use Rattle.pcfs_ports.specs.Faults.{HasRisen};
 ghost use Rattle.pcfs_server.specs.Table.{AllHave};
-ghost use Rattle.pcfs_server.specs.Telling.{IsAt};
+ghost use Rattle.pcfs_ports.specs.Telling.{IsAt};
 ghost use Rattle.pcfs_server.specs.Ends.{number_of, HasTaken, HasCause, IsNetFault};
 
 use super::end::ServeEnd;
 use super::ended::EndedThreads;
 use super::listener_and_door::{Front, ListenerAndDoor};
 use super::service::{AdmitFault, Service};
-use super::telling::TellingListener;
 use super::threads::{Table, begin, make_room};
-use pcfs_ports::Accepted;
+use pcfs_ports::{Accepted, Listener};
 use slab::Slab;
 use std::alloc::Global;
 use std::sync::Wait;
@@ -26,7 +25,7 @@ fn accept_all<
     's,
     'e,
     R: Threads + Wait + Sync,
-    L: TellingListener,
+    L: Listener,
     H: Service<L::In, L::Out> + Sync,
     F: Front<L, H>,
 >(
@@ -93,7 +92,7 @@ fn serve<
     's,
     'e,
     R: Threads + Wait + Sync,
-    L: TellingListener,
+    L: Listener,
     H: Service<L::In, L::Out> + Sync,
     F: Front<L, H>,
 >(
@@ -143,7 +142,7 @@ where
 fn serve_in_scope<
     'e,
     F: Front<L, H>,
-    L: TellingListener,
+    L: Listener,
     H: Service<L::In, L::Out> + Sync,
     R: Threads + Wait + Sync,
 >(
@@ -227,7 +226,7 @@ where
 /// faults or the door's rose. `NoMemory` may come at any time before that. Memory that is refused for a thread is no end:
 /// the caller then attends the connection itself. A connection that was accepted and not admitted is dropped. With a
 /// `count` of 0 it does not listen.
-pub fn serve_conns<R: Threads + Wait + Sync, L: TellingListener, H: Service<L::In, L::Out> + Sync>(
+pub fn serve_conns<R: Threads + Wait + Sync, L: Listener, H: Service<L::In, L::Out> + Sync>(
     rt: &R,
     alloc: Global,
     listener: &mut L,
@@ -257,7 +256,7 @@ pub fn serve_conns<R: Threads + Wait + Sync, L: TellingListener, H: Service<L::I
     ensures door_faults { H.faults door.old ≤ H.faults door.new }
     ensures kept { H.kept door.new ≡ H.kept door.old }
 {
-    if count > 0 && listener.start(port).is_err() {
+    if count > 0 && listener.listen(port).is_err() {
         return ServeEnd::NetFault(0);
     }
     let ended = EndedThreads::new(alloc);

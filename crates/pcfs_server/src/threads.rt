@@ -7,8 +7,7 @@ ghost use Rattle.pcfs_server.specs.Table.{AllHave};
 use super::ended::EndedThreads;
 use super::listener_and_door::Front;
 use super::service::Service;
-use super::telling::TellingListener;
-use pcfs_ports::{Sink, Source};
+use pcfs_ports::{Listener, Sink, Source};
 use slab::Slab;
 use std::alloc::Global;
 use std::marker::PhantomData;
@@ -62,7 +61,7 @@ fn attend_and_close<R: Wait, I: Source + Drop, O: Sink + Drop, H: Service<I, O>>
 }
 
 // Joins the thread of this key, if there is one, and lets its token leave.
-fn join_one<R: Threads, L: TellingListener, H: Service<L::In, L::Out>, F: Front<L, H>>(
+fn join_one<R: Threads, L: Listener, H: Service<L::In, L::Out>, F: Front<L, H>>(
     rt: &R,
     service: &H,
     table: &mut Table<L::In, L::Out, H, H::Token>,
@@ -91,12 +90,7 @@ fn join_one<R: Threads, L: TellingListener, H: Service<L::In, L::Out>, F: Front<
 }
 
 /// Joins the threads that have ended, and waits for ends until fewer than `most` threads are left.
-pub(crate) fn make_room<
-    R: Threads + Wait,
-    L: TellingListener,
-    H: Service<L::In, L::Out>,
-    F: Front<L, H>,
->(
+pub(crate) fn make_room<R: Threads + Wait, L: Listener, H: Service<L::In, L::Out>, F: Front<L, H>>(
     rt: &R,
     service: &H,
     ended: &EndedThreads,
@@ -136,7 +130,7 @@ pub(crate) fn begin<
     's,
     'e,
     R: Threads + Wait + Sync,
-    L: TellingListener,
+    L: Listener,
     H: Service<L::In, L::Out> + Sync,
     F: Front<L, H>,
 >(

@@ -33,6 +33,7 @@ impl From<Failed> for SendFault {
 pub fn flush<O: Sink>(collected: &mut Bytes, output: &mut O) -> Result<(), Failed>
     ensures ok { OnOk result (O.held output.new ≡ with_back (O.held output.old) collected.old) }
     ensures empty { OnOk result (collected.new ≡ []) }
+    ensures steady { OnOk result (O.faults output.new ≡ O.faults output.old) }
     ensures err { OnErr result (HoldsSome (O.held output.old) (O.held output.new) collected.old) }
     ensures risen { OnErr result (HasRisen (O.faults output.old) (O.faults output.new)) }
     ensures never_falls { O.faults output.old ≤ O.faults output.new }
@@ -62,6 +63,8 @@ fn flush_if_enough<O: Sink>(
 // Writes what was collected, after memory ran out.
 fn give_up<O: Sink>(collected: &mut Bytes, output: &mut O) -> SendFault
     ensures some { HoldsSome (O.held output.old) (O.held output.new) collected.old }
+    ensures steady { (result ≡ SendFault.NoMemory) →
+        (O.faults output.new ≡ O.faults output.old) }
     ensures risen { (result ≡ SendFault.Write) →
         HasRisen (O.faults output.old) (O.faults output.new) }
     ensures never_falls { O.faults output.old ≤ O.faults output.new }
@@ -102,6 +105,9 @@ pub fn send_all<O: Sink>(
 ) -> Result<(), SendFault>
     ensures ok { OnOk result (O.held output.new ≡ with_back (O.held output.old) (collected.old ++ (reply_text reply.now ++ 10 ∷ []))) }
     ensures err { OnErr result (HoldsSome (O.held output.old) (O.held output.new) (collected.old ++ (reply_text reply.now ++ 10 ∷ []))) }
+    ensures steady { OnOk result (O.faults output.new ≡ O.faults output.old) }
+    ensures steady_unsent { IsErrOf result SendFault.NoMemory →
+        (O.faults output.new ≡ O.faults output.old) }
     ensures risen { IsErrOf result SendFault.Write →
         HasRisen (O.faults output.old) (O.faults output.new) }
     ensures never_falls { O.faults output.old ≤ O.faults output.new }

@@ -1,9 +1,8 @@
 //! The run of a script: its input is taken in pieces, and each line is answered as it comes.
 
-ghost use Rattle.std.specs.Prelude.{◌≡◌, ◌<◌, ◌≤◌, [], ℕ, List, None, false, IfOk, OnOk, OnErr, IfErr, IsErrOf, length, take};
+ghost use Rattle.std.specs.Prelude.{◌≡◌, ◌<◌, ◌≤◌, [], ℕ, List, None, false, OnOk, IfErr, IsErrOf, length};
 ghost use Rattle.std.specs.List.{AllByRecursion};
 ghost use Rattle.pcfs_ports.specs.Faults.{HasRisen};
-ghost use Rattle.pcfs_ports.specs.Observable.{with_front, IsAtEnd};
 ghost use Rattle.line_framer.specs.Framing.{ended, IsLine};
 ghost use Rattle.line_text.specs.Words.{HasNo};
 ghost use Rattle.pcfs_session.specs.Answered.{AnswersPiece, PieceEnds, LongEnds, LastEnds, IsFinished};
@@ -20,36 +19,9 @@ use crate::script_end::{ScriptEnd, halted_end, unsent_end};
 use bl_syntax::Bytes;
 use line_framer::{FeedFault, Framer};
 use line_wire::LineReply;
-use pcfs_ports::{Disk, Failed, INPUT_LIMIT, Sink, Source};
+use pcfs_ports::{Disk, INPUT_LIMIT, Sink, Source, new_piece, read_piece};
 use pcfs_store::Store;
-use std::alloc::{AllocError, Global};
-
-/// How many bytes a source is asked for at once, at most.
-const PIECE_LEN: usize = 65_536;
-
-// The room for a piece.
-fn new_piece(alloc: Global) -> Result<Vec<u8>, AllocError>
-    ensures { IfOk result (λ piece. length piece.items ≡ 65536) }
-{
-    vec![in alloc; 0u8; PIECE_LEN]
-}
-
-// Takes bytes from the input into the front of the piece by one read, no more than this many, and returns how many: none
-// at the end.
-fn read_piece<I: Source>(input: &mut I, piece: &mut [u8], most: usize) -> Result<usize, Failed>
-    requires room { 0 < length piece.old }
-    requires some { 0 < most }
-    ensures bound { IfOk result (λ count. count ≤ length piece.new) }
-    ensures few { IfOk result (λ count. count ≤ most) }
-    ensures taken { IfOk result (λ count. I.left input.old ≡ with_front (take count piece.new) (I.left input.new)) }
-    ensures end { IfOk result (λ count. count ≡ 0 → IsAtEnd (I.left input.new)) }
-    ensures err { OnErr result (I.left input.new ≡ I.left input.old) }
-    ensures risen { OnErr result (HasRisen (I.faults input.old) (I.faults input.new)) }
-    ensures never_falls { I.faults input.old ≤ I.faults input.new }
-{
-    let room = piece.len().min(most);
-    input.read(&mut piece[..room])
-}
+use std::alloc::Global;
 
 // Answers the lines before one that is too long, tells that it is, and returns how the script ends.
 fn end_at_long_line<D: Disk, O: Sink>(

@@ -2,7 +2,6 @@
 use Rattle.std.proofs.Common.{◌≡◌, [], false, refl, sym, subst, arith}
 use Rattle.access_history.specs.Replay.{fresh}
 use Rattle.access_history.specs.Authority.{Authority}
-use Rattle.access_history.specs.Lawful.{IsLawfulBase}
 use Rattle.access_history.proofs.FreshLemmas.{IsLawfulBase-fresh}
 use Rattle.record_parts.specs.Fields.{number_spelling, moment_spelling, sized_bytes_spelling}
 use Rattle.checkpoint_image.specs.NodeSpelling.{node_head_spelling, node_tail_spelling}

@@ -1,6 +1,6 @@
 -- What a reading of more bytes gives, if one of the first of them gave something already.
 use Rattle.std.proofs.Common.{◌≡◌, ℕ, ◌≤◌, List, ◌++◌, length, take, drop, Bool, true, false, cond, Result, Ok, Err, refl, sym, ap, subst, ◌∙◌, arith}
-use Rattle.std.specs.Prelude.{IsErr, nat_lt, ◌+◌}
+use Rattle.std.specs.Prelude.{IsErr, nat_lt}
 use Rattle.std.proofs.lemmas.Bool.{false≢true, ltb-false, le-ltb}
 use Rattle.std.proofs.lemmas.List.{length-append, take-append-le, drop-append-le}
 use Rattle.bl_syntax.specs.declared.codec_fault.CodecFault.{CodecFault}

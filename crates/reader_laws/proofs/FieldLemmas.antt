@@ -1,5 +1,5 @@
 -- Names, texts, points in time and terms are read steadily.
-use Rattle.std.proofs.Common.{ℕ, List, [], ◌∷◌, ◌++◌, Bool, cond}
+use Rattle.std.proofs.Common.{ℕ, List, [], ◌∷◌, ◌++◌, Bool}
 use Rattle.std.specs.Prelude.{◌==◌, nat_lt, Option, Some, None}
 use Rattle.std.specs.Int.{Width, w32, w64, byte_len, from_be_bytes, cast_signed}
 use Rattle.bl_syntax.specs.declared.codec_fault.CodecFault.{CodecFault}
@@ -7,7 +7,7 @@ use Rattle.bl_syntax.specs.declared.codec_fault.CodecFault.TheVariants.{Short}
 use Rattle.bl_syntax.specs.declared.terms.TimePoint.TheVariants.{NegInf, At, PosInf}
 use Rattle.bl_syntax.specs.declared.terms.Term.TheVariants.{Prin, File, Perm, Time, Text, Ctime, Param, Bound}
 use Rattle.bl_syntax.specs.Names.{is_principal_name, is_predicate_name, is_text}
-use Rattle.bl_syntax.specs.Reading.{◌>>=◌, number_at, with_length_at, word_at, name_at, predicate_at, text_at, is_moment, moment_at, time_at, permission_of, sort_of, look_up, coded_at, permission_at, sort_at, field_at, term_at}
+use Rattle.bl_syntax.specs.Reading.{number_at, with_length_at, word_at, name_at, predicate_at, text_at, is_moment, moment_at, time_at, permission_of, sort_of, look_up, coded_at, permission_at, sort_at, field_at, term_at}
 use Rattle.reader_laws.proofs.ExtendedLemmas.{Extended, behind, ReadsOn, IsSteady, done, cut, faults, either_way, one_then, made, taken}
 
 pub numbers : (width : Width) → ReadsOn (number_at width) (number_at width)

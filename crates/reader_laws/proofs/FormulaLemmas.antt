@@ -1,11 +1,11 @@
 -- Formulas and statements are read steadily.
-use Rattle.std.proofs.Common.{ℕ, zero, suc, ◌-◌, List, [], ◌∷◌, ◌++◌, Bool, cond, Ok}
+use Rattle.std.proofs.Common.{ℕ, zero, suc, ◌-◌, List, [], ◌∷◌, ◌++◌, Bool, Ok}
 use Rattle.std.specs.Prelude.{◌==◌, nat_lt}
 use Rattle.bl_syntax.specs.declared.codec_fault.CodecFault.TheVariants.{Short}
 use Rattle.bl_syntax.specs.declared.terms.StatePred.TheVariants.{Owner, HasXattr, InDir}
 use Rattle.bl_syntax.specs.Formula.{FormulaView, atom, compare, state, both, either, implies, truth, falsity, forall_, exists_, says, on}
 use Rattle.bl_syntax.specs.Statement.{statement_view}
-use Rattle.bl_syntax.specs.Reading.{◌>>=◌, map_reading, term_at}
+use Rattle.bl_syntax.specs.Reading.{map_reading, term_at}
 use Rattle.bl_syntax.specs.FormulaReading as reading
 use Rattle.bl_syntax.specs.FormulaReading.{Counted, admit_node, is_term_tag, is_formula_tag, no_more, is_sayable}
 use Rattle.reader_laws.proofs.ExtendedLemmas.{Extended, behind, IsSteady, done, cut, faults, either_way, one_then}

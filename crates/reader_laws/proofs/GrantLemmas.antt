@@ -1,10 +1,10 @@
 -- Grants and procaps are read steadily.
-use Rattle.std.proofs.Common.{ℕ, zero, suc, ◌-◌, List, [], ◌∷◌, ◌++◌, length, Bool, cond}
+use Rattle.std.proofs.Common.{ℕ, zero, suc, ◌-◌, List, [], ◌∷◌, ◌++◌, length, Bool}
 use Rattle.std.specs.Prelude.{◌==◌, ◌&&◌, ◌||◌, nat_le, nat_lt}
 use Rattle.std.specs.Int.{w32, w64}
 use Rattle.bl_syntax.specs.declared.codec_fault.CodecFault.TheVariants.{Short}
 use Rattle.bl_syntax.specs.declared.terms.StatePred.TheVariants.{Owner, HasXattr, InDir}
-use Rattle.bl_syntax.specs.Reading.{◌>>=◌, Reading, term_at}
+use Rattle.bl_syntax.specs.Reading.{Reading, term_at}
 use Rattle.bl_syntax.specs.FormulaReading.{is_formula_tag}
 use Rattle.procap.specs.GrantReading.{marker_at, goal_at, both_at, time_condition_at, state_terms_at, state_condition_at, may_follow_times, may_follow_states, items_at, count_at, conditions_at, version_at, head_at, rising_at, names_at, versioned_names_at, grant_at}
 use Rattle.procap.specs.Procap.{tag_at, procap_at}

@@ -3,7 +3,7 @@ use Rattle.std.proofs.Common.{ℕ, zero, suc, List, [], ◌∷◌, ◌++◌, len
 use Rattle.std.specs.Prelude.{nat_lt, nat_le, ◌&&◌, ◌==◌}
 use Rattle.std.specs.Int.{w32, w64}
 use Rattle.bl_syntax.specs.declared.codec_fault.CodecFault.TheVariants.{Short}
-use Rattle.bl_syntax.specs.Reading.{◌>>=◌, Reading, name_at, text_at}
+use Rattle.bl_syntax.specs.Reading.{Reading, name_at, text_at}
 use Rattle.record_parts.specs.Fields.{u32_at, u64_at, sized_bytes_at, moment_field_at}
 use Rattle.checkpoint_image.specs.Chain.{chain_at, short_list_at, long_list_at, alone, nothing_left}
 use Rattle.node_rows.specs.Names.{is_name_or_none}

@@ -45,19 +45,19 @@ plain root state pass clock _ _ _ (turns.rejects who nonce signature is) = tt
 -- ---- what a turn adds
 
 -- the answer to what the turn asks adds the entry
-record Adds (gives : ℤ → Type 0) (p : StorePass) (found : List StoreEntry) (request : TurnRequest) (entry : StoreEntry) : Type 0 where
+record Adds (gives : List StoreEntry → ℤ → Type 0) (p : StorePass) (found : List StoreEntry) (request : TurnRequest) (entry : StoreEntry) : Type 0 where
   moment : ℤ
-  shown : gives moment
+  shown : gives found moment
   answer : TurnReply
   answers : AnswersTurn p.root (state_of_entries p.root found) p.number moment request answer (Some entry)
 
 -- so it does of the only entry that is added, if one is
-abbrev AddsOne : (ℤ → Type 0) → StorePass → List StoreEntry → TurnRequest → List StoreEntry → Type 0
+abbrev AddsOne : (List StoreEntry → ℤ → Type 0) → StorePass → List StoreEntry → TurnRequest → List StoreEntry → Type 0
 AddsOne gives p found request [] = Unit {0}
 AddsOne gives p found request (entry ∷ []) = Adds gives p found request (asked_entry entry)
 AddsOne gives p found request (entry ∷ next ∷ more) = ⊥
 
-turn_adds : (gives : ℤ → Type 0) (p : StorePass) (before : List StoreEntry) (request : TurnRequest) (reply : TurnReply) (given : List StoreEntry) → Turn gives p before request reply given →
+turn_adds : (gives : List StoreEntry → ℤ → Type 0) (p : StorePass) (before : List StoreEntry) (request : TurnRequest) (reply : TurnReply) (given : List StoreEntry) → Turn gives p before request reply given →
     AddsOne gives p before request given
 turn_adds gives p before request _ _ (turns.was_stopped is) = tt
 turn_adds gives p before request _ _ (turns.answered clock answer running shown answers) = tt
@@ -79,7 +79,7 @@ numbers_answered : (root : Root) (state : BaseView) (pass : ℕ) (clock : ℤ) (
 numbers_answered root state pass clock _ _ _ cites (turns.cites numbers cited found) is = let same : cited ≡ cites = cc in subst (λ (cs : List Citation). numbers_of cs ≡ numbers) same found.numbers_are
 numbers_answered root state pass clock _ _ _ cites (turns.cites_none numbers number absent) is = absurd cc
 
-numbers_cited : (gives : ℤ → Type 0) (p : StorePass) (before : List StoreEntry) (numbers : List ℕ) (cites : List Citation) (reply : TurnReply) (given : List StoreEntry) → Turn gives p before (Cite numbers) reply given → reply ≡ turn_replies.Cited cites → numbers_of cites ≡ numbers
+numbers_cited : (gives : List StoreEntry → ℤ → Type 0) (p : StorePass) (before : List StoreEntry) (numbers : List ℕ) (cites : List Citation) (reply : TurnReply) (given : List StoreEntry) → Turn gives p before (Cite numbers) reply given → reply ≡ turn_replies.Cited cites → numbers_of cites ≡ numbers
 numbers_cited gives p before numbers cites _ _ (turns.was_stopped stop) is = absurd cc
 numbers_cited gives p before numbers cites _ _ (turns.answered clock answer running shown answers) is = numbers_answered p.root (state_of_entries p.root before) p.number clock numbers answer None cites answers is
 numbers_cited gives p before numbers cites _ _ (turns.full clock answer entry running shown answers is_full) is = absurd cc
@@ -89,7 +89,7 @@ numbers_cited gives p before numbers cites _ _ turns.without_memory is = absurd 
 
 -- ---- what a line adds
 
-module _ (gives : ℤ → Type 0) (p : StorePass) (history : List StoreEntry) (start : SessionState) (from : ℕ) where
+module _ (gives : List StoreEntry → ℤ → Type 0) (p : StorePass) (history : List StoreEntry) (start : SessionState) (from : ℕ) where
   asked : (heard : List (List ℕ)) (told : List LineReply) (s : SessionState) (at : ℕ) (added : List StoreEntry) (line : List ℕ) (task : LineTask) (request : TurnRequest) (found after : List StoreEntry) (entry : StoreEntry) →
       LinesPlaced gives p history start from heard told s at added → IsTaskOf s line task → Asks task request → history ≡ found ++ (entry ∷ after) → Adds gives p found request (asked_entry entry) → IsAskedFor gives p history start from (heard ++ line ∷ []) entry
   asked heard told s at added line task request found after entry placed is_task asks parts adds = record {

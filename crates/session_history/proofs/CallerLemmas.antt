@@ -90,7 +90,7 @@ met_by ring nonce heard (happened event) by_some = by_some
 met_by ring nonce heard (checkpointed pass) by_some = by_some
 met_by ring nonce heard (stopped pass met) by_some = by_some
 
-turn_by : (ring : List KeyView) (nonce : List ℕ) (heard : List (List ℕ)) (gives : ℤ → Type 0) (p : StorePass) (before : List StoreEntry) (request : TurnRequest) (reply : TurnReply) (given : List StoreEntry) → ActsAs (HasSigned ring nonce heard) request →
+turn_by : (ring : List KeyView) (nonce : List ℕ) (heard : List (List ℕ)) (gives : List StoreEntry → ℤ → Type 0) (p : StorePass) (before : List StoreEntry) (request : TurnRequest) (reply : TurnReply) (given : List StoreEntry) → ActsAs (HasSigned ring nonce heard) request →
     Turn gives p before request reply given → AllByRecursion (IsByAccepted ring nonce heard) given
 turn_by ring nonce heard gives p before request _ _ acts (turns.was_stopped is) = tt
 turn_by ring nonce heard gives p before request _ _ acts (turns.answered clock answer running shown answers) = tt
@@ -99,7 +99,7 @@ turn_by ring nonce heard gives p before request _ _ acts (turns.kept clock answe
 turn_by ring nonce heard gives p before request _ _ acts (turns.failed clock answer entry running shown answers room) = (met_by ring nonce heard entry (of_turn_answer ring nonce heard p.root (state_of_entries p.root before) p.number clock request answer (Some entry) acts answers), tt)
 turn_by ring nonce heard gives p before request _ _ acts turns.without_memory = tt
 
-line_by : (ring : List KeyView) (nonce : List ℕ) (heard : List (List ℕ)) (gives : ℤ → Type 0) (p : StorePass) (history : List StoreEntry) (from : ℕ) (task : LineTask) (reply : LineReply) (to : ℕ) (given : List StoreEntry) → IsActedAs (HasSigned ring nonce heard) task →
+line_by : (ring : List KeyView) (nonce : List ℕ) (heard : List (List ℕ)) (gives : List StoreEntry → ℤ → Type 0) (p : StorePass) (history : List StoreEntry) (from : ℕ) (task : LineTask) (reply : LineReply) (to : ℕ) (given : List StoreEntry) → IsActedAs (HasSigned ring nonce heard) task →
     LinePlaced gives p history from task reply to given → AllByRecursion (IsByAccepted ring nonce heard) given
 line_by ring nonce heard gives p history from _ _ _ _ acts (at_once reply) = tt
 line_by ring nonce heard gives p history from _ _ _ _ acts (in_a_turn request replied reply to given turn is) = turn_by ring nonce heard gives p turn.before request replied given acts turn.turn
@@ -182,7 +182,7 @@ answer_signed : (root : Root) (state : BaseView) (pass : ℕ) (clock : ℤ) (who
 answer_signed root state pass clock _ _ _ _ _ (turns.logs_in who over signature is) same = is
 answer_signed root state pass clock _ _ _ _ _ (turns.rejects who over signature is) same = absurd cc
 
-turn_signed : (gives : ℤ → Type 0) (p : StorePass) (before : List StoreEntry) (who over signature : List ℕ) (reply : TurnReply) (given : List StoreEntry) → Turn gives p before (Login who over signature) reply given → reply ≡ turn_replies.LoggedIn →
+turn_signed : (gives : List StoreEntry → ℤ → Type 0) (p : StorePass) (before : List StoreEntry) (who over signature : List ℕ) (reply : TurnReply) (given : List StoreEntry) → Turn gives p before (Login who over signature) reply given → reply ≡ turn_replies.LoggedIn →
     is_accepted p.root.ring who (login_message who over) signature ≡ true
 turn_signed gives p before who over signature _ _ (turns.was_stopped is) same = absurd cc
 turn_signed gives p before who over signature _ _ (turns.answered clock answer running shown answers) same = answer_signed p.root (state_of_entries p.root before) p.number clock who over signature answer None answers same
@@ -264,7 +264,7 @@ login_state ring nonce heard line s who over signature reply true is same asks s
 login_state ring nonce heard line s who over signature reply false is same asks signed accepted =
     subst (λ (d : Bool). IsSignedState ring nonce (heard ++ line ∷ []) (places.after_login s who d)) (sym is) (state_more ring nonce heard (line ∷ []) s signed)
 
-module _ (gives : ℤ → Type 0) (p : StorePass) (history : List StoreEntry) (nonce : List ℕ) (heard : List (List ℕ)) (line : List ℕ) (s : SessionState) (from : ℕ) (signed : IsSignedState p.root.ring nonce heard s) where
+module _ (gives : List StoreEntry → ℤ → Type 0) (p : StorePass) (history : List StoreEntry) (nonce : List ℕ) (heard : List (List ℕ)) (line : List ℕ) (s : SessionState) (from : ℕ) (signed : IsSignedState p.root.ring nonce heard s) where
   same_state : IsSignedState p.root.ring nonce (heard ++ line ∷ []) s
   same_state = state_more p.root.ring nonce heard (line ∷ []) s signed
 
@@ -295,7 +295,7 @@ record IsBySession (ring : List KeyView) (nonce : List ℕ) (heard : List (List 
   state : IsSignedState ring nonce heard end
   all : AllByRecursion (IsByAccepted ring nonce heard) given
 
-by_session : (gives : ℤ → Type 0) (p : StorePass) (history : List StoreEntry) (nonce : List ℕ) (start : SessionState) (from : ℕ) (heard : List (List ℕ)) (answers : List LineReply) (end : SessionState) (to : ℕ) (given : List StoreEntry) →
+by_session : (gives : List StoreEntry → ℤ → Type 0) (p : StorePass) (history : List StoreEntry) (nonce : List ℕ) (start : SessionState) (from : ℕ) (heard : List (List ℕ)) (answers : List LineReply) (end : SessionState) (to : ℕ) (given : List StoreEntry) →
     IsSignedState p.root.ring nonce [] start → LinesPlaced gives p history start from heard answers end to given → IsBySession p.root.ring nonce heard end given
 by_session gives p history nonce start from _ _ _ _ _ signed no_line = record { state = signed; all = tt }
 by_session gives p history nonce start from _ _ _ _ _ signed (one_more heard answers s at given line task reply to others placed is here) =
@@ -306,6 +306,6 @@ by_session gives p history nonce start from _ _ _ _ _ signed (one_more heard ans
       all = all_of_both (IsByAccepted p.root.ring nonce (heard ++ line ∷ [])) given others (all_more p.root.ring nonce heard (line ∷ []) given before.all) (all_more p.root.ring nonce heard (line ∷ []) others here_by);
     }
 
-pub callers_accepted : (gives : ℤ → Type 0) (p : StorePass) (history : List StoreEntry) (nonce : List ℕ) (from : ℕ) (heard : List (List ℕ)) (answers : List LineReply) (end : SessionState) (to : ℕ) (given : List StoreEntry) →
+pub callers_accepted : (gives : List StoreEntry → ℤ → Type 0) (p : StorePass) (history : List StoreEntry) (nonce : List ℕ) (from : ℕ) (heard : List (List ℕ)) (answers : List LineReply) (end : SessionState) (to : ℕ) (given : List StoreEntry) →
     LinesPlaced gives p history (guest_with nonce) from heard answers end to given → AllByRecursion (IsByAccepted p.root.ring nonce heard) given
 callers_accepted gives p history nonce from heard answers end to given placed = (by_session gives p history nonce (guest_with nonce) from heard answers end to given (record { nonce_is = refl; accepted = tt }) placed).all

@@ -27,7 +27,7 @@ makes_it root state pass clock _ _ _ (rejects who nonce signature refused) is = 
 no_entry : (pass : ℕ) → ◌≡◌ {A = List StoreEntry} [] (checkpointed pass ∷ []) → ⊥
 no_entry pass is = cc
 
-told : (gives : ℤ → Type 0) (p : StorePass) (before : List StoreEntry) (request : TurnRequest) (reply : TurnReply) (given : List StoreEntry) → Turn gives p before request reply given → reply ≡ turn_replies.Checkpointed →
+told : (gives : List StoreEntry → ℤ → Type 0) (p : StorePass) (before : List StoreEntry) (request : TurnRequest) (reply : TurnReply) (given : List StoreEntry) → Turn gives p before request reply given → reply ≡ turn_replies.Checkpointed →
     (request ≡ turn_requests.Checkpoint) × (given ≡ checkpointed p.number ∷ [])
 told gives p before request _ _ (was_stopped stop) is = absurd cc
 told gives p before request _ _ (answered clock reply running shown answers) is = absurd (no_entry p.number (makes_it p.root (state_of_entries p.root before) p.number clock request reply None answers is).1)
@@ -50,7 +50,7 @@ adds_it root state pass clock _ _ _ (cites_none numbers number absent) some = ab
 adds_it root state pass clock _ _ _ (logs_in who nonce signature accepted) some = absurd (some refl)
 adds_it root state pass clock _ _ _ (rejects who nonce signature refused) some = absurd (some refl)
 
-added : (gives : ℤ → Type 0) (p : StorePass) (before : List StoreEntry) (request : TurnRequest) (reply : TurnReply) (given : List StoreEntry) → Turn gives p before request reply given → checkpoints_among given ≢ 0 → reply ≡ turn_replies.Checkpointed
+added : (gives : List StoreEntry → ℤ → Type 0) (p : StorePass) (before : List StoreEntry) (request : TurnRequest) (reply : TurnReply) (given : List StoreEntry) → Turn gives p before request reply given → checkpoints_among given ≢ 0 → reply ≡ turn_replies.Checkpointed
 added gives p before request _ _ (was_stopped stop) some = absurd (some refl)
 added gives p before request _ _ (answered clock reply running shown answers) some = absurd (some refl)
 added gives p before request _ _ (full clock reply entry running shown answers is_full) some = absurd (some refl)
@@ -58,6 +58,6 @@ added gives p before request _ _ (kept clock reply entry running shown answers r
 added gives p before request _ _ (failed clock reply entry running shown answers room) some = absurd (some refl)
 added gives p before request _ _ turns.without_memory some = absurd (some refl)
 
-pub checkpoints_told : (gives : ℤ → Type 0) (p : StorePass) (before : List StoreEntry) (request : TurnRequest) (reply : TurnReply) (given : List StoreEntry) → Turn gives p before request reply given →
+pub checkpoints_told : (gives : List StoreEntry → ℤ → Type 0) (p : StorePass) (before : List StoreEntry) (request : TurnRequest) (reply : TurnReply) (given : List StoreEntry) → Turn gives p before request reply given →
     (reply ≡ turn_replies.Checkpointed → (request ≡ turn_requests.Checkpoint) × (given ≡ checkpointed p.number ∷ [])) × (checkpoints_among given ≢ 0 → reply ≡ turn_replies.Checkpointed)
 checkpoints_told gives p before request reply given turn = (λ is. told gives p before request reply given turn is, λ some. added gives p before request reply given turn some)

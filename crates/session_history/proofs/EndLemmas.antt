@@ -53,7 +53,7 @@ answer_single root state pass clock _ _ _ single (turns.cites_none numbers numbe
 answer_single root state pass clock _ _ _ single (turns.logs_in who nonce signature is) cites same = cc
 answer_single root state pass clock _ _ _ single (turns.rejects who nonce signature is) cites same = cc
 
-pub single_not_cited : (gives : ℤ → Type 0) (p : StorePass) (before : List StoreEntry) (request : TurnRequest) (reply : TurnReply) (given : List StoreEntry) → IsSingle request → Turn gives p before request reply given → (cites : List CiteOf) →
+pub single_not_cited : (gives : List StoreEntry → ℤ → Type 0) (p : StorePass) (before : List StoreEntry) (request : TurnRequest) (reply : TurnReply) (given : List StoreEntry) → IsSingle request → Turn gives p before request reply given → (cites : List CiteOf) →
     reply ≡ turn_replies.Cited cites → ⊥
 single_not_cited gives p before request _ _ single (turns.was_stopped is) cites same = cc
 single_not_cited gives p before request _ _ single (turns.answered clock answer running shown answers) cites same = answer_single p.root (state_of_entries p.root before) p.number clock request answer None single answers cites same
@@ -78,7 +78,7 @@ told_calmly turn_replies.Full other calm = record { reply = replies.Full; told =
 told_calmly turn_replies.Stopped other calm = absurd (calm.not_stopped refl)
 told_calmly turn_replies.NoMemory other calm = absurd (calm.had_memory refl)
 
-module _ (gives : ℤ → Type 0) (p : StorePass) (before : List StoreEntry) (clock : ℤ) (shown : gives clock) (lawful : IsLawful (authority_of_root p.root) p.root.base (events_among before)) (running : has_stop before ≡ false) where
+module _ (gives : List StoreEntry → ℤ → Type 0) (p : StorePass) (before : List StoreEntry) (clock : ℤ) (shown : gives before clock) (lawful : IsLawful (authority_of_root p.root) p.root.base (events_among before)) (running : has_stop before ≡ false) where
   abbrev Ends : LineTask → Type 0
   Ends task = (reply : LineReply) × (given : List StoreEntry) × LinePlaced gives p (before ++ given) (length before) task reply (length before + length given) given × (reply ≢ replies.NoMemory) × (reply ≢ replies.Stopped)
 
@@ -139,7 +139,7 @@ module _ (gives : ℤ → Type 0) (p : StorePass) (before : List StoreEntry) (cl
   by_task s line (tasks.Turn request) formed is = turn_line_ends request formed.0 formed.1
   by_task s line (tasks.Proof goal numbers proof) formed is = proof_ends goal numbers proof formed.0 formed.1 (found_or_absent (book_of (state_of_entries p.root before)) numbers)
 
-pub line_ends : (gives : ℤ → Type 0) (p : StorePass) (s : SessionState) (line : List ℕ) (task : LineTask) (before : List StoreEntry) (clock : ℤ) → gives clock → IsNamed s.caller → IsLawful (authority_of_root p.root) p.root.base (events_among before) →
+pub line_ends : (gives : List StoreEntry → ℤ → Type 0) (p : StorePass) (s : SessionState) (line : List ℕ) (task : LineTask) (before : List StoreEntry) (clock : ℤ) → gives before clock → IsNamed s.caller → IsLawful (authority_of_root p.root) p.root.base (events_among before) →
     has_stop before ≡ false → IsTaskOf s line task →
     (reply : LineReply) × (given : List StoreEntry) × LinePlaced gives p (before ++ given) (length before) task reply (length before + length given) given × (reply ≢ replies.NoMemory) × (reply ≢ replies.Stopped)
 line_ends gives p s line task before clock shown named lawful running is = by_task gives p before clock shown lawful running s line task (task_formed s line task named is) is

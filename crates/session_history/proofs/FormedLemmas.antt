@@ -55,7 +55,7 @@ found_of_answer : (root : Root) (state : BaseView) (pass : ℕ) (clock : ℤ) (n
 found_of_answer root state pass clock _ _ _ (turns.cites numbers cited found) = found
 found_of_answer root state pass clock _ _ _ (turns.cites_none numbers number absent) = tt
 
-turn_found : (gives : ℤ → Type 0) (p : StorePass) (before : List StoreEntry) (numbers : List ℕ) (reply : TurnReply) (given : List StoreEntry) → Turn gives p before (Cite numbers) reply given → AreFoundIn (state_of_entries p.root before) numbers reply
+turn_found : (gives : List StoreEntry → ℤ → Type 0) (p : StorePass) (before : List StoreEntry) (numbers : List ℕ) (reply : TurnReply) (given : List StoreEntry) → Turn gives p before (Cite numbers) reply given → AreFoundIn (state_of_entries p.root before) numbers reply
 turn_found gives p before numbers _ _ (turns.was_stopped is) = tt
 turn_found gives p before numbers _ _ (turns.answered clock reply running shown answers) = found_of_answer p.root (state_of_entries p.root before) p.number clock numbers reply None answers
 turn_found gives p before numbers _ _ (turns.full clock reply entry running shown answers is_full) = tt
@@ -63,6 +63,6 @@ turn_found gives p before numbers _ _ (turns.kept clock reply entry running show
 turn_found gives p before numbers _ _ (turns.failed clock reply entry running shown answers room) = tt
 turn_found gives p before numbers _ _ turns.without_memory = tt
 
-pub turn_cited : (gives : ℤ → Type 0) (p : StorePass) (before : List StoreEntry) (numbers : List ℕ) (cited : List CiteOf) (given : List StoreEntry) → AreCitable numbers → Turn gives p before (Cite numbers) (turn_replies.Cited cited) given → AreCited cited
+pub turn_cited : (gives : List StoreEntry → ℤ → Type 0) (p : StorePass) (before : List StoreEntry) (numbers : List ℕ) (cited : List CiteOf) (given : List StoreEntry) → AreCitable numbers → Turn gives p before (Cite numbers) (turn_replies.Cited cited) given → AreCited cited
 turn_cited gives p before numbers cited given citable turn =
     AreCited-found (book_of (state_of_entries p.root before)) numbers cited (turn_found gives p before numbers (turn_replies.Cited cited) given turn) citable

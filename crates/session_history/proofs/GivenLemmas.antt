@@ -44,7 +44,7 @@ of_turn_answer root state pass clock _ _ _ (cites_none numbers number absent) = 
 of_turn_answer root state pass clock _ _ _ (logs_in who nonce signature is) = tt
 of_turn_answer root state pass clock _ _ _ (rejects who nonce signature is) = tt
 
-pub turn_given : (gives : ℤ → Type 0) (p : StorePass) (before : List StoreEntry) (request : TurnRequest) (reply : TurnReply) (given : List StoreEntry) → Turn gives p before request reply given → AllOfPass p.number given
+pub turn_given : (gives : List StoreEntry → ℤ → Type 0) (p : StorePass) (before : List StoreEntry) (request : TurnRequest) (reply : TurnReply) (given : List StoreEntry) → Turn gives p before request reply given → AllOfPass p.number given
 turn_given gives p before request _ _ (was_stopped is) = tt
 turn_given gives p before request _ _ (answered clock reply running shown answers) = tt
 turn_given gives p before request _ _ (full clock reply entry running shown answers is_full) = tt
@@ -52,7 +52,7 @@ turn_given gives p before request _ _ (kept clock reply entry running shown answ
 turn_given gives p before request _ _ (failed clock reply entry running shown answers room) = (refl, tt)
 turn_given gives p before request _ _ turns.without_memory = tt
 
-line_given : (gives : ℤ → Type 0) (p : StorePass) (history : List StoreEntry) (from : ℕ) (task : LineTask) (reply : LineReply) (to : ℕ) (given : List StoreEntry) → LinePlaced gives p history from task reply to given → AllOfPass p.number given
+line_given : (gives : List StoreEntry → ℤ → Type 0) (p : StorePass) (history : List StoreEntry) (from : ℕ) (task : LineTask) (reply : LineReply) (to : ℕ) (given : List StoreEntry) → LinePlaced gives p history from task reply to given → AllOfPass p.number given
 line_given gives p history from _ _ _ _ (at_once reply) = tt
 line_given gives p history from _ _ _ _ (in_a_turn request found reply to given turn is) = turn_given gives p turn.before _ found given turn.turn
 line_given gives p history from _ _ _ _ (places.cites_none goal numbers proof found reply to given turn is) = turn_given gives p turn.before _ found given turn.turn
@@ -64,7 +64,7 @@ all_of_both : (pass : ℕ) (xs ys : List StoreEntry) → AllOfPass pass xs → A
 all_of_both pass [] ys one other = other
 all_of_both pass (x ∷ xs) ys one other = (one.0, all_of_both pass xs ys one.1 other)
 
-pub session_given : (gives : ℤ → Type 0) (p : StorePass) (history : List StoreEntry) (start : SessionState) (from : ℕ) (lines : List (List ℕ)) (answers : List LineReply) (end : SessionState) (to : ℕ) (given : List StoreEntry) →
+pub session_given : (gives : List StoreEntry → ℤ → Type 0) (p : StorePass) (history : List StoreEntry) (start : SessionState) (from : ℕ) (lines : List (List ℕ)) (answers : List LineReply) (end : SessionState) (to : ℕ) (given : List StoreEntry) →
     LinesPlaced gives p history start from lines answers end to given → AllOfPass p.number given
 session_given gives p history start from _ _ _ _ _ no_line = tt
 session_given gives p history start from _ _ _ _ _ (one_more lines answers s at given line task reply to others placed asks_for here) =

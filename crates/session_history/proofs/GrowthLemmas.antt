@@ -12,7 +12,7 @@ use Rattle.session_history.specs.Placed.{LinePlaced, at_once, in_a_turn, cites_n
 
 -- ---- growth
 
-pub turn_longer : (gives : ℤ → Type 0) (p : StorePass) (history more : List StoreEntry) (from : ℕ) (request : TurnRequest) (reply : TurnReply) (to : ℕ) (given : List StoreEntry) →
+pub turn_longer : (gives : List StoreEntry → ℤ → Type 0) (p : StorePass) (history more : List StoreEntry) (from : ℕ) (request : TurnRequest) (reply : TurnReply) (to : ℕ) (given : List StoreEntry) →
     TurnPlaced gives p history from request reply to given → TurnPlaced gives p (history ++ more) from request reply to given
 turn_longer gives p history more from request reply to given t = record {
   before = t.before;
@@ -23,7 +23,7 @@ turn_longer gives p history more from request reply to given t = record {
   turn = t.turn;
 }
 
-pub line_longer : (gives : ℤ → Type 0) (p : StorePass) (history more : List StoreEntry) (from : ℕ) (task : LineTask) (reply : LineReply) (to : ℕ) (given : List StoreEntry) →
+pub line_longer : (gives : List StoreEntry → ℤ → Type 0) (p : StorePass) (history more : List StoreEntry) (from : ℕ) (task : LineTask) (reply : LineReply) (to : ℕ) (given : List StoreEntry) →
     LinePlaced gives p history from task reply to given → LinePlaced gives p (history ++ more) from task reply to given
 line_longer gives p history more from _ _ _ _ (at_once reply) = at_once reply
 line_longer gives p history more from _ _ _ _ (in_a_turn request found reply to given turn is) = in_a_turn request found reply to given (turn_longer gives p history more from _ found to given turn) is
@@ -33,7 +33,7 @@ line_longer gives p history more from _ _ _ _ (issues goal numbers proof cites g
     issues goal numbers proof cites g at found reply to given (turn_longer gives p history more from _ _ at [] turn) verdict_is (turn_longer gives p history more at _ found to given second) is
 line_longer gives p history more from _ _ _ _ (without_memory task) = without_memory task
 
-pub session_longer : (gives : ℤ → Type 0) (p : StorePass) (history more : List StoreEntry) (start : SessionState) (from : ℕ) (lines : List (List ℕ)) (answers : List LineReply) (end : SessionState) (to : ℕ) (given : List StoreEntry) →
+pub session_longer : (gives : List StoreEntry → ℤ → Type 0) (p : StorePass) (history more : List StoreEntry) (start : SessionState) (from : ℕ) (lines : List (List ℕ)) (answers : List LineReply) (end : SessionState) (to : ℕ) (given : List StoreEntry) →
     LinesPlaced gives p history start from lines answers end to given → LinesPlaced gives p (history ++ more) start from lines answers end to given
 session_longer gives p history more start from _ _ _ _ _ no_line = no_line
 session_longer gives p history more start from _ _ _ _ _ (one_more lines answers s at given line task reply to others placed asks_for here) =
@@ -41,13 +41,13 @@ session_longer gives p history more start from _ _ _ _ _ (one_more lines answers
 
 -- ---- places
 
-pub turn_places : (gives : ℤ → Type 0) (p : StorePass) (history : List StoreEntry) (from : ℕ) (request : TurnRequest) (reply : TurnReply) (to : ℕ) (given : List StoreEntry) →
+pub turn_places : (gives : List StoreEntry → ℤ → Type 0) (p : StorePass) (history : List StoreEntry) (from : ℕ) (request : TurnRequest) (reply : TurnReply) (to : ℕ) (given : List StoreEntry) →
     TurnPlaced gives p history from request reply to given → (from ≤ to) × (to ≤ length history)
 turn_places gives p history from request reply to given t =
     let whole : length history ≡ length t.before + (length given + length t.after) = ap length t.parts ∙ length-append t.before (given ++ t.after) ∙ ap (λ (n : ℕ). length t.before + n) (length-append given t.after) in
     (omega (arith, t.not_earlier, t.place), omega (arith, whole, t.place))
 
-pub line_places : (gives : ℤ → Type 0) (p : StorePass) (history : List StoreEntry) (from : ℕ) (task : LineTask) (reply : LineReply) (to : ℕ) (given : List StoreEntry) →
+pub line_places : (gives : List StoreEntry → ℤ → Type 0) (p : StorePass) (history : List StoreEntry) (from : ℕ) (task : LineTask) (reply : LineReply) (to : ℕ) (given : List StoreEntry) →
     from ≤ length history → LinePlaced gives p history from task reply to given → (from ≤ to) × (to ≤ length history)
 line_places gives p history from _ _ _ _ within (at_once reply) = (omega arith, within)
 line_places gives p history from _ _ _ _ within (in_a_turn request found reply to given turn is) = turn_places gives p history from _ found to given turn
@@ -59,7 +59,7 @@ line_places gives p history from _ _ _ _ within (issues goal numbers proof cites
     (omega (arith, one.0, other.0), other.1)
 line_places gives p history from _ _ _ _ within (without_memory task) = (omega arith, within)
 
-pub session_places : (gives : ℤ → Type 0) (p : StorePass) (history : List StoreEntry) (start : SessionState) (from : ℕ) (lines : List (List ℕ)) (answers : List LineReply) (end : SessionState) (to : ℕ) (given : List StoreEntry) →
+pub session_places : (gives : List StoreEntry → ℤ → Type 0) (p : StorePass) (history : List StoreEntry) (start : SessionState) (from : ℕ) (lines : List (List ℕ)) (answers : List LineReply) (end : SessionState) (to : ℕ) (given : List StoreEntry) →
     from ≤ length history → LinesPlaced gives p history start from lines answers end to given → (from ≤ to) × (to ≤ length history)
 session_places gives p history start from _ _ _ _ _ within no_line = (omega arith, within)
 session_places gives p history start from _ _ _ _ _ within (one_more lines answers s at given line task reply to others placed asks_for here) =
@@ -69,7 +69,7 @@ session_places gives p history start from _ _ _ _ _ within (one_more lines answe
 
 -- ---- as many replies as lines
 
-pub session_answered : (gives : ℤ → Type 0) (p : StorePass) (history : List StoreEntry) (start : SessionState) (from : ℕ) (lines : List (List ℕ)) (answers : List LineReply) (end : SessionState) (to : ℕ) (given : List StoreEntry) →
+pub session_answered : (gives : List StoreEntry → ℤ → Type 0) (p : StorePass) (history : List StoreEntry) (start : SessionState) (from : ℕ) (lines : List (List ℕ)) (answers : List LineReply) (end : SessionState) (to : ℕ) (given : List StoreEntry) →
     LinesPlaced gives p history start from lines answers end to given → length answers ≡ length lines
 session_answered gives p history start from _ _ _ _ _ no_line = refl
 session_answered gives p history start from _ _ _ _ _ (one_more lines answers s at given line task reply to others placed asks_for here) =

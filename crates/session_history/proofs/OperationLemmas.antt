@@ -1,5 +1,5 @@
 -- An operation that is admitted and has an effect is kept, unless something stands against it.
-use Rattle.std.proofs.Common.{◌≡◌, ◌∙◌, ℕ, List, [], ◌∷◌, true, false, true≢false, Option, Some, None, sym, ap, subst}
+use Rattle.std.proofs.Common.{◌≡◌, ◌∙◌, ℕ, List, [], ◌∷◌, false, true≢false, Option, Some, None, sym, ap, subst}
 use Rattle.std.specs.Prelude.{ℤ}
 use Rattle.std.specs.Option.{option_map}
 use Rattle.procap.specs.declared.procap.Procap.{Procap}
@@ -49,7 +49,7 @@ module _ (p : StorePass) (before : List StoreEntry) (clock : ℤ) (caller : List
     none_entry : {P : Type 0} → ◌≡◌ {A = Option StoreEntry} (Some (happened event)) None → P
     none_entry is = absurd cc
 
-    pub admitted_done : (reply : TurnReply) (given : List StoreEntry) → Turn (λ moment. moment ≡ clock) p before (Step (Act caller op procaps)) reply given → IsKeptUnless p before told event reply given
+    pub admitted_done : (reply : TurnReply) (given : List StoreEntry) → Turn (λ _ moment. moment ≡ clock) p before (Step (Act caller op procaps)) reply given → IsKeptUnless p before told event reply given
     admitted_done _ _ (turns.was_stopped is) = absurd (true≢false (sym is ∙ running))
     admitted_done _ _ (turns.answered at answer runs same answers) = none_entry (answer_is at answer None same answers).1
     admitted_done _ _ (turns.full at answer entry runs same answers is_full) =

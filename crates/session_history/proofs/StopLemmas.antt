@@ -60,7 +60,7 @@ answer_goes root state pass clock _ _ _ (cites_none numbers number absent) is = 
 answer_goes root state pass clock _ _ _ (logs_in who nonce signature accepted) is = cc
 answer_goes root state pass clock _ _ _ (rejects who nonce signature refused) is = cc
 
-pub stop_there : (gives : ℤ → Type 0) (p : StorePass) (before : List StoreEntry) (request : TurnRequest) (reply : TurnReply) (given : List StoreEntry) → Turn gives p before request reply given → reply ≡ turn_replies.Stopped → has_stop (before ++ given) ≡ true
+pub stop_there : (gives : List StoreEntry → ℤ → Type 0) (p : StorePass) (before : List StoreEntry) (request : TurnRequest) (reply : TurnReply) (given : List StoreEntry) → Turn gives p before request reply given → reply ≡ turn_replies.Stopped → has_stop (before ++ given) ≡ true
 stop_there gives p before request _ _ (was_stopped stop) is = stop_before before [] stop
 stop_there gives p before request _ _ (answered clock reply running shown answers) is = absurd (answer_goes p.root (state_of_entries p.root before) p.number clock request reply None answers is)
 stop_there gives p before request _ _ (full clock reply entry running shown answers is_full) is = absurd cc
@@ -69,7 +69,7 @@ stop_there gives p before request _ _ (failed clock reply entry running shown an
 stop_there gives p before request _ _ turns.without_memory is = absurd cc
 
 -- it keeps no event then
-none_kept : (gives : ℤ → Type 0) (p : StorePass) (before : List StoreEntry) (request : TurnRequest) (reply : TurnReply) (given : List StoreEntry) → Turn gives p before request reply given → reply ≡ turn_replies.Stopped → events_among given ≡ []
+none_kept : (gives : List StoreEntry → ℤ → Type 0) (p : StorePass) (before : List StoreEntry) (request : TurnRequest) (reply : TurnReply) (given : List StoreEntry) → Turn gives p before request reply given → reply ≡ turn_replies.Stopped → events_among given ≡ []
 none_kept gives p before request _ _ (was_stopped stop) is = refl
 none_kept gives p before request _ _ (answered clock reply running shown answers) is = refl
 none_kept gives p before request _ _ (full clock reply entry running shown answers is_full) is = refl
@@ -78,7 +78,7 @@ none_kept gives p before request _ _ (failed clock reply entry running shown ans
 none_kept gives p before request _ _ turns.without_memory is = refl
 
 -- and makes no checkpoint
-none_made : (gives : ℤ → Type 0) (p : StorePass) (before : List StoreEntry) (request : TurnRequest) (reply : TurnReply) (given : List StoreEntry) → Turn gives p before request reply given → reply ≡ turn_replies.Stopped → checkpoints_among given ≡ 0
+none_made : (gives : List StoreEntry → ℤ → Type 0) (p : StorePass) (before : List StoreEntry) (request : TurnRequest) (reply : TurnReply) (given : List StoreEntry) → Turn gives p before request reply given → reply ≡ turn_replies.Stopped → checkpoints_among given ≡ 0
 none_made gives p before request _ _ (was_stopped stop) is = refl
 none_made gives p before request _ _ (answered clock reply running shown answers) is = refl
 none_made gives p before request _ _ (full clock reply entry running shown answers is_full) is = refl
@@ -100,7 +100,7 @@ no_mark root state pass clock _ _ _ (logs_in who nonce signature accepted) = ref
 no_mark root state pass clock _ _ _ (rejects who nonce signature refused) = refl
 
 -- and a turn that adds a mark is told so
-mark_told : (gives : ℤ → Type 0) (p : StorePass) (before : List StoreEntry) (request : TurnRequest) (reply : TurnReply) (given : List StoreEntry) → Turn gives p before request reply given → has_stop given ≡ true → reply ≡ turn_replies.Stopped
+mark_told : (gives : List StoreEntry → ℤ → Type 0) (p : StorePass) (before : List StoreEntry) (request : TurnRequest) (reply : TurnReply) (given : List StoreEntry) → Turn gives p before request reply given → has_stop given ≡ true → reply ≡ turn_replies.Stopped
 mark_told gives p before request _ _ (was_stopped stop) mark = refl
 mark_told gives p before request _ _ (answered clock reply running shown answers) mark = absurd (false≢true mark)
 mark_told gives p before request _ _ (full clock reply entry running shown answers is_full) mark = absurd (false≢true mark)
@@ -108,7 +108,7 @@ mark_told gives p before request _ _ (kept clock reply entry running shown answe
 mark_told gives p before request _ _ (failed clock reply entry running shown answers room) mark = refl
 mark_told gives p before request _ _ turns.without_memory mark = absurd (false≢true mark)
 
-pub stops_told : (gives : ℤ → Type 0) (p : StorePass) (before : List StoreEntry) (request : TurnRequest) (reply : TurnReply) (given : List StoreEntry) → Turn gives p before request reply given →
+pub stops_told : (gives : List StoreEntry → ℤ → Type 0) (p : StorePass) (before : List StoreEntry) (request : TurnRequest) (reply : TurnReply) (given : List StoreEntry) → Turn gives p before request reply given →
     (reply ≡ turn_replies.Stopped → (has_stop (before ++ given) ≡ true) × (events_among given ≡ []) × (checkpoints_among given ≡ 0)) × (has_stop given ≡ true → reply ≡ turn_replies.Stopped)
 stops_told gives p before request reply given turn =
     (λ is. (stop_there gives p before request reply given turn is, none_kept gives p before request reply given turn is, none_made gives p before request reply given turn is), λ mark. mark_told gives p before request reply given turn mark)
@@ -118,7 +118,7 @@ front_of : (history before given after : List StoreEntry) (to : ℕ) → history
 front_of history before given after to parts place =
     ap (take to) (parts ∙ sym (append_assoc before given after)) ∙ ap (λ (n : ℕ). take n ((before ++ given) ++ after)) (place ∙ sym (length-append before given)) ∙ take-append_seam (before ++ given) after
 
-turn_stopped : (gives : ℤ → Type 0) (p : StorePass) (history : List StoreEntry) (from : ℕ) (request : TurnRequest) (reply : TurnReply) (to : ℕ) (given : List StoreEntry) →
+turn_stopped : (gives : List StoreEntry → ℤ → Type 0) (p : StorePass) (history : List StoreEntry) (from : ℕ) (request : TurnRequest) (reply : TurnReply) (to : ℕ) (given : List StoreEntry) →
     TurnPlaced gives p history from request reply to given → reply ≡ turn_replies.Stopped → has_stop (take to history) ≡ true
 turn_stopped gives p history from request reply to given t is = ap has_stop (front_of history t.before given t.after to t.parts t.place) ∙ stop_there gives p t.before request reply given t.turn is
 
@@ -173,7 +173,7 @@ pub had_memory_at_once : (reply : LineReply) → IsSaidAtOnce reply → reply �
 had_memory_at_once reply (inl is) same = let both : replies.NotLoggedIn ≡ replies.NoMemory = sym is ∙ same in cc
 had_memory_at_once reply (inr bad) same = let both : replies.Faulty bad.0 ≡ replies.NoMemory = sym bad.1 ∙ same in cc
 
-by_place : (gives : ℤ → Type 0) (p : StorePass) (history : List StoreEntry) (s : SessionState) (from : ℕ) (line : List ℕ) (task : LineTask) (reply : LineReply) (to : ℕ) (given : List StoreEntry) →
+by_place : (gives : List StoreEntry → ℤ → Type 0) (p : StorePass) (history : List StoreEntry) (s : SessionState) (from : ℕ) (line : List ℕ) (task : LineTask) (reply : LineReply) (to : ℕ) (given : List StoreEntry) →
     IsTaskOf s line task → LinePlaced gives p history from task reply to given → reply ≡ replies.Stopped → has_stop (take to history) ≡ true
 by_place gives p history s from line _ _ _ _ asks_for (at_once reply) same = absurd (not_stopped_at_once reply (said_at_once s line (tasks.Reply reply) reply asks_for refl) same)
 by_place gives p history s from line _ _ _ _ asks_for (in_a_turn request found reply to given turn is) same = turn_stopped gives p history from request found to given turn (stopped_turn found reply is same)
@@ -182,6 +182,6 @@ by_place gives p history s from line _ _ _ _ asks_for (proves_none goal numbers 
 by_place gives p history s from line _ _ _ _ asks_for (issues goal numbers proof cited g at found reply to given turn verdict_is second is) same = turn_stopped gives p history at _ found to given second (stopped_turn found reply is same)
 by_place gives p history s from line _ _ _ _ asks_for (places.without_memory task) same = absurd cc
 
-pub line_stopped : (gives : ℤ → Type 0) (p : StorePass) (history : List StoreEntry) (s : SessionState) (from : ℕ) (line : List ℕ) (task : LineTask) (to : ℕ) (given : List StoreEntry) →
+pub line_stopped : (gives : List StoreEntry → ℤ → Type 0) (p : StorePass) (history : List StoreEntry) (s : SessionState) (from : ℕ) (line : List ℕ) (task : LineTask) (to : ℕ) (given : List StoreEntry) →
     IsTaskOf s line task → LinePlaced gives p history from task replies.Stopped to given → has_stop (take to history) ≡ true
 line_stopped gives p history s from line task to given asks_for placed = by_place gives p history s from line task replies.Stopped to given asks_for placed refl

@@ -77,7 +77,7 @@ is_full_or_not root before (stopped pass met) = inr (λ no. no)
 
 -- ---- some end
 
-module _ (gives : ℤ → Type 0) (p : StorePass) (before : List StoreEntry) (request : TurnRequest) (clock : ℤ) (shown : gives clock) (running : has_stop before ≡ false) where
+module _ (gives : List StoreEntry → ℤ → Type 0) (p : StorePass) (before : List StoreEntry) (request : TurnRequest) (clock : ℤ) (shown : gives before clock) (running : has_stop before ≡ false) where
   abbrev HasEnd : Type 0
   HasEnd = (reply : TurnReply) × (given : List StoreEntry) × Turn gives p before request reply given × IsUndisturbed reply
 
@@ -93,13 +93,13 @@ module _ (gives : ℤ → Type 0) (p : StorePass) (before : List StoreEntry) (re
   some_end : IsTurnFormed request → HasEnd
   some_end formed = let some = turn_answer p.root (state_of_entries p.root before) p.number clock request formed in answer_ends some.answer some.entry some.calm some.answers
 
-pub turn_ends : (gives : ℤ → Type 0) (p : StorePass) (before : List StoreEntry) (request : TurnRequest) (clock : ℤ) → gives clock → IsTurnFormed request → has_stop before ≡ false →
+pub turn_ends : (gives : List StoreEntry → ℤ → Type 0) (p : StorePass) (before : List StoreEntry) (request : TurnRequest) (clock : ℤ) → gives before clock → IsTurnFormed request → has_stop before ≡ false →
     (reply : TurnReply) × (given : List StoreEntry) × Turn gives p before request reply given × IsUndisturbed reply
 turn_ends gives p before request clock shown formed running = some_end gives p before request clock shown running formed
 
 -- ---- no end but one where the store is stopped
 
-pub nothing_after_stop : (gives : ℤ → Type 0) (p : StorePass) (before : List StoreEntry) (request : TurnRequest) (reply : TurnReply) (given : List StoreEntry) → has_stop before ≡ true → Turn gives p before request reply given →
+pub nothing_after_stop : (gives : List StoreEntry → ℤ → Type 0) (p : StorePass) (before : List StoreEntry) (request : TurnRequest) (reply : TurnReply) (given : List StoreEntry) → has_stop before ≡ true → Turn gives p before request reply given →
     (given ≡ []) × ((reply ≡ turn_replies.Stopped) ⊎ (reply ≡ turn_replies.NoMemory))
 nothing_after_stop gives p before request _ _ stop (was_stopped is) = (refl, inl refl)
 nothing_after_stop gives p before request _ _ stop (answered clock answer running shown answers) = absurd (true≢false (sym stop ∙ running))
@@ -148,7 +148,7 @@ module _ (p : StorePass) (before : List StoreEntry) (request : TurnRequest) (clo
   moved : (at : ℤ) (answer : TurnReply) (entry : Option StoreEntry) → at ≡ clock → AnswersTurn p.root (state_of_entries p.root before) p.number at request answer entry → AnswersTurn p.root (state_of_entries p.root before) p.number clock request answer entry
   moved at answer entry same answers = subst (λ (moment : ℤ). AnswersTurn p.root (state_of_entries p.root before) p.number moment request answer entry) same answers
 
-  comes_of : (reply : TurnReply) (given : List StoreEntry) → Turn (λ moment. moment ≡ clock) p before request reply given → IsUndisturbed reply → ComesOf p before request clock reply given
+  comes_of : (reply : TurnReply) (given : List StoreEntry) → Turn (λ _ moment. moment ≡ clock) p before request reply given → IsUndisturbed reply → ComesOf p before request clock reply given
   comes_of _ _ (was_stopped is) calm = absurd (calm.not_stopped refl)
   comes_of _ _ (answered at reply running same answers) calm = record { answer = reply; entry = None; answers = moved at reply None same answers; comes = (refl, refl) }
   comes_of _ _ (full at reply entry running same answers is_full) calm = record { answer = reply; entry = Some entry; answers = moved at reply (Some entry) same answers; comes = inl (is_full, refl, refl) }
@@ -165,8 +165,8 @@ comes_once root before answer (Some entry) first second given other (inr one) (i
 comes_once root before answer (Some entry) first second given other (inr one) (inr two) = (one.1 ∙ sym two.1, one.2 ∙ sym two.2)
 
 pub turn_ends_once : (p : StorePass) (before : List StoreEntry) (request : TurnRequest) (clock : ℤ) (first second : TurnReply) (given other : List StoreEntry) →
-    IsLawful (authority_of_root p.root) p.root.base (events_among before) → Turn (λ moment. moment ≡ clock) p before request first given → IsUndisturbed first →
-    Turn (λ moment. moment ≡ clock) p before request second other → IsUndisturbed second → (first ≡ second) × (given ≡ other)
+    IsLawful (authority_of_root p.root) p.root.base (events_among before) → Turn (λ _ moment. moment ≡ clock) p before request first given → IsUndisturbed first →
+    Turn (λ _ moment. moment ≡ clock) p before request second other → IsUndisturbed second → (first ≡ second) × (given ≡ other)
 turn_ends_once p before request clock first second given other lawful one calm two calm' =
     let a = comes_of p before request clock first given one calm in
     let b = comes_of p before request clock second other two calm' in

@@ -43,20 +43,20 @@ use Rattle.session_history.specs.Placed.{LinePlaced, LinesPlaced}
 -- ---- histories that grow: `gives` says which moments the clock gives
 
 -- a turn stays in its place where the history grows at its end
-abbrev pub TurnsStayPlaced : (ℤ → Type 0) → Type 0
+abbrev pub TurnsStayPlaced : (List StoreEntry → ℤ → Type 0) → Type 0
 TurnsStayPlaced gives = (p : StorePass) (history more : List StoreEntry) (from : ℕ)
     (request : TurnRequest) (reply : TurnReply) (to : ℕ) (given : List StoreEntry) →
     TurnPlaced gives p history from request reply to given →
     TurnPlaced gives p (history ++ more) from request reply to given
 
 -- so does a line
-abbrev pub LinesStayPlaced : (ℤ → Type 0) → Type 0
+abbrev pub LinesStayPlaced : (List StoreEntry → ℤ → Type 0) → Type 0
 LinesStayPlaced gives = (p : StorePass) (history more : List StoreEntry) (from : ℕ) (task : LineTask) (reply : LineReply) (to : ℕ) (given : List StoreEntry) →
     LinePlaced gives p history from task reply to given →
     LinePlaced gives p (history ++ more) from task reply to given
 
 -- and so do the lines of a session
-abbrev pub SessionsStayPlaced : (ℤ → Type 0) → Type 0
+abbrev pub SessionsStayPlaced : (List StoreEntry → ℤ → Type 0) → Type 0
 SessionsStayPlaced gives = (p : StorePass) (history more : List StoreEntry) (start : SessionState)
     (from : ℕ) (lines : List (List ℕ)) (answers : List LineReply) (end : SessionState) (to : ℕ)
     (given : List StoreEntry) →
@@ -66,14 +66,14 @@ SessionsStayPlaced gives = (p : StorePass) (history more : List StoreEntry) (sta
 -- ---- what is given, and where
 
 -- the entries that a session is given were all added in turns of its own pass
-abbrev pub GivenAreOfPass : (ℤ → Type 0) → Type 0
+abbrev pub GivenAreOfPass : (List StoreEntry → ℤ → Type 0) → Type 0
 GivenAreOfPass gives = (p : StorePass) (history : List StoreEntry) (start : SessionState) (from : ℕ)
     (lines : List (List ℕ)) (answers : List LineReply) (end : SessionState) (to : ℕ)
     (given : List StoreEntry) →
     LinesPlaced gives p history start from lines answers end to given → AllOfPass p.number given
 
 -- places do not go back, and stay within the history
-abbrev pub PlacesGoOn : (ℤ → Type 0) → Type 0
+abbrev pub PlacesGoOn : (List StoreEntry → ℤ → Type 0) → Type 0
 PlacesGoOn gives = (p : StorePass) (history : List StoreEntry) (start : SessionState) (from : ℕ)
     (lines : List (List ℕ)) (answers : List LineReply) (end : SessionState) (to : ℕ)
     (given : List StoreEntry) →
@@ -82,7 +82,7 @@ PlacesGoOn gives = (p : StorePass) (history : List StoreEntry) (start : SessionS
 
 -- A turn that is told that the store is stopped keeps no event and makes no checkpoint, and there
 -- is a mark, which it found or which it adds; and a turn that adds a mark is told so.
-abbrev pub StopsAreTold : (ℤ → Type 0) → Type 0
+abbrev pub StopsAreTold : (List StoreEntry → ℤ → Type 0) → Type 0
 StopsAreTold gives = (p : StorePass) (before : List StoreEntry) (request : TurnRequest) (reply : TurnReply) (given : List StoreEntry) →
     Turn gives p before request reply given →
     (reply ≡ turn_replies.Stopped → (has_stop (before ++ given) ≡ true) × (events_among given ≡ []) × (checkpoints_among given ≡ 0)) ×
@@ -90,14 +90,14 @@ StopsAreTold gives = (p : StorePass) (before : List StoreEntry) (request : TurnR
 
 -- A turn that is told that a checkpoint was made asked for one, and adds it, under the number of
 -- its pass, and nothing else; and a turn that adds one is told so.
-abbrev pub CheckpointsAreTold : (ℤ → Type 0) → Type 0
+abbrev pub CheckpointsAreTold : (List StoreEntry → ℤ → Type 0) → Type 0
 CheckpointsAreTold gives = (p : StorePass) (before : List StoreEntry) (request : TurnRequest) (reply : TurnReply) (given : List StoreEntry) →
     Turn gives p before request reply given →
     (reply ≡ turn_replies.Checkpointed → (request ≡ requests.Checkpoint) × (given ≡ checkpointed p.number ∷ [])) ×
     (checkpoints_among given ≢ 0 → reply ≡ turn_replies.Checkpointed)
 
 -- a line is told that the store is stopped only where a mark is among the entries up to its place
-abbrev pub StoppedAfterStop : (ℤ → Type 0) → Type 0
+abbrev pub StoppedAfterStop : (List StoreEntry → ℤ → Type 0) → Type 0
 StoppedAfterStop gives = (p : StorePass) (history : List StoreEntry) (s : SessionState) (from : ℕ)
     (line : List ℕ) (task : LineTask) (to : ℕ) (given : List StoreEntry) →
     IsTaskOf s line task → LinePlaced gives p history from task replies.Stopped to given →
@@ -140,7 +140,7 @@ IsByAccepted ring nonce heard (stopped pass met) = IsMetByAccepted ring nonce he
 -- In a session that is given entries one of its lines asks for a login over its nonce that the ring
 -- accepts; each operation among them is by somebody of whom such a line says so, and each
 -- checkpoint by `admin`.
-abbrev pub CallersAreAccepted : (ℤ → Type 0) → Type 0
+abbrev pub CallersAreAccepted : (List StoreEntry → ℤ → Type 0) → Type 0
 CallersAreAccepted gives = (p : StorePass) (history : List StoreEntry) (nonce : List ℕ) (from : ℕ)
     (lines : List (List ℕ)) (answers : List LineReply) (end : SessionState) (to : ℕ)
     (given : List StoreEntry) →
@@ -165,8 +165,10 @@ asked_entry (stopped pass (Some event)) = happened event
 -- One of these lines, which are placed in a history from this state on, asks for the entry: in the
 -- session's state after the lines before it, it has a task; and what the task asks in a turn of the
 -- pass, which finds the entries that the history has before this one, has an answer that adds the
--- entry, or of a mark what was being added when a disk failed, at a moment that the clock gives.
-pub record IsAskedFor (gives : ℤ → Type 0) (p : StorePass) (history : List StoreEntry) (start : SessionState) (from : ℕ) (lines : List (List ℕ))
+-- entry, or of a mark what was being added when a disk failed, at a moment that the clock gives over
+-- the entries that stand before it.
+pub record IsAskedFor (gives : List StoreEntry → ℤ → Type 0) (p : StorePass)
+    (history : List StoreEntry) (start : SessionState) (from : ℕ) (lines : List (List ℕ))
     (entry : StoreEntry) : Type 0 where
   pub earlier : List (List ℕ)
   pub line : List ℕ
@@ -184,18 +186,18 @@ pub record IsAskedFor (gives : ℤ → Type 0) (p : StorePass) (history : List S
   pub found : List StoreEntry
   pub begins : IsPrefix (found ++ entry ∷ []) history
   pub moment : ℤ
-  pub shown : gives moment
+  pub shown : gives found moment
   pub answer : TurnReply
   pub answers : AnswersTurn p.root (state_of_entries p.root found) p.number moment request answer (Some (asked_entry entry))
 
 -- each of these entries is one that a line asks for; and so is, of a mark, the event that was being
 -- kept when a disk failed
-abbrev pub AreAskedFor : (ℤ → Type 0) → StorePass → List StoreEntry → SessionState → ℕ →
+abbrev pub AreAskedFor : (List StoreEntry → ℤ → Type 0) → StorePass → List StoreEntry → SessionState → ℕ →
     List (List ℕ) → List StoreEntry → Type 0
 AreAskedFor gives p history start from lines given = AllByRecursion (IsAskedFor gives p history start from lines) given
 
 -- so are all entries that a session is given
-abbrev pub EntriesAreAskedFor : (ℤ → Type 0) → Type 0
+abbrev pub EntriesAreAskedFor : (List StoreEntry → ℤ → Type 0) → Type 0
 EntriesAreAskedFor gives = (p : StorePass) (history : List StoreEntry) (start : SessionState) (from : ℕ) (lines : List (List ℕ))
     (answers : List LineReply) (end : SessionState) (to : ℕ) (given : List StoreEntry) →
     LinesPlaced gives p history start from lines answers end to given →
@@ -204,7 +206,7 @@ EntriesAreAskedFor gives = (p : StorePass) (history : List StoreEntry) (start : 
 -- ---- one outcome
 
 -- each line has a reply
-abbrev pub LinesAreAnswered : (ℤ → Type 0) → Type 0
+abbrev pub LinesAreAnswered : (List StoreEntry → ℤ → Type 0) → Type 0
 LinesAreAnswered gives = (p : StorePass) (history : List StoreEntry) (start : SessionState)
     (from : ℕ) (lines : List (List ℕ)) (answers : List LineReply) (end : SessionState) (to : ℕ)
     (given : List StoreEntry) →
@@ -231,17 +233,17 @@ pub record IsUndisturbed (reply : TurnReply) : Type 0 where
   pub not_stopped : reply ≢ turn_replies.Stopped
 
 -- at a store that is not stopped a turn has an end that is not disturbed, whatever it finds
-abbrev pub TurnsHaveAnEnd : (ℤ → Type 0) → Type 0
+abbrev pub TurnsHaveAnEnd : (List StoreEntry → ℤ → Type 0) → Type 0
 TurnsHaveAnEnd gives = (p : StorePass) (before : List StoreEntry) (request : TurnRequest) (clock : ℤ) →
-    gives clock → IsTurnFormed request → has_stop before ≡ false →
+    gives before clock → IsTurnFormed request → has_stop before ≡ false →
     (reply : TurnReply) × (given : List StoreEntry) × Turn gives p before request reply given ×
     IsUndisturbed reply
 
 -- so does a line: after the entries of a lawful history, at a store that is not stopped, it has a
 -- reply and entries which place it there
-abbrev pub LinesHaveAnEnd : (ℤ → Type 0) → Type 0
+abbrev pub LinesHaveAnEnd : (List StoreEntry → ℤ → Type 0) → Type 0
 LinesHaveAnEnd gives = (p : StorePass) (s : SessionState) (line : List ℕ) (task : LineTask) (before : List StoreEntry) (clock : ℤ) →
-    gives clock → IsNamed s.caller →
+    gives before clock → IsNamed s.caller →
     IsLawful (authority_of_root p.root) p.root.base (events_among before) →
     has_stop before ≡ false → IsTaskOf s line task →
     (reply : LineReply) × (given : List StoreEntry) ×
@@ -249,7 +251,7 @@ LinesHaveAnEnd gives = (p : StorePass) (s : SessionState) (line : List ℕ) (tas
     (reply ≢ replies.NoMemory) × (reply ≢ replies.Stopped)
 
 -- at one that is stopped nothing is decided
-abbrev pub NothingAfterStop : (ℤ → Type 0) → Type 0
+abbrev pub NothingAfterStop : (List StoreEntry → ℤ → Type 0) → Type 0
 NothingAfterStop gives = (p : StorePass) (before : List StoreEntry) (request : TurnRequest) (reply : TurnReply) (given : List StoreEntry) →
     has_stop before ≡ true → Turn gives p before request reply given →
     (given ≡ []) × ((reply ≡ turn_replies.Stopped) ⊎ (reply ≡ turn_replies.NoMemory))
@@ -274,13 +276,13 @@ AdmittedAreDone = (p : StorePass) (before : List StoreEntry) (clock : ℤ) (call
     (let state = state_of_entries p.root before in
     IsAdmitted p.root.key state caller op procaps (moment_of state clock) →
     refusal state.world op ≡ None →
-    Turn (λ moment. moment ≡ clock) p before (Step (Act caller op procaps)) reply given →
+    Turn (λ _ moment. moment ≡ clock) p before (Step (Act caller op procaps)) reply given →
     IsKeptUnless p before (Operation (effect_reply state.world op)) (Acted p.number caller op procaps (moment_of state clock)) reply given)
 
 -- over a lawful history a turn has one end at a moment, if it is not disturbed
 abbrev pub TurnsHaveOneEnd : Type 0
 TurnsHaveOneEnd = (p : StorePass) (before : List StoreEntry) (request : TurnRequest) (clock : ℤ) (first second : TurnReply) (given other : List StoreEntry) →
     IsLawful (authority_of_root p.root) p.root.base (events_among before) →
-    Turn (λ moment. moment ≡ clock) p before request first given → IsUndisturbed first →
-    Turn (λ moment. moment ≡ clock) p before request second other → IsUndisturbed second →
+    Turn (λ _ moment. moment ≡ clock) p before request first given → IsUndisturbed first →
+    Turn (λ _ moment. moment ≡ clock) p before request second other → IsUndisturbed second →
     (first ≡ second) × (given ≡ other)

@@ -39,7 +39,8 @@ IsReplyOf turn_replies.NoMemory line = line ≡ replies.NoMemory
 -- others may have theirs, and the second is
 -- answered over what is there then: the issue stands only if the statements still do. If memory
 -- runs out instead of a reply, the next line may go on from where this one began.
-pub data LinePlaced (gives : ℤ → Type 0) (p : StorePass) (history : List StoreEntry) (from : ℕ) : LineTask → LineReply → ℕ → List StoreEntry → Type 0 where
+pub data LinePlaced (gives : List StoreEntry → ℤ → Type 0) (p : StorePass)
+    (history : List StoreEntry) (from : ℕ) : LineTask → LineReply → ℕ → List StoreEntry → Type 0 where
   -- no turn is taken
   at_once : (reply : LineReply) → LinePlaced gives p history from (tasks.Reply reply) reply from []
   -- one turn
@@ -99,7 +100,7 @@ state_after s (tasks.Proof goal numbers proof) reply = s
 -- state: each line from where the one before it came to. Then the session has this state, it came
 -- to the first `to` entries, and the
 -- history has the given entries in this order among those of others.
-pub data LinesPlaced (gives : ℤ → Type 0) (p : StorePass) (history : List StoreEntry) (start : SessionState) (from : ℕ) : List (List ℕ) →
+pub data LinesPlaced (gives : List StoreEntry → ℤ → Type 0) (p : StorePass) (history : List StoreEntry) (start : SessionState) (from : ℕ) : List (List ℕ) →
     List LineReply → SessionState → ℕ → List StoreEntry → Type 0 where
   no_line : LinesPlaced gives p history start from [] [] start from []
   one_more : (lines : List (List ℕ)) (answers : List LineReply) (s : SessionState) (at : ℕ)

@@ -76,28 +76,31 @@ event_of (stopped pass met) = met
 -- What becomes of a turn of the pass that finds these entries, and asks this: its reply, and the
 -- entries that it adds. The first case that applies is the one; out of memory may be replied in
 -- each. `gives` says which moments the
--- clock gives, of which the turn reads one.
-pub data Turn (gives : ℤ → Type 0) (p : StorePass) (before : List StoreEntry) (request : TurnRequest) : TurnReply → List StoreEntry → Type 0 where
+-- clock gives to who has a store with these entries in hand; the turn reads one of those that are
+-- given over the entries that it finds. So what was read before an entry came is no reading of a
+-- turn after it.
+pub data Turn (gives : List StoreEntry → ℤ → Type 0) (p : StorePass) (before : List StoreEntry)
+    (request : TurnRequest) : TurnReply → List StoreEntry → Type 0 where
   -- the store was stopped, and nothing is decided
   was_stopped : has_stop before ≡ true → Turn gives p before request turn_replies.Stopped []
   -- the answer keeps nothing
-  answered : (clock : ℤ) (answer : TurnReply) → has_stop before ≡ false → gives clock →
+  answered : (clock : ℤ) (answer : TurnReply) → has_stop before ≡ false → gives before clock →
       AnswersTurn p.root (state_of_entries p.root before) p.number clock request answer None →
       Turn gives p before request answer []
   -- what the answer adds does not fit
   full : (clock : ℤ) (answer : TurnReply) (entry : StoreEntry) → has_stop before ≡ false →
-      gives clock →
+      gives before clock →
       AnswersTurn p.root (state_of_entries p.root before) p.number clock request answer (Some entry) →
       IsFullAfter p.root before entry → Turn gives p before request turn_replies.Full []
   -- what the answer adds is kept
   kept : (clock : ℤ) (answer : TurnReply) (entry : StoreEntry) → has_stop before ≡ false →
-      gives clock →
+      gives before clock →
       AnswersTurn p.root (state_of_entries p.root before) p.number clock request answer (Some entry) →
       (IsFullAfter p.root before entry → ⊥) → Turn gives p before request answer (entry ∷ [])
   -- a disk fails under what the answer adds: the mark has the event that was being kept, if it is
   -- one
   failed : (clock : ℤ) (answer : TurnReply) (entry : StoreEntry) → has_stop before ≡ false →
-      gives clock →
+      gives before clock →
       AnswersTurn p.root (state_of_entries p.root before) p.number clock request answer (Some entry) →
       (IsFullAfter p.root before entry → ⊥) →
       Turn gives p before request turn_replies.Stopped (stopped p.number (event_of entry) ∷ [])
@@ -107,7 +110,7 @@ pub data Turn (gives : ℤ → Type 0) (p : StorePass) (before : List StoreEntry
 -- The turn has its place in a history, not before the first `from` entries: it found those before
 -- it, and added the given ones. `to` is how many entries there are then. What the history has after
 -- them may be of others.
-pub record TurnPlaced (gives : ℤ → Type 0) (p : StorePass) (history : List StoreEntry) (from : ℕ)
+pub record TurnPlaced (gives : List StoreEntry → ℤ → Type 0) (p : StorePass) (history : List StoreEntry) (from : ℕ)
     (request : TurnRequest) (reply : TurnReply) (to : ℕ) (given : List StoreEntry) : Type 0 where
   pub before : List StoreEntry
   pub after : List StoreEntry

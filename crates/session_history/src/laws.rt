@@ -3,10 +3,10 @@
 
 ghost use Rattle.session_history.specs.Laws.{TurnsStayPlaced, LinesStayPlaced, SessionsStayPlaced, GivenAreOfPass, PlacesGoOn, StopsAreTold, CheckpointsAreTold, StoppedAfterStop, CallersAreAccepted, EntriesAreAskedFor, AdmittedAreDone, LinesAreAnswered, LinesHaveATask, LinesHaveOneTask, TasksAreFormed, TurnsHaveAnEnd, LinesHaveAnEnd, NothingAfterStop, TurnsHaveOneEnd};
 
-use pcfs_ports::Clock;
+use crate::clock::TurnClock;
 
 /// A turn, a line and the lines of a session stay in their places when the history grows at its end.
-pub fn what_is_placed_stays_placed<C: Clock>(clock: &C)
+pub fn what_is_placed_stays_placed<C: TurnClock>(clock: &C)
     ensures turns { TurnsStayPlaced (C.gives clock.now) }
     ensures lines { LinesStayPlaced (C.gives clock.now) }
     ensures sessions { SessionsStayPlaced (C.gives clock.now) }
@@ -18,7 +18,7 @@ pub fn what_is_placed_stays_placed<C: Clock>(clock: &C)
 /// in over its nonce, by a signature that the ring accepts; each operation among them is by somebody of whom such a line says
 /// so, and each checkpoint by `admin`, of whom one does. Each is one that a line asks for, and so is the event that was being
 /// kept when a disk failed in a turn of the session.
-pub fn given_entries_are_of_the_session<C: Clock>(clock: &C)
+pub fn given_entries_are_of_the_session<C: TurnClock>(clock: &C)
     ensures pass { GivenAreOfPass (C.gives clock.now) }
     ensures callers { CallersAreAccepted (C.gives clock.now) }
     ensures asked { EntriesAreAskedFor (C.gives clock.now) }
@@ -27,7 +27,7 @@ pub fn given_entries_are_of_the_session<C: Clock>(clock: &C)
 }
 
 /// The places of a session's lines do not go back, and stay within the history; each line has a reply.
-pub fn places_go_on<C: Clock>(clock: &C)
+pub fn places_go_on<C: TurnClock>(clock: &C)
     ensures places { PlacesGoOn (C.gives clock.now) }
     ensures answered { LinesAreAnswered (C.gives clock.now) }
 {
@@ -36,7 +36,7 @@ pub fn places_go_on<C: Clock>(clock: &C)
 
 /// A turn is told that the store is stopped if it adds a mark, and only if there is one; it keeps no event and makes
 /// no checkpoint then. So a line is told so only after a mark, and after one no turn decides anything.
-pub fn a_stop_is_the_end<C: Clock>(clock: &C)
+pub fn a_stop_is_the_end<C: TurnClock>(clock: &C)
     ensures turns { StopsAreTold (C.gives clock.now) }
     ensures told { StoppedAfterStop (C.gives clock.now) }
     ensures nothing { NothingAfterStop (C.gives clock.now) }
@@ -45,7 +45,7 @@ pub fn a_stop_is_the_end<C: Clock>(clock: &C)
 }
 
 /// A turn is told that a checkpoint was made exactly if it adds one. It asked for one then, and adds nothing else.
-pub fn checkpoints_are_told<C: Clock>(clock: &C)
+pub fn checkpoints_are_told<C: TurnClock>(clock: &C)
     ensures { CheckpointsAreTold (C.gives clock.now) }
 {
     let _ = clock;
@@ -60,7 +60,7 @@ pub fn lines_have_one_task()
 
 /// At a store that is not stopped a turn has an end that is not disturbed, whatever it finds; and so has a line, after a
 /// lawful history.
-pub fn turns_and_lines_have_an_end<C: Clock>(clock: &C)
+pub fn turns_and_lines_have_an_end<C: TurnClock>(clock: &C)
     ensures turns { TurnsHaveAnEnd (C.gives clock.now) }
     ensures lines { LinesHaveAnEnd (C.gives clock.now) }
 {

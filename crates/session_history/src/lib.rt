@@ -5,11 +5,13 @@
 //! definitions are in `specs/`: `Passes`, `Turn`, `SessionState`, `IsTaskOf`, `LinesPlaced`, `Output`.
 #![tactic(auto)]
 
+mod clock;
 pub mod laws;
 mod reply;
 mod request;
 mod task;
 
+pub use clock::TurnClock;
 pub use reply::TurnReply;
 pub use request::TurnRequest;
 pub use task::LineTask;

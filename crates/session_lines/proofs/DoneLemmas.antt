@@ -35,6 +35,7 @@ use Rattle.shared_store.specs.Turning.{pass_at}
 use Rattle.shared_store.specs.Asking.{entries_seen, HasHistory, PassGoesOn, HasAsked}
 use Rattle.shared_store.proofs.HistoryLemmas.{numbered_both}
 use Rattle.session_lines.specs.Replied.{HasTold, HasIssued, refuted, granted, without_memory, HasDone, HasReplied}
+use Rattle.session_lines.proofs.TurnCountLemmas.{no_turn, no_turns, by_turn, by_two_turns}
 use Rattle.session_lines.proofs.ReplyLemmas.{cites_nothing_more, state_without_memory}
 
 -- a beginning is not longer than the whole
@@ -42,7 +43,7 @@ pub shorter : {A : Type 0} (xs ys : List A) → IsPrefix xs ys → length xs ≤
 shorter xs ys begins = let whole : length (xs ++ begins.0) ≡ length ys = ap length begins.1 in omega (arith, whole, length-append xs begins.0)
 
 -- a turn is not before an earlier place
-earlier : (gives : ℤ → Type 0) (p : StorePass) (history : List StoreEntry) (from at : ℕ) (request : TurnRequest) (reply : TurnReply) (to : ℕ) (given : List StoreEntry) → from ≤ at → TurnPlaced gives p history at request reply to given → TurnPlaced gives p history from request reply to given
+earlier : (gives : List StoreEntry → ℤ → Type 0) (p : StorePass) (history : List StoreEntry) (from at : ℕ) (request : TurnRequest) (reply : TurnReply) (to : ℕ) (given : List StoreEntry) → from ≤ at → TurnPlaced gives p history at request reply to given → TurnPlaced gives p history from request reply to given
 earlier gives p history from at request reply to given before t =
     record { before = t.before; after = t.after; parts = t.parts; not_earlier = omega (arith, before, t.not_earlier); place = t.place; turn = t.turn }
 
@@ -68,7 +69,7 @@ module _ {D : Type 0} where
   goes_by_nothing : (old new : PassView (LockEntry D)) (given : List StoreEntry) → given ≡ [] → PassGoesOn old new given → PassGoesOn old new []
   goes_by_nothing old new given none one = subst (PassGoesOn old new) none one
 
-module _ {D : Type 0} (gives : ℤ → Type 0) where
+module _ {D : Type 0} (gives : List StoreEntry → ℤ → Type 0) where
   -- ---- a check
 
   -- it refused the proof, or memory ran out
@@ -92,11 +93,11 @@ module _ {D : Type 0} (gives : ℤ → Type 0) where
 
   pub done_at_once : (old : PassView (LockEntry D)) (reply : LineReply) → HasDone gives (tasks.Reply reply) old old reply
   done_at_once old reply =
-      record { given = []; goes_on = stays old; placed = λ from within. record { to = from; within = within; placed = λ opening entries begins. at_once reply }; known = λ needs some. absurd needs }
+      record { given = []; goes_on = stays old; placed = λ from within. record { to = from; within = within; latest = λ needs some. absurd needs; placed = λ opening entries begins. at_once reply }; known = λ needs some. absurd needs; turns = no_turn 2 old.turns }
 
   pub done_without_memory : (old : PassView (LockEntry D)) (task : LineTask) → HasDone gives task old old replies.NoMemory
   done_without_memory old task =
-      record { given = []; goes_on = stays old; placed = λ from within. record { to = from; within = within; placed = λ opening entries begins. places.without_memory task }; known = λ needs some. absurd (some refl) }
+      record { given = []; goes_on = stays old; placed = λ from within. record { to = from; within = within; latest = λ needs some. absurd (some refl); placed = λ opening entries begins. places.without_memory task }; known = λ needs some. absurd (some refl); turns = no_turns task old.turns }
 
   pub done_turn : (old new : PassView (LockEntry D)) (request : TurnRequest) (reply : LineReply) → HasTold gives request old new reply → HasDone gives (tasks.Turn request) old new reply
   done_turn old new request reply t =
@@ -107,9 +108,11 @@ module _ {D : Type 0} (gives : ℤ → Type 0) where
         placed = λ from within. record {
           to = entries_seen new;
           within = omega arith;
+          latest = λ needs some. refl;
           placed = λ opening entries begins. in_a_turn request t.replied reply (entries_seen new) a.given (earlier gives (pass_at opening old.number) entries from (entries_seen old) request t.replied (entries_seen new) a.given within (a.placed opening entries begins)) t.says;
         };
         known = λ needs some. knows request old new t.replied a;
+        turns = by_turn reply old.turns new.turns a.turns;
       }
 
   module _ (goal : Goal) (numbers : List ℕ) (proof : ProofView) where
@@ -121,9 +124,11 @@ module _ {D : Type 0} (gives : ℤ → Type 0) where
           placed = λ from within. record {
             to = entries_seen new;
             within = omega arith;
+            latest = λ needs some. refl;
             placed = λ opening entries begins. cites_none goal numbers proof found reply (entries_seen new) a.given (earlier gives (pass_at opening old.number) entries from (entries_seen old) (Cite numbers) found (entries_seen new) a.given within (a.placed opening entries begins)) says;
           };
           known = λ needs some. knows (Cite numbers) old new found a;
+          turns = by_turn reply old.turns new.turns a.turns;
         }
 
     module _ (cites : List CiteOf) (old mid : PassView (LockEntry D)) (a : HasAsked gives (Cite numbers) old mid (turn_replies.Cited cites)) where
@@ -143,8 +148,9 @@ module _ {D : Type 0} (gives : ℤ → Type 0) where
           (record {
             given = [];
             goes_on = goes_by_nothing old mid a.given none_given a.goes_on;
-            placed = λ from within. record { to = entries_seen mid; within = omega arith; placed = λ opening entries begins. proves_none goal numbers proof cites fault (entries_seen mid) (cited_in opening entries from within begins) is };
+            placed = λ from within. record { to = entries_seen mid; within = omega arith; latest = λ needs some. refl; placed = λ opening entries begins. proves_none goal numbers proof cites fault (entries_seen mid) (cited_in opening entries from within begins) is };
             known = λ needs some. knows (Cite numbers) old mid (turn_replies.Cited cites) a;
+            turns = by_turn (replies.Unproved fault) old.turns mid.turns a.turns;
           })
       by_check new _ (granted g reply is t) =
           let b = t.asked in
@@ -154,20 +160,23 @@ module _ {D : Type 0} (gives : ℤ → Type 0) where
             placed = λ from within. record {
               to = entries_seen new;
               within = omega arith;
+              latest = λ needs some. refl;
               placed = λ opening entries begins.
                   issues goal numbers proof cites g (entries_seen mid) t.replied reply (entries_seen new) b.given
                   (cited_in opening entries from within (prefix_trans mid.seen new.seen (lock_history opening entries) b.goes_on.seen begins)) is
                   (subst (λ (n : ℕ). TurnPlaced gives (pass_at opening n) entries (entries_seen mid) (Step (Issue (checked_view cites goal proof g))) t.replied (entries_seen new) b.given) a.goes_on.number (b.placed opening entries begins)) t.says;
             };
             known = λ needs some. knows (Step (Issue (checked_view cites goal proof g))) mid new t.replied b;
+            turns = by_two_turns reply old.turns mid.turns new.turns a.turns b.turns;
           }
       by_check new _ (without_memory same) =
           subst (λ (n : PassView (LockEntry D)). HasDone gives (tasks.Proof goal numbers proof) old n replies.NoMemory) (sym same)
           (record {
             given = [];
             goes_on = goes_by_nothing old mid a.given none_given a.goes_on;
-            placed = λ from within. record { to = from; within = seen_more from within; placed = λ opening entries begins. places.without_memory (tasks.Proof goal numbers proof) };
+            placed = λ from within. record { to = from; within = seen_more from within; latest = λ needs some. absurd (some refl); placed = λ opening entries begins. places.without_memory (tasks.Proof goal numbers proof) };
             known = λ needs some. absurd (some refl);
+            turns = by_turn replies.NoMemory old.turns mid.turns a.turns;
           })
         where
           seen_more : (from : ℕ) → from ≤ entries_seen old → from ≤ entries_seen mid
@@ -181,4 +190,4 @@ module _ {D : Type 0} (gives : ℤ → Type 0) where
   pub replied_without_memory : (state : SessionState) (line : List ℕ) (old : PassView (LockEntry D)) → HasReplied gives state line old old state replies.NoMemory
   replied_without_memory state line old =
       let some = asks_something state line in
-      record { task = some.0; is_task = some.1; after_is = state_without_memory state some.0; done = done_without_memory old some.0 }
+      record { task = some.0; is_task = some.1; after_is = state_without_memory state some.0; done = done_without_memory old some.0; turns = no_turn 2 old.turns }

@@ -1,3 +1,4 @@
+pub mod TurnCountLemmas
 pub mod ReplyLemmas
 pub mod DoneLemmas
 pub mod TaskLemmas

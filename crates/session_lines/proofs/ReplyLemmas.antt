@@ -35,7 +35,7 @@ tellable_else turn_replies.Stopped other = tt
 tellable_else turn_replies.NoMemory other = tt
 
 -- a turn that asks for no statements is given none
-pub tellable : (gives : ℤ → Type 0) (p : StorePass) (before : List StoreEntry) (request : TurnRequest) (reply : TurnReply) (given : List StoreEntry) → IsSingle request → Turn gives p before request reply given → IsTellable reply
+pub tellable : (gives : List StoreEntry → ℤ → Type 0) (p : StorePass) (before : List StoreEntry) (request : TurnRequest) (reply : TurnReply) (given : List StoreEntry) → IsSingle request → Turn gives p before request reply given → IsTellable reply
 tellable gives p before request reply given single turn = tellable_else reply (single_not_cited gives p before request reply given single turn)
 
 -- statements are given without an entry
@@ -47,7 +47,7 @@ keeps_no_event : (root : Root) (state : BaseView) (pass : ℕ) (clock : ℤ) (nu
 keeps_no_event root state pass clock numbers reply entry answers = let none : ◌≡◌ {A = Option StoreEntry} (Some entry) None = keeps_none root state pass clock numbers reply (Some entry) answers in cc
 
 -- a turn for statements adds nothing
-pub cites_nothing_more : (gives : ℤ → Type 0) (p : StorePass) (before : List StoreEntry) (numbers : List ℕ) (reply : TurnReply) (given : List StoreEntry) → Turn gives p before (Cite numbers) reply given → given ≡ []
+pub cites_nothing_more : (gives : List StoreEntry → ℤ → Type 0) (p : StorePass) (before : List StoreEntry) (numbers : List ℕ) (reply : TurnReply) (given : List StoreEntry) → Turn gives p before (Cite numbers) reply given → given ≡ []
 cites_nothing_more gives p before numbers _ _ (turns.was_stopped is) = refl
 cites_nothing_more gives p before numbers _ _ (turns.answered clock reply running shown answers) = refl
 cites_nothing_more gives p before numbers _ _ (turns.full clock reply entry running shown answers is_full) = refl

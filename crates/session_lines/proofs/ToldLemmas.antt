@@ -26,7 +26,7 @@ module _ {D : Type 0} where
       let within : length told.seen ≤ length old.seen = shorter told.seen old.seen earlier in
       omega (arith, long, same, within)
 
-  pub line_after_told : (gives : ℤ → Type 0) (told old new : PassView (LockEntry D)) (opening : StoreView D) (task : LineTask) (reply : LineReply) → (h : HasHistory opening told) → IsPrefix told.seen old.seen → NeedsTurns task → reply ≢ replies.NoMemory →
+  pub line_after_told : (gives : List StoreEntry → ℤ → Type 0) (told old new : PassView (LockEntry D)) (opening : StoreView D) (task : LineTask) (reply : LineReply) → (h : HasHistory opening told) → IsPrefix told.seen old.seen → NeedsTurns task → reply ≢ replies.NoMemory →
       (d : HasDone gives task old new reply) → IsPlacedAfter gives opening h.entries task old new reply d.given
   line_after_told gives told old new opening task reply h earlier needs some d =
       let known = d.known needs some in

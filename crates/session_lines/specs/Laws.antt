@@ -1,9 +1,10 @@
 -- A law of lines that are answered over a shared store.
-use Rattle.std.specs.Prelude.{◌≢◌, ℤ}
+use Rattle.std.specs.Prelude.{◌≢◌, ℤ, List}
 use mathlib.Core.List.{IsPrefix}
 use Rattle.tree_lock.specs.Seen.{PassView}
 use Rattle.line_wire.specs.declared.reply.LineReply.{LineReply}
 use Rattle.line_wire.specs.declared.reply.LineReply.TheVariants as replies
+use Rattle.pcfs_store.specs.Entries.{StoreEntry}
 use Rattle.pcfs_store.specs.StoreView.{StoreView}
 use Rattle.session_history.specs.declared.task.LineTask.{LineTask}
 use Rattle.shared_store.specs.declared.entry.LockEntry.{LockEntry}
@@ -14,7 +15,7 @@ use Rattle.session_lines.specs.Replied.{NeedsTurns, HasDone, IsPlacedAfter}
 -- entries of a store; if another pass has seen as much when it is given a line, the reply to that
 -- line is placed after all these entries, unless the line takes no
 -- turn or memory ran out.
-abbrev pub LinesFindWhatWasTold : Type 0 → (ℤ → Type 0) → Type 0
+abbrev pub LinesFindWhatWasTold : Type 0 → (List StoreEntry → ℤ → Type 0) → Type 0
 LinesFindWhatWasTold D gives = (told old new : PassView (LockEntry D)) (opening : StoreView D) (task : LineTask) (reply : LineReply) →
     (h : HasHistory opening told) → IsPrefix told.seen old.seen → NeedsTurns task →
     reply ≢ replies.NoMemory →

@@ -1,3 +1,4 @@
+pub mod Turns
 pub mod Logins
 pub mod Replied
 pub mod Laws

@@ -24,6 +24,7 @@ use Rattle.session_history.specs.declared.task.LineTask.TheVariants as tasks
 use Rattle.session_history.specs.SessionState.{SessionState}
 use Rattle.session_history.specs.Tasks.{IsTaskOf}
 use Rattle.session_history.specs.Placed.{IsReplyOf, LinePlaced, state_after}
+use Rattle.session_lines.specs.Turns.{CountsTurns, least_turns, task_turns}
 use Rattle.shared_store.specs.declared.entry.LockEntry.{LockEntry}
 use Rattle.shared_store.specs.LockHistory.{lock_history}
 use Rattle.shared_store.specs.Turning.{pass_at}
@@ -35,7 +36,7 @@ NeedsTurns (tasks.Reply reply) = ⊥
 NeedsTurns (tasks.Turn request) = Unit {0}
 NeedsTurns (tasks.Proof goal numbers proof) = Unit {0}
 
-module _ {D : Type 0} (gives : ℤ → Type 0) where
+module _ {D : Type 0} (gives : List StoreEntry → ℤ → Type 0) where
   -- the pass took a turn, and this is told of it
   pub record HasTold (request : TurnRequest) (old new : PassView (LockEntry D)) (reply : LineReply) : Type 0 where
     pub replied : TurnReply
@@ -55,20 +56,23 @@ module _ {D : Type 0} (gives : ℤ → Type 0) where
     without_memory : new ≡ old → HasIssued cites goal proof old new replies.NoMemory
 
   -- where a task is placed in each history that begins with what the pass has seen, from a place up
-  -- to which it had seen all before
+  -- to which it had seen all before: if it took turns, at the end of what the pass saw in the last of
+  -- them, so that no reply is decided over a state earlier than that
   pub record IsPlacedFrom (task : LineTask) (old new : PassView (LockEntry D)) (reply : LineReply) (given : List StoreEntry) (from : ℕ) : Type 0 where
     pub to : ℕ
     pub within : to ≤ entries_seen new
+    pub latest : NeedsTurns task → reply ≢ replies.NoMemory → to ≡ entries_seen new
     pub placed : InEachHistory new (λ opening entries. LinePlaced gives (pass_at opening old.number) entries from task reply to given)
 
   -- The task was done: the pass goes on, and the reply is placed. If it took turns, what the pass
-  -- has seen is the history of a store.
+  -- has seen is the history of a store; and it took as many as its reply comes of, at most two.
   pub record HasDone (task : LineTask) (old new : PassView (LockEntry D)) (reply : LineReply) : Type 0 where
     pub given : List StoreEntry
     pub goes_on : PassGoesOn old new given
     pub placed : (from : ℕ) → from ≤ entries_seen old → IsPlacedFrom task old new reply given from
     pub known : NeedsTurns task → reply ≢ replies.NoMemory → (opening : StoreView D) ×
         HasHistory opening new
+    pub turns : CountsTurns (task_turns task reply) 2 old.turns new.turns
 
   -- The line was answered: it asks for a task, which was done, and the session is in the state
   -- after it.
@@ -77,6 +81,7 @@ module _ {D : Type 0} (gives : ℤ → Type 0) where
     pub is_task : IsTaskOf state line task
     pub after_is : after ≡ state_after state task reply
     pub done : HasDone task old new reply
+    pub turns : CountsTurns (least_turns reply) 2 old.turns new.turns
 
   -- What the pass has seen is the history of this store, which begins with these entries; and after
   -- them the reply is placed in it.

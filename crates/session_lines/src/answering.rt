@@ -14,8 +14,8 @@ use crate::proving::prove;
 use crate::tasks::task_of;
 use bl_syntax::Principal;
 use line_wire::LineReply;
-use pcfs_ports::{Clock, Disk};
-use session_history::{LineTask, TurnRequest};
+use pcfs_ports::Disk;
+use session_history::{LineTask, TurnClock, TurnRequest};
 use shared_store::OpenedStore;
 use std::alloc::Global;
 use std::sync::Wait;
@@ -31,7 +31,7 @@ fn set_caller(caller: &mut Option<Principal>, who: Option<Principal>, reply: &Li
 }
 
 // Takes the one turn of a line. A login that is accepted changes the caller.
-fn answer_in_turn<R: Wait, D: Disk, C: Clock>(
+fn answer_in_turn<R: Wait, D: Disk, C: TurnClock>(
     rt: &R,
     alloc: Global,
     lock: &TreeLock<OpenedStore<D>>,
@@ -58,7 +58,7 @@ fn answer_in_turn<R: Wait, D: Disk, C: Clock>(
 /// Each turn that it takes is placed, whatever others do, in each history that begins with what the pass has seen then. A
 /// proof is checked between its two turns, outside the lock. If memory runs out, the reply says so. `Stopped` comes only if a
 /// disk failed: the pass has seen the mark, and a count has risen since the store was opened.
-pub fn answer_line<R: Wait, D: Disk, C: Clock, K: Checker>(
+pub fn answer_line<R: Wait, D: Disk, C: TurnClock, K: Checker>(
     rt: &R,
     alloc: Global,
     lock: &TreeLock<OpenedStore<D>>,

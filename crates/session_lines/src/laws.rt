@@ -2,11 +2,12 @@
 
 ghost use Rattle.session_lines.specs.Laws.{LinesFindWhatWasTold};
 
-use pcfs_ports::{Clock, Disk};
+use pcfs_ports::Disk;
+use session_history::TurnClock;
 
 /// The reply to a line that takes turns is placed after all entries that a pass had seen when something was told under it, if
 /// the pass that is given the line had seen as much before.
-pub fn lines_find_what_was_told<D: Disk, C: Clock>(clock: &C)
+pub fn lines_find_what_was_told<D: Disk, C: TurnClock>(clock: &C)
     ensures { LinesFindWhatWasTold D (C.gives clock.now) }
 {
     let _ = clock;

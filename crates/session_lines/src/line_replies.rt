@@ -10,9 +10,9 @@ ghost use Rattle.session_lines.specs.Replied.{HasTold};
 
 use bl_syntax::Principal;
 use line_wire::LineReply;
-use pcfs_ports::{Clock, Disk};
+use pcfs_ports::Disk;
 use proof_verifier::CheckFault;
-use session_history::{TurnReply, TurnRequest};
+use session_history::{TurnClock, TurnReply, TurnRequest};
 use shared_store::{FormedRequest, OpenedStore, ask};
 use std::alloc::Global;
 use std::sync::Wait;
@@ -45,7 +45,7 @@ pub fn unproved(fault: CheckFault) -> LineReply
 }
 
 /// Takes a turn that asks for no statements, and says what the line is told: `Stopped` only if a disk failed.
-pub fn take_turn<R: Wait, D: Disk, C: Clock>(
+pub fn take_turn<R: Wait, D: Disk, C: TurnClock>(
     rt: &R,
     alloc: Global,
     lock: &TreeLock<OpenedStore<D>>,

@@ -12,17 +12,17 @@ use crate::line_replies::{reply_of, take_turn, unproved};
 use access_history::StepRequest;
 use bl_syntax::{Goal, Numbers};
 use line_wire::LineReply;
-use pcfs_ports::{Clock, Disk};
+use pcfs_ports::Disk;
 use proof_term::ProofTree;
 use proof_verifier::Cites;
-use session_history::{LineTask, TurnReply, TurnRequest};
+use session_history::{LineTask, TurnClock, TurnReply, TurnRequest};
 use shared_store::{FormedRequest, OpenedStore, ask};
 use std::alloc::Global;
 use std::sync::Wait;
 use tree_lock::{Pass, TreeLock};
 
 // Checks the proof from these statements, and takes a turn to issue what it grants.
-fn issue<R: Wait, D: Disk, C: Clock, K: Checker>(
+fn issue<R: Wait, D: Disk, C: TurnClock, K: Checker>(
     rt: &R,
     alloc: Global,
     lock: &TreeLock<OpenedStore<D>>,
@@ -52,7 +52,7 @@ fn issue<R: Wait, D: Disk, C: Clock, K: Checker>(
 }
 
 /// Verifies the proof of the goal from the statements of these numbers.
-pub fn prove<R: Wait, D: Disk, C: Clock, K: Checker>(
+pub fn prove<R: Wait, D: Disk, C: TurnClock, K: Checker>(
     rt: &R,
     alloc: Global,
     lock: &TreeLock<OpenedStore<D>>,

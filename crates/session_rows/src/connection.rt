@@ -1,12 +1,11 @@
 //! Connections that say the steps of a board.
 
-ghost use Rattle.std.specs.Prelude.{◌≡◌, ◌≤◌, None, IfOk, OnErr, length};
+ghost use Rattle.std.specs.Prelude.{◌≡◌, ◌≤◌, None, IfOk, OnOk, OnErr, length};
 ghost use Rattle.pcfs_ports.specs.Faults.{HasRisen};
 
 use crate::board::{Board, Taken, Turn};
 use bl_syntax::Numbers;
 use pcfs_ports::{Accepted, Failed, Listener, Sink, Source};
-use pcfs_server::TellingListener;
 use std::alloc::Global;
 use std::thread;
 
@@ -80,6 +79,7 @@ impl<'b> RowSource<'b> {
     // Gives bytes of its line, or tells that there are none, or fails.
     fn take_step(&mut self, buf: &mut [u8]) -> Result<usize, Failed>
         ensures bound { IfOk result (λ count. count ≤ length buf.new) }
+        ensures steady { OnOk result (self.new.faults ≡ self.old.faults) }
         ensures risen { OnErr result (HasRisen self.old.faults self.new.faults) }
         ensures never_falls { self.old.faults ≤ self.new.faults }
     {
@@ -207,6 +207,8 @@ impl<'b> Listener for RowListener<'b> {
 
     type Out = RowSink<'b>;
 
+    ghost queue = { λ _. None };
+
     ghost waiting = { λ _. None };
 
     ghost over = { λ _. Unit {0} };
@@ -243,17 +245,5 @@ impl<'b> Listener for RowListener<'b> {
             faults: 0,
         };
         Accepted::Conn(input, output)
-    }
-}
-
-impl<'b> TellingListener for RowListener<'b> {
-    ghost queue = { λ _. None };
-
-    fn start(&mut self, port: u16) -> Result<(), Failed> {
-        self.listen(port)
-    }
-
-    fn next(&mut self, alloc: Global) -> Accepted<RowSource<'b>, RowSink<'b>> {
-        self.accept(alloc)
     }
 }

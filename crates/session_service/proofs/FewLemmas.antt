@@ -12,7 +12,7 @@ use Rattle.session_history.specs.declared.task.LineTask.{LineTask}
 use Rattle.session_history.specs.Placed.{LinePlaced, at_once, in_a_turn, cites_none, proves_none, issues, LinesPlaced, no_line, one_more}
 use Rattle.session_history.specs.Placed as places
 
-module _ (gives : ℤ → Type 0) (p : StorePass) where
+module _ (gives : List StoreEntry → ℤ → Type 0) (p : StorePass) where
   turn_few : (before : List StoreEntry) (request : TurnRequest) (reply : TurnReply) (given : List StoreEntry) → Turn gives p before request reply given → length given ≤ 1
   turn_few before request _ _ (was_stopped is) = omega arith
   turn_few before request _ _ (answered clock reply running shown answers) = omega arith

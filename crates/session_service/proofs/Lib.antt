@@ -1,3 +1,4 @@
+pub mod StillLemmas
 pub mod AskingLemmas
 pub mod ConnectionLemmas
 pub mod FewLemmas

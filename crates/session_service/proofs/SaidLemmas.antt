@@ -1,5 +1,5 @@
 -- Lines of a session are answered one after the other.
-use Rattle.std.proofs.Common.{◌≡◌, ◌⊎◌, ⊎_elim, inl, inr, ℕ, List, [], ◌∷◌, ◌++◌, Option, None, sym, subst, arith, append_assoc, append-nil}
+use Rattle.std.proofs.Common.{◌≡◌, ◌⊎◌, ⊎_elim, inl, inr, ℕ, ◌+◌, ◌*◌, List, [], ◌∷◌, ◌++◌, length, length-append, Option, None, sym, subst, arith, append_assoc, append-nil}
 use Rattle.std.specs.Prelude.{ℤ}
 use mathlib.Core.List.{IsPrefix}
 use Rattle.tree_lock.specs.Seen.{PassView}
@@ -17,14 +17,16 @@ use Rattle.shared_store.specs.Turning.{pass_at}
 use Rattle.shared_store.specs.Asking.{entries_seen, HasHistory, HasSeenFault}
 use Rattle.shared_store.proofs.AskingLemmas.{seen_later}
 use Rattle.session_lines.specs.Replied.{IsPlacedFrom, HasReplied}
+use Rattle.session_lines.specs.Turns.{least_turns}
 use Rattle.session_lines.proofs.DoneLemmas.{stays, goes_further}
-use Rattle.session_service.specs.Said.{session_of, SaysStopped, AreSaidFrom, HasSaid}
+use Rattle.session_lines.proofs.TurnCountLemmas.{no_turn, looser, turns_then}
+use Rattle.session_service.specs.Said.{session_of, SaysStopped, turns_of, AreSaidFrom, HasSaid}
 use Rattle.session_service.specs.Laws.{IsPlacedSession}
 use Rattle.session_service.specs.SessionEnds.{Speaks}
 
 -- ---- in a history
 
-module _ (gives : ℤ → Type 0) (p : StorePass) (history : List StoreEntry) (start : SessionState) (from : ℕ) where
+module _ (gives : List StoreEntry → ℤ → Type 0) (p : StorePass) (history : List StoreEntry) (start : SessionState) (from : ℕ) where
   -- the same lines, said otherwise
   as_lines : (lines also : List (List ℕ)) (answers replies : List LineReply) (end : SessionState) (to : ℕ) (given added : List StoreEntry) → lines ≡ also → answers ≡ replies → given ≡ added →
       LinesPlaced gives p history start from lines answers end to given → LinesPlaced gives p history start from also replies end to added
@@ -54,12 +56,18 @@ either_stopped [] more says = inr says
 either_stopped (reply ∷ answers) more (inl is) = inl (inl is)
 either_stopped (reply ∷ answers) more (inr says) = ⊎_elim (λ (first : SaysStopped answers). inl (inr first)) (λ (other : SaysStopped more). inr other) (either_stopped answers more says)
 
+-- ---- turns
+
+turns_of-append : (answers more : List LineReply) → turns_of (answers ++ more) ≡ turns_of answers + turns_of more
+turns_of-append [] more = omega arith
+turns_of-append (reply ∷ answers) more = let rest = turns_of-append answers more in omega (arith, rest)
+
 -- ---- under a pass
 
-module _ {D : Type 0} (faults : D → ℕ) (gives : ℤ → Type 0) where
+module _ {D : Type 0} (faults : D → ℕ) (gives : List StoreEntry → ℤ → Type 0) where
   pub HasSaid-none : (state : SessionState) (pass : PassView (LockEntry D)) → HasSaid faults gives state pass pass [] [] state
   HasSaid-none state pass =
-      record { given = []; goes_on = stays pass; placed = λ from within. record { to = from; within = within; placed = λ opening entries begins. no_line }; stopped = λ says. absurd says }
+      record { given = []; goes_on = stays pass; placed = λ from within. record { to = from; within = within; placed = λ opening entries begins. no_line }; stopped = λ says. absurd says; turns = no_turn 0 pass.turns }
 
   said_line : (state : SessionState) (line : List ℕ) (old new : PassView (LockEntry D)) (after : SessionState) (reply : LineReply) (from : ℕ) → (r : HasReplied gives state line old new after reply) → IsPlacedFrom gives r.task old new reply r.done.given from →
       AreSaidFrom faults gives state old new (line ∷ []) (reply ∷ []) after r.done.given from
@@ -73,7 +81,7 @@ module _ {D : Type 0} (faults : D → ℕ) (gives : ℤ → Type 0) where
 
   pub HasSaid-line : (state : SessionState) (line : List ℕ) (old new : PassView (LockEntry D)) (after : SessionState) (reply : LineReply) → HasReplied gives state line old new after reply → (reply ≡ Stopped → HasSeenFault faults new) → HasSaid faults gives state old new (line ∷ []) (reply ∷ []) after
   HasSaid-line state line old new after reply r fault =
-      record { given = r.done.given; goes_on = r.done.goes_on; placed = λ from within. said_line state line old new after reply from r (r.done.placed from within); stopped = λ says. fault (only_stopped reply says) }
+      record { given = r.done.given; goes_on = r.done.goes_on; placed = λ from within. said_line state line old new after reply from r (r.done.placed from within); stopped = λ says. fault (only_stopped reply says); turns = looser (least_turns reply) (least_turns reply + 0) 2 2 old.turns new.turns (omega arith) (omega arith) r.turns }
 
   module _ (start mid end : SessionState) (old between new : PassView (LockEntry D)) (lines others : List (List ℕ)) (answers more : List LineReply) where
     said_then : (given added : List StoreEntry) (from : ℕ) → between.number ≡ old.number → IsPrefix between.seen new.seen → (a : AreSaidFrom faults gives start old between lines answers mid given from) → AreSaidFrom faults gives mid between new others more end added a.to →
@@ -93,13 +101,16 @@ module _ {D : Type 0} (faults : D → ℕ) (gives : ℤ → Type 0) where
       goes_on = goes_further old between new one.given other.given one.goes_on other.goes_on;
       placed = λ from within. said_then one.given other.given from one.goes_on.number other.goes_on.seen (one.placed from within) (other.placed (one.placed from within).to (one.placed from within).within);
       stopped = λ says. ⊎_elim (λ (first : SaysStopped answers). seen_later faults between new other.goes_on.seen (one.stopped first)) other.stopped (either_stopped answers more says);
+      turns = let both = turns_of-append answers more in let long = length-append lines others in
+          looser (turns_of answers + turns_of more) (turns_of (answers ++ more)) (2 * length lines + 2 * length others) (2 * length (lines ++ others)) old.turns new.turns (omega (arith, both)) (omega (arith, long))
+          (turns_then (turns_of answers) (turns_of more) (2 * length lines) (2 * length others) old.turns between.turns new.turns one.turns other.turns);
     }
 
   -- a session that begins under the pass, with nobody logged in
   pub Speaks-said : (nonce : List ℕ) (caller_after : Option (List ℕ)) (old new : PassView (LockEntry D)) (lines : List (List ℕ)) (answers : List LineReply) → HasSaid faults gives (session_of nonce None) old new lines answers (session_of nonce caller_after) → Speaks faults gives nonce old new lines answers
   Speaks-said nonce caller_after old new lines answers said =
       let all = said.placed (entries_seen old) (omega arith) in
-      record { end = session_of nonce caller_after; to = all.to; within = all.within; given = said.given; goes_on = said.goes_on; placed = all.placed; stopped = said.stopped }
+      record { end = session_of nonce caller_after; to = all.to; within = all.within; given = said.given; goes_on = said.goes_on; placed = all.placed; stopped = said.stopped; turns = said.turns }
 
   -- what its pass has seen at the end is a history in which it is placed
   pub Speaks-placed : (nonce : List ℕ) (opening : StoreView D) (old new : PassView (LockEntry D)) (lines : List (List ℕ)) (answers : List LineReply) → HasHistory opening old → Speaks faults gives nonce old new lines answers → IsPlacedSession faults gives nonce opening old new lines answers

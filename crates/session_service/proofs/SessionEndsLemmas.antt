@@ -23,6 +23,7 @@ use Rattle.pcfs_session.specs.declared.outbox.SendFault.TheVariants.{Write, NoMe
 use Rattle.pcfs_session.proofs.OutboxLemmas.{HoldsSome-more}
 use Rattle.pcfs_session.proofs.StoredLemmas.{HasRisen-earlier}
 use Rattle.pcfs_session.proofs.TakenLemmas.{with_front-with_front, with_front-nil, ReadsToEnd-taken, AreFirst-none, AreFirst-then, AreShort-then, AreShort-open, few_rest, HasLong-then, IsBefore-long}
+use Rattle.pcfs_store.specs.Entries.{StoreEntry}
 use Rattle.session_service.specs.declared.session_end.SessionEnd.{SessionEnd}
 use Rattle.session_service.specs.declared.session_end.SessionEnd.TheVariants as session_ends
 use Rattle.session_service.specs.Ends.{unsent_end}
@@ -39,7 +40,7 @@ risen_write : (fault : SendFault) (before after : ℕ) → (unsent_end fault ≡
 risen_write Write before after risen is = risen refl
 risen_write NoMemory before after risen is = absurd cc
 
-module _ {D : Type 0} (faults : D → ℕ) (gives : ℤ → Type 0) (nonce : List ℕ) (old : PassView (LockEntry D)) (before : Streams) where
+module _ {D : Type 0} (faults : D → ℕ) (gives : List StoreEntry → ℤ → Type 0) (nonce : List ℕ) (old : PassView (LockEntry D)) (before : Streams) where
   -- the input was taken so far: its lines that have their end were answered, and their replies are out. This is left of the bytes, of which there were so many
   pub record IsReading (now : PassView (LockEntry D)) (caller : Option (List ℕ)) (open_line : List ℕ) (left held : Option (List ℕ)) (count : ℕ) : Type 0 where
     pub lines : List (List ℕ)
@@ -196,7 +197,7 @@ module _ {D : Type 0} (faults : D → ℕ) (gives : ℤ → Type 0) (nonce : Lis
 abbrev greeted : List ℕ → List ℕ
 greeted nonce = greeting_text nonce ++ 10 ∷ []
 
-module _ {D : Type 0} (faults : D → ℕ) (gives : ℤ → Type 0) (nonce : List ℕ) where
+module _ {D : Type 0} (faults : D → ℕ) (gives : List StoreEntry → ℤ → Type 0) (nonce : List ℕ) where
   -- it was not written
   pub SessionEnds-ungreeted : (pass : PassView (LockEntry D)) (before after : Streams) (fault : SendFault) (how : SessionEnd) → how ≡ unsent_end fault → after.left ≡ before.left → (fault ≡ Write → HasRisen before.write_faults after.write_faults) → HoldsSome before.held after.held (greeted nonce) →
       SessionEnds faults gives nonce pass pass before how after

@@ -3,7 +3,7 @@ use Rattle.std.proofs.Common.{◌≡◌, ◌∙◌, ℕ, ◌+◌, ◌-◌, ◌*�
 use Rattle.std.specs.Prelude.{slice_get}
 use Rattle.std.specs.Option.{option_map}
 use Rattle.std.proofs.lemmas.Option.{slice_get-map}
-use Rattle.pcfs_server.specs.Telling.{IsAt, AreTakenOff, IsNextNonce, IsNonceAt}
+use Rattle.pcfs_ports.specs.Telling.{IsAt, AreTakenOff, IsNextNonce, IsNonceAt}
 use Rattle.pcfs_server.proofs.TellingLemmas.{taken_none, taken_more}
 use Rattle.session_service.specs.Sessions.{IsInputOf, IsNonceOf, inputs_of}
 

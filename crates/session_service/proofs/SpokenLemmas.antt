@@ -24,6 +24,7 @@ use Rattle.pcfs_session.specs.declared.outbox.SendFault.TheVariants.{Write, NoMe
 use Rattle.pcfs_session.proofs.OutboxLemmas.{with_back-nil}
 use Rattle.pcfs_session.proofs.ScriptLemmas.{output-append, output-one}
 use Rattle.pcfs_session.proofs.TakenLemmas.{AreFirst-none, AreFirst-more, AreShort-last, few_left, same_lines}
+use Rattle.pcfs_store.specs.Entries.{StoreEntry}
 use Rattle.session_service.specs.declared.session_end.SessionEnd.{SessionEnd}
 use Rattle.session_service.specs.declared.session_end.SessionEnd.TheVariants as session_ends
 use Rattle.session_service.specs.Ends.{unsent_end}
@@ -85,7 +86,7 @@ nothing_out held held_after bytes same = record { count = 0; within = omega arit
 pub none_out : (held held_after : Option (List ℕ)) → held_after ≡ held → HoldsButLast held held_after []
 none_out held held_after same = record { some = record { count = 0; within = omega arith; held = same ∙ with_back-nil held }; earlier = omega arith }
 
-module _ {D : Type 0} (faults : D → ℕ) (gives : ℤ → Type 0) (nonce : List ℕ) where
+module _ {D : Type 0} (faults : D → ℕ) (gives : List StoreEntry → ℤ → Type 0) (nonce : List ℕ) where
   -- ---- lines
 
   pub IsSpoken-none : (caller : Option (List ℕ)) (pass : PassView (LockEntry D)) (held : Option (List ℕ)) → IsSpoken faults gives nonce [] caller pass pass caller held held

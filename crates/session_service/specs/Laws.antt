@@ -1,7 +1,7 @@
 -- Laws of sessions: what a line of a session asks is what the definition of answers makes of its
 -- command, for somebody who calls in their own name and may see what is granted to them; and a
 -- session is placed in what its pass has seen.
-use Rattle.std.specs.Prelude.{◌≡◌, ℕ, ℤ, ◌≤◌, List, ◌++◌, length, IsTrue, Some, Ok, Err}
+use Rattle.std.specs.Prelude.{◌≡◌, ◌≢◌, ℕ, ℤ, ◌*◌, ◌-◌, ◌≤◌, List, ◌++◌, length, take, drop, IsTrue, Some, Ok, Err}
 use Rattle.bl_syntax.specs.declared.grant.Goal.{Goal}
 use Rattle.bl_syntax.specs.Grant.{GrantView}
 use Rattle.proof_term.specs.Proof.{ProofView}
@@ -38,7 +38,7 @@ use Rattle.pcfs_session.specs.ScriptContext.{ScriptContext}
 use Rattle.pcfs_session.specs.LineAnswer.{replied, requested, checkpoint, ComesTo}
 use Rattle.session_service.specs.Said.{SaysStopped}
 use Rattle.session_service.specs.SessionEnds.{Speaks}
-use Rattle.session_service.specs.Sessions.{SessionSources, AreOfSession}
+use Rattle.session_service.specs.Sessions.{SessionSources, IsNonceOf, AreOfSession}
 
 -- what is asked in one turn is what a look at any state makes of the command
 abbrev pub TurnsAskWhatCommandsComeTo : Type 0
@@ -84,7 +84,7 @@ CheckpointsAreWhatCommandsComeTo = (secrets : Secrets) (state : BaseView) (asker
 -- so, and the replies are placed in it, after all that the pass had seen at first; the pass's own
 -- entries grew by those that the replies
 -- were given.
-pub record IsPlacedSession {D : Type 0} (faults : D → ℕ) (gives : ℤ → Type 0) (nonce : List ℕ)
+pub record IsPlacedSession {D : Type 0} (faults : D → ℕ) (gives : List StoreEntry → ℤ → Type 0) (nonce : List ℕ)
     (opening : StoreView D) (old new : PassView (LockEntry D)) (lines : List (List ℕ))
     (answers : List LineReply) : Type 0 where
   pub entries : List StoreEntry
@@ -98,7 +98,7 @@ pub record IsPlacedSession {D : Type 0} (faults : D → ℕ) (gives : ℤ → Ty
   pub stopped : SaysStopped answers → HasSeenFault faults new
 
 -- so is each session over a store of which its pass had seen the history
-abbrev pub SessionsArePlaced : (D : Type 0) → (D → ℕ) → (ℤ → Type 0) → Type 0
+abbrev pub SessionsArePlaced : (D : Type 0) → (D → ℕ) → (List StoreEntry → ℤ → Type 0) → Type 0
 SessionsArePlaced D faults gives = (nonce : List ℕ) (opening : StoreView D)
     (old new : PassView (LockEntry D)) (lines : List (List ℕ)) (answers : List LineReply) →
     HasHistory opening old → Speaks faults gives nonce old new lines answers →
@@ -108,3 +108,9 @@ SessionsArePlaced D faults gives = (nonce : List ℕ) (opening : StoreView D)
 abbrev pub EachEntryHasALine : SessionSources → Type 0
 EachEntryHasALine sources = (p : StorePass) (history own : List StoreEntry) →
     (s : AreOfSession sources p history own) → length own ≤ length s.lines
+
+-- two sessions of one run have two nonces, if the bytes that are told for their numbers differ
+abbrev pub SessionsHaveTwoNonces : Type 0
+SessionsHaveTwoNonces = (bytes : List ℕ) (first second : ℕ) (one other : List ℕ) →
+    IsNonceOf (Some bytes) first one → IsNonceOf (Some bytes) second other →
+    take 16 (drop (16 * (first - 1)) bytes) ≢ take 16 (drop (16 * (second - 1)) bytes) → one ≢ other

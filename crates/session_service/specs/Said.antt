@@ -1,5 +1,5 @@
 -- Lines of a session and their replies, while others have their turns (this project's own).
-use Rattle.std.specs.Prelude.{◌≡◌, ◌⊎◌, ℕ, ℤ, ◌≤◌, List, [], ◌∷◌, Option}
+use Rattle.std.specs.Prelude.{◌≡◌, ◌⊎◌, ℕ, ℤ, ◌+◌, ◌*◌, ◌≤◌, List, [], ◌∷◌, length, Option}
 use Rattle.tree_lock.specs.Seen.{PassView}
 use Rattle.line_wire.specs.declared.reply.LineReply.{LineReply}
 use Rattle.line_wire.specs.declared.reply.LineReply.TheVariants.{Stopped}
@@ -9,16 +9,22 @@ use Rattle.session_history.specs.Placed.{LinesPlaced}
 use Rattle.shared_store.specs.declared.entry.LockEntry.{LockEntry}
 use Rattle.shared_store.specs.Turning.{pass_at}
 use Rattle.shared_store.specs.Asking.{entries_seen, PassGoesOn, InEachHistory, HasSeenFault}
+use Rattle.session_lines.specs.Turns.{CountsTurns, least_turns}
 
 -- it is told among these that the store is stopped
 abbrev pub SaysStopped : List LineReply → Type 0
 SaysStopped [] = ⊥
 SaysStopped (reply ∷ answers) = (reply ≡ Stopped) ⊎ SaysStopped answers
 
+-- so many turns replies come of at least
+abbrev pub turns_of : List LineReply → ℕ
+turns_of [] = 0
+turns_of (reply ∷ answers) = least_turns reply + turns_of answers
+
 abbrev pub session_of : List ℕ → Option (List ℕ) → SessionState
 session_of nonce caller = record { nonce = nonce; caller = caller }
 
-module _ {D : Type 0} (faults : D → ℕ) (gives : ℤ → Type 0) where
+module _ {D : Type 0} (faults : D → ℕ) (gives : List StoreEntry → ℤ → Type 0) where
   -- where the lines are placed in each history that begins with what the pass has seen, from this
   -- place on
   pub record AreSaidFrom (start : SessionState) (old new : PassView (LockEntry D))
@@ -38,3 +44,4 @@ module _ {D : Type 0} (faults : D → ℕ) (gives : ℤ → Type 0) where
     pub placed : (from : ℕ) → from ≤ entries_seen old →
         AreSaidFrom start old new lines answers end given from
     pub stopped : SaysStopped answers → HasSeenFault faults new
+    pub turns : CountsTurns (turns_of answers) (2 * length lines) old.turns new.turns

@@ -1,7 +1,7 @@
 -- How a session ends: what was taken, what was written, and where its replies are placed in the
 -- history that others grow too. If the input does not tell what it has, or the output what it
 -- holds, nothing is said of that (this project's own).
-use Rattle.std.specs.Prelude.{◌≡◌, ◌⊎◌, ℕ, ◌≤◌, ℤ, List, [], ◌∷◌, ◌++◌}
+use Rattle.std.specs.Prelude.{◌≡◌, ◌⊎◌, ℕ, ◌*◌, ◌≤◌, ℤ, List, [], ◌∷◌, ◌++◌, length}
 use Rattle.pcfs_ports.specs.Faults.{HasRisen}
 use Rattle.pcfs_ports.specs.Observable.{with_back, ReadsToEnd, TakesFirst}
 use Rattle.line_text.specs.Lines.{lines_of}
@@ -25,15 +25,17 @@ use Rattle.pcfs_session.specs.declared.outbox.SendFault.TheVariants.{Write}
 use Rattle.session_service.specs.declared.session_end.SessionEnd.{SessionEnd}
 use Rattle.session_service.specs.declared.session_end.SessionEnd.TheVariants.{Done, LineTooLong, ReadFault, InputTooLong}
 use Rattle.session_service.specs.Ends.{unsent_end}
-use Rattle.session_service.specs.Said.{SaysStopped}
+use Rattle.session_lines.specs.Turns.{CountsTurns}
+use Rattle.session_service.specs.Said.{SaysStopped, turns_of}
 use Rattle.session_service.specs.Written.{HoldsButLast, HoldsUpToLast}
 
-module _ {D : Type 0} (faults : D → ℕ) (gives : ℤ → Type 0) (nonce : List ℕ) where
+module _ {D : Type 0} (faults : D → ℕ) (gives : List StoreEntry → ℤ → Type 0) (nonce : List ℕ) where
   -- A session with this nonce answered these lines, from one moment of its pass to a later one. In
   -- each history that begins with what the pass has seen then, the replies are placed after all
   -- that it had seen at first; and
   -- the pass's own entries grew by those that the replies were given. That the store is stopped is
-  -- told only if the pass has seen that a disk failed.
+  -- told only if the pass has seen that a disk failed. The pass took at least as many turns as the
+  -- replies come of, and at most two a line.
   pub record Speaks (old new : PassView (LockEntry D)) (lines : List (List ℕ)) (answers : List LineReply) : Type 0 where
     pub end : SessionState
     pub to : ℕ
@@ -44,6 +46,7 @@ module _ {D : Type 0} (faults : D → ℕ) (gives : ℤ → Type 0) (nonce : Lis
         LinesPlaced gives (pass_at opening old.number) entries (guest_with nonce) (entries_seen old)
         lines answers end to given)
     pub stopped : SaysStopped answers → HasSeenFault faults new
+    pub turns : CountsTurns (turns_of answers) (2 * length lines) old.turns new.turns
 
   -- how far a session is: it answered lines that were taken, each with its end; or the input was
   -- read to its end, and it answered all its lines, of which none is too long

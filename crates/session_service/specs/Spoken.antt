@@ -14,13 +14,14 @@ use Rattle.tree_lock.specs.Seen.{PassView}
 use Rattle.shared_store.specs.declared.entry.LockEntry.{LockEntry}
 use Rattle.pcfs_session.specs.Taken.{AreFirst}
 use Rattle.pcfs_session.specs.declared.outbox.SendFault.{SendFault}
+use Rattle.pcfs_store.specs.Entries.{StoreEntry}
 use Rattle.session_service.specs.declared.session_end.SessionEnd.{SessionEnd}
 use Rattle.session_service.specs.declared.session_end.SessionEnd.TheVariants.{Done, LineTooLong}
 use Rattle.session_service.specs.Ends.{unsent_end}
 use Rattle.session_service.specs.Said.{session_of, HasSaid}
 use Rattle.session_service.specs.Written.{HoldsButLast}
 
-module _ {D : Type 0} (faults : D → ℕ) (gives : ℤ → Type 0) (nonce : List ℕ) where
+module _ {D : Type 0} (faults : D → ℕ) (gives : List StoreEntry → ℤ → Type 0) (nonce : List ℕ) where
   -- lines are answered, and their replies were written
   pub record IsSpoken (lines : List (List ℕ)) (caller : Option (List ℕ))
       (old new : PassView (LockEntry D)) (caller_after : Option (List ℕ))

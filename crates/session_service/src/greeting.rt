@@ -16,6 +16,9 @@ use std::alloc::Global;
 pub fn greet<O: Sink>(alloc: Global, nonce: &[u8; 16], output: &mut O) -> Result<(), SendFault>
     ensures ok { OnOk result (O.held output.new ≡ with_back (O.held output.old) (greeting_text nonce.now ++ 10 ∷ [])) }
     ensures err { OnErr result (HoldsSome (O.held output.old) (O.held output.new) (greeting_text nonce.now ++ 10 ∷ [])) }
+    ensures steady { OnOk result (O.faults output.new ≡ O.faults output.old) }
+    ensures steady_unsent { IsErrOf result SendFault.NoMemory →
+        (O.faults output.new ≡ O.faults output.old) }
     ensures risen { IsErrOf result SendFault.Write →
         HasRisen (O.faults output.old) (O.faults output.new) }
     ensures never_falls { O.faults output.old ≤ O.faults output.new }

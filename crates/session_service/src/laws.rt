@@ -1,10 +1,11 @@
 //! Laws of sessions. The functions do nothing: each contract is a law.
 
-ghost use Rattle.session_service.specs.Laws.{TurnsAskWhatCommandsComeTo, ProofsAskWhatCommandsComeTo, FaultsAreWhatCommandsComeTo, AbsencesAreWhatCommandsComeTo, CheckpointsAreWhatCommandsComeTo, SessionsArePlaced, EachEntryHasALine};
+ghost use Rattle.session_service.specs.Laws.{TurnsAskWhatCommandsComeTo, ProofsAskWhatCommandsComeTo, FaultsAreWhatCommandsComeTo, AbsencesAreWhatCommandsComeTo, CheckpointsAreWhatCommandsComeTo, SessionsArePlaced, EachEntryHasALine, SessionsHaveTwoNonces};
 ghost use Rattle.std.specs.Prelude.{ℕ, List, Option};
 ghost use Rattle.session_service.specs.Sessions.{sources_of};
 
-use pcfs_ports::{Clock, Disk, Source};
+use pcfs_ports::{Disk, Source};
+use session_history::TurnClock;
 
 /// What a line of a session asks, in one turn or by a proof, is what the definition of answers makes of its command for
 /// somebody who calls in their own name and may see what is granted to them; and so is what it is told if a proof has a fault,
@@ -18,17 +19,22 @@ pub fn lines_ask_what_commands_come_to()
 {}
 
 /// What a session's pass has seen at the end is a history, if it was one at first, and the session's replies are placed in it.
-pub fn sessions_are_placed<D: Disk, C: Clock>(clock: &C)
+pub fn sessions_are_placed<D: Disk, C: TurnClock>(clock: &C)
     ensures { SessionsArePlaced D D.faults (C.gives clock.now) }
 {
     let _ = clock;
 }
 
 /// A session has no more entries than lines: each line adds one at most, and nothing else adds any.
-pub fn each_entry_has_a_line<I: Source, C: Clock>(input: &I, clock: &C)
+pub fn each_entry_has_a_line<I: Source, C: TurnClock>(input: &I, clock: &C)
     ensures { (inputs : Option (List (Option (List ℕ)))) (nonces : Option (List ℕ)) →
         EachEntryHasALine (sources_of (C.gives clock.now) I.left inputs nonces) }
 {
     let _ = input;
     let _ = clock;
 }
+
+/// Two sessions of one run have two nonces, if what the source tells for their numbers differs.
+pub fn two_sessions_have_two_nonces()
+    ensures { SessionsHaveTwoNonces }
+{}

@@ -9,8 +9,9 @@ ghost use Rattle.session_service.specs.Spoken.{IsSpoken, IsCutOff, SpeaksHeld, I
 use bl_syntax::{Bytes, Principal};
 use line_framer::Framer;
 use line_wire::LineReply;
-use pcfs_ports::{Clock, Disk, Sink};
+use pcfs_ports::{Disk, Sink};
 use pcfs_session::{SendFault, send_all};
+use session_history::TurnClock;
 use session_lines::{Checker, answer_line};
 use shared_store::OpenedStore;
 use std::alloc::Global;
@@ -25,6 +26,9 @@ pub fn write_reply<O: Sink>(
 ) -> Result<(), SendFault>
     ensures ok { OnOk result (O.held output.new ≡ with_back (O.held output.old) (output_of (reply.now ∷ []))) }
     ensures err { OnErr result (HoldsSome (O.held output.old) (O.held output.new) (output_of (reply.now ∷ []))) }
+    ensures steady { OnOk result (O.faults output.new ≡ O.faults output.old) }
+    ensures steady_unsent { IsErrOf result SendFault.NoMemory →
+        (O.faults output.new ≡ O.faults output.old) }
     ensures risen { IsErrOf result SendFault.Write →
         HasRisen (O.faults output.old) (O.faults output.new) }
     ensures never_falls { O.faults output.old ≤ O.faults output.new }
@@ -39,7 +43,7 @@ pub fn write_reply<O: Sink>(
 /// Answers a line, and writes its reply.
 ///
 /// `Write` comes only if the output's count of faults rose, and `NoMemory` if there was no memory for the text of the reply.
-pub fn speak<R: Wait, D: Disk, C: Clock, K: Checker, O: Sink>(
+pub fn speak<R: Wait, D: Disk, C: TurnClock, K: Checker, O: Sink>(
     rt: &R,
     alloc: Global,
     lock: &TreeLock<OpenedStore<D>>,
@@ -56,6 +60,9 @@ pub fn speak<R: Wait, D: Disk, C: Clock, K: Checker, O: Sink>(
         caller.old pass.old pass.new caller.new (O.held output.old) (O.held output.new)) }
     ensures cut { OnErr result (IsCutOff D.faults (C.gives clock.now) nonce.now (line.now ∷ [])
         caller.old pass.old pass.new caller.new (O.held output.old) (O.held output.new)) }
+    ensures steady { OnOk result (O.faults output.new ≡ O.faults output.old) }
+    ensures steady_unsent { IsErrOf result SendFault.NoMemory →
+        (O.faults output.new ≡ O.faults output.old) }
     ensures risen { IsErrOf result SendFault.Write →
         HasRisen (O.faults output.old) (O.faults output.new) }
     ensures never_falls { O.faults output.old ≤ O.faults output.new }
@@ -69,7 +76,7 @@ pub fn speak<R: Wait, D: Disk, C: Clock, K: Checker, O: Sink>(
 }
 
 /// Answers the lines that a framer holds with their ends, as `speak` does each, and takes them.
-pub fn speak_held<R: Wait, D: Disk, C: Clock, K: Checker, O: Sink>(
+pub fn speak_held<R: Wait, D: Disk, C: TurnClock, K: Checker, O: Sink>(
     rt: &R,
     alloc: Global,
     lock: &TreeLock<OpenedStore<D>>,
@@ -88,6 +95,9 @@ pub fn speak_held<R: Wait, D: Disk, C: Clock, K: Checker, O: Sink>(
     ensures long_stays { OnOk result (framer.new.is_long ≡ framer.old.is_long) }
     ensures cut { OnErr result (IsCutWithin D.faults (C.gives clock.now) nonce.now framer.old.left
         caller.old pass.old pass.new caller.new (O.held output.old) (O.held output.new)) }
+    ensures steady { OnOk result (O.faults output.new ≡ O.faults output.old) }
+    ensures steady_unsent { IsErrOf result SendFault.NoMemory →
+        (O.faults output.new ≡ O.faults output.old) }
     ensures risen { IsErrOf result SendFault.Write →
         HasRisen (O.faults output.old) (O.faults output.new) }
     ensures never_falls { O.faults output.old ≤ O.faults output.new }

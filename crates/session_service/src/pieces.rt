@@ -5,6 +5,7 @@ ghost use Rattle.std.specs.List.{AllByRecursion};
 ghost use Rattle.line_framer.specs.Framing.{ended, IsLine};
 ghost use Rattle.line_text.specs.Words.{HasNo};
 ghost use Rattle.pcfs_ports.specs.Faults.{HasRisen};
+ghost use Rattle.session_service.specs.Ends.{OutputStandsStill};
 ghost use Rattle.session_service.specs.Spoken.{SpeaksPiece, EndsAtLong, EndsAtPiece, EndsAtLast};
 
 use crate::lines::{speak, speak_held, write_reply};
@@ -12,7 +13,8 @@ use crate::session_end::{SessionEnd, unsent_end};
 use bl_syntax::Principal;
 use line_framer::{FeedFault, Framer};
 use line_wire::LineReply;
-use pcfs_ports::{Clock, Disk, Sink};
+use pcfs_ports::{Disk, Sink};
+use session_history::TurnClock;
 use session_lines::Checker;
 use shared_store::OpenedStore;
 use std::alloc::Global;
@@ -20,7 +22,7 @@ use std::sync::Wait;
 use tree_lock::{Pass, TreeLock};
 
 // Answers the lines before one that is too long, tells that it is, and returns how the session ends.
-fn end_at_long_line<R: Wait, D: Disk, C: Clock, K: Checker, O: Sink>(
+fn end_at_long_line<R: Wait, D: Disk, C: TurnClock, K: Checker, O: Sink>(
     rt: &R,
     alloc: Global,
     lock: &TreeLock<OpenedStore<D>>,
@@ -36,6 +38,7 @@ fn end_at_long_line<R: Wait, D: Disk, C: Clock, K: Checker, O: Sink>(
     ensures ends { (lines : List (List ℕ)) → AllByRecursion IsLine lines →
         framer.old.left ≡ ended lines →
         EndsAtLong D.faults (C.gives clock.now) nonce.now lines caller.old pass.old pass.new caller.new (O.held output.old) (O.held output.new) result }
+    ensures steady { OutputStandsStill result (O.faults output.old) (O.faults output.new) }
     ensures risen { (result ≡ SessionEnd.WriteFault) →
         HasRisen (O.faults output.old) (O.faults output.new) }
     ensures never_falls { O.faults output.old ≤ O.faults output.new }
@@ -54,7 +57,7 @@ fn end_at_long_line<R: Wait, D: Disk, C: Clock, K: Checker, O: Sink>(
 }
 
 /// Answers the lines that a piece ends, or returns how the session ends.
-pub fn speak_piece<R: Wait, D: Disk, C: Clock, K: Checker, O: Sink>(
+pub fn speak_piece<R: Wait, D: Disk, C: TurnClock, K: Checker, O: Sink>(
     rt: &R,
     alloc: Global,
     lock: &TreeLock<OpenedStore<D>>,
@@ -76,6 +79,9 @@ pub fn speak_piece<R: Wait, D: Disk, C: Clock, K: Checker, O: Sink>(
     ensures stays_so { OnOk result (framer.new.is_long ≡ false) }
     ensures ends { IfErr result (EndsAtPiece D.faults (C.gives clock.now) nonce.now framer.old.left
         piece.now caller.old pass.old pass.new caller.new (O.held output.old) (O.held output.new)) }
+    ensures steady { OnOk result (O.faults output.new ≡ O.faults output.old) }
+    ensures steady_end { IfErr result (λ end.
+        OutputStandsStill end (O.faults output.old) (O.faults output.new)) }
     ensures risen { IsErrOf result SessionEnd.WriteFault →
         HasRisen (O.faults output.old) (O.faults output.new) }
     ensures never_falls { O.faults output.old ≤ O.faults output.new }
@@ -99,7 +105,7 @@ pub fn speak_piece<R: Wait, D: Disk, C: Clock, K: Checker, O: Sink>(
 }
 
 /// Answers the last line, if the input ended without an end of it, and returns how the session ends.
-pub fn speak_last<R: Wait, D: Disk, C: Clock, K: Checker, O: Sink>(
+pub fn speak_last<R: Wait, D: Disk, C: TurnClock, K: Checker, O: Sink>(
     rt: &R,
     alloc: Global,
     lock: &TreeLock<OpenedStore<D>>,
@@ -115,6 +121,7 @@ pub fn speak_last<R: Wait, D: Disk, C: Clock, K: Checker, O: Sink>(
     requires one { HasNo 10 framer.now.left }
     ensures ends { EndsAtLast D.faults (C.gives clock.now) nonce.now framer.now.left caller.old
         pass.old pass.new caller.new (O.held output.old) (O.held output.new) result }
+    ensures steady { OutputStandsStill result (O.faults output.old) (O.faults output.new) }
     ensures risen { (result ≡ SessionEnd.WriteFault) →
         HasRisen (O.faults output.old) (O.faults output.new) }
     ensures never_falls { O.faults output.old ≤ O.faults output.new }

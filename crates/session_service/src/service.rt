@@ -4,8 +4,9 @@ ghost use Rattle.std.specs.Prelude.{◌≡◌, ◌+◌, ◌<◌, length, if◌th
 ghost use Rattle.tree_lock.specs.Seen.{AreNumbers};
 
 use crate::session::serve_session;
-use pcfs_ports::{Clock, Disk};
-use pcfs_server::{AdmitFault, Service, TellingListener, TellingNonces};
+use pcfs_ports::{Disk, Listener, Nonces};
+use pcfs_server::{AdmitFault, Service};
+use session_history::TurnClock;
 use shared_store::{LockEntry, OpenedStore};
 use std::alloc::Global;
 use std::collections::LinkedList;
@@ -132,7 +133,7 @@ fn served_after<V: Recorded>(door: &Doorman<V>, served: u64, attended: bool) -> 
     served + 1
 }
 
-impl<'a, D: Disk + Send, C: Clock, N: TellingNonces + 'a, L: TellingListener> Service<L::In, L::Out>
+impl<'a, D: Disk + Send, C: TurnClock, N: Nonces + 'a, L: Listener> Service<L::In, L::Out>
     for SessionService<'a, OpenedStore<D>, C, N, L> {
     type Door = SessionDoor<'a, OpenedStore<D>, N>;
 
@@ -142,9 +143,11 @@ impl<'a, D: Disk + Send, C: Clock, N: TellingNonces + 'a, L: TellingListener> Se
 
     ghost use Rattle.std.specs.Prelude.{◌≡◌, ◌-◌, ◌*◌, ◌^◌, true, false};
     ghost use Rattle.session_service.specs.Connections.{AreOfConnections};
-    ghost use Rattle.pcfs_server.specs.Telling.{AreTakenOff};
+    ghost use Rattle.pcfs_ports.specs.Telling.{AreTakenOff};
     ghost use Rattle.session_service.specs.Sessions.{sources_of, inputs_of, AreOfSeenSession, IsConnectionPass, IsInputOf, IsNonceOf};
     ghost use Rattle.session_service.specs.declared.session_end.SessionEnd.{SessionEnd};
+    ghost use Rattle.pcfs_session.specs.Streams.{streams_of};
+    ghost use Rattle.session_service.specs.Ends.{NothingFailedBefore};
     ghost use Rattle.session_service.specs.SessionEnds.{SessionEnds, GreetsFirst};
 
     // For each pass that was made a nonce was given. The passes that were taken in are those of the connections that are
@@ -184,7 +187,7 @@ impl<'a, D: Disk + Send, C: Clock, N: TellingNonces + 'a, L: TellingListener> Se
         _alloc: Global,
         door: &mut SessionDoor<'a, OpenedStore<D>, N>,
     ) -> Result<SessionToken<OpenedStore<D>>, AdmitFault> {
-        match door.nonces.next_told() {
+        match door.nonces.next() {
             Ok(nonce) => Ok(SessionToken {
                 pass: self.lock.pass(&mut door.door),
                 nonce,
@@ -217,18 +220,17 @@ impl<'a, D: Disk + Send, C: Clock, N: TellingNonces + 'a, L: TellingListener> Se
         ensures attended { token.new.attended ≡ true }
 
         // The connection had a session, under the token's pass and with its nonce.
-        ensures session { (end : SessionEnd) × SessionEnds D.faults (C.gives self.now.clock.now) token.old.nonce token.old.pass token.new.pass
-            (record {
-              left = L.In.left input.old;
-              read_faults = L.In.faults input.old;
-              held =
-                  L.Out.held output.old;
-              write_faults = L.Out.faults output.old;
-            }) end
-            (record { left = L.In.left input.new; read_faults = L.In.faults input.new; held = L.Out.held output.new; write_faults = L.Out.faults output.new }) }
+        ensures session { (end : SessionEnd) ×
+            SessionEnds D.faults (C.gives self.now.clock.now) token.old.nonce token.old.pass
+            token.new.pass
+            (streams_of L.In.left L.In.faults L.Out.held L.Out.faults input.old output.old) end
+            (streams_of L.In.left L.In.faults L.Out.held L.Out.faults input.new output.new) ×
+            NothingFailedBefore
+            (streams_of L.In.left L.In.faults L.Out.held L.Out.faults input.old output.old) end
+            (streams_of L.In.left L.In.faults L.Out.held L.Out.faults input.new output.new) }
         ensures greets_first { GreetsFirst token.old.nonce
-            (record { left = L.In.left input.old; read_faults = L.In.faults input.old; held = L.Out.held output.old; write_faults = L.Out.faults output.old })
-            (record { left = L.In.left input.new; read_faults = L.In.faults input.new; held = L.Out.held output.new; write_faults = L.Out.faults output.new }) }
+            (streams_of L.In.left L.In.faults L.Out.held L.Out.faults input.old output.old)
+            (streams_of L.In.left L.In.faults L.Out.held L.Out.faults input.new output.new) }
     {
         serve_session(
             rt,

@@ -1,8 +1,7 @@
 //! A session: its greeting, and its lines as they come.
 
-ghost use Rattle.std.specs.Prelude.{◌≡◌, ◌<◌, ◌≤◌, None, IfOk, OnErr, length, take};
-ghost use Rattle.pcfs_ports.specs.Faults.{HasRisen};
-ghost use Rattle.pcfs_ports.specs.Observable.{with_front, IsAtEnd};
+ghost use Rattle.std.specs.Prelude.{◌≡◌, ◌<◌, None};
+ghost use Rattle.session_service.specs.Ends.{NothingFailedBefore};
 ghost use Rattle.session_service.specs.SessionEnds.{SessionEnds, GoesOnToEnd, GreetsFirst};
 ghost use Rattle.pcfs_session.specs.Streams.{streams_of};
 
@@ -11,42 +10,16 @@ use crate::pieces::{speak_last, speak_piece};
 use crate::session_end::{SessionEnd, unsent_end};
 use bl_syntax::Principal;
 use line_framer::Framer;
-use pcfs_ports::{Clock, Disk, Failed, INPUT_LIMIT, Sink, Source};
+use pcfs_ports::{Disk, INPUT_LIMIT, Sink, Source, new_piece, read_piece};
+use session_history::TurnClock;
 use session_lines::{Checker, PlainChecker};
 use shared_store::OpenedStore;
-use std::alloc::{AllocError, Global};
+use std::alloc::Global;
 use std::sync::Wait;
 use tree_lock::{Pass, TreeLock};
 
-/// How many bytes a source is asked for at once, at most.
-const PIECE_LEN: usize = 65_536;
-
-// The room for a piece.
-fn new_piece(alloc: Global) -> Result<Vec<u8>, AllocError>
-    ensures { IfOk result (λ piece. length piece.items ≡ 65536) }
-{
-    vec![in alloc; 0u8; PIECE_LEN]
-}
-
-// Takes bytes from the input into the front of the piece by one read, no more than this many, and returns how many: none
-// at the end.
-fn read_piece<I: Source>(input: &mut I, piece: &mut [u8], most: usize) -> Result<usize, Failed>
-    requires room { 0 < length piece.old }
-    requires some { 0 < most }
-    ensures bound { IfOk result (λ count. count ≤ length piece.new) }
-    ensures few { IfOk result (λ count. count ≤ most) }
-    ensures taken { IfOk result (λ count. I.left input.old ≡ with_front (take count piece.new) (I.left input.new)) }
-    ensures end { IfOk result (λ count. count ≡ 0 → IsAtEnd (I.left input.new)) }
-    ensures err { OnErr result (I.left input.new ≡ I.left input.old) }
-    ensures risen { OnErr result (HasRisen (I.faults input.old) (I.faults input.new)) }
-    ensures never_falls { I.faults input.old ≤ I.faults input.new }
-{
-    let room = piece.len().min(most);
-    input.read(&mut piece[..room])
-}
-
 // Takes the input in pieces and answers its lines, after the greeting, and returns how the session ends.
-fn speak_pieces<R: Wait, I: Source, O: Sink, D: Disk, C: Clock, K: Checker>(
+fn speak_pieces<R: Wait, I: Source, O: Sink, D: Disk, C: TurnClock, K: Checker>(
     rt: &R,
     alloc: Global,
     lock: &TreeLock<OpenedStore<D>>,
@@ -59,6 +32,9 @@ fn speak_pieces<R: Wait, I: Source, O: Sink, D: Disk, C: Clock, K: Checker>(
 ) -> SessionEnd
     requires { pass.old.lock ≡ lock.now }
     ensures ends { GoesOnToEnd D.faults (C.gives clock.now) nonce.now pass.old pass.new
+        (streams_of I.left I.faults O.held O.faults input.old output.old) result
+        (streams_of I.left I.faults O.held O.faults input.new output.new) }
+    ensures steady { NothingFailedBefore
         (streams_of I.left I.faults O.held O.faults input.old output.old) result
         (streams_of I.left I.faults O.held O.faults input.new output.new) }
     ensures same_lock { pass.new.lock ≡ lock.now }
@@ -114,10 +90,11 @@ fn speak_pieces<R: Wait, I: Source, O: Sink, D: Disk, C: Clock, K: Checker>(
 /// lock.
 ///
 /// The greeting is out before the first read; by the order of the code, and no clause, so is each reply before more of the
-/// input is taken. At `Done` the input was read to its end and each of its lines was answered. Each reply has its place in
+/// input is taken. At `Done` the input was read to its end and each of its lines was answered. No call of the input failed,
+/// unless the session ends by that, and none of the output, unless it ends by that. Each reply has its place in
 /// each history that begins with what the pass has seen at the end, after what it had seen at first, and places do not go
 /// back; what the pass was given by the replies is what its own entries grew by.
-pub fn serve_session_with<R: Wait, I: Source, O: Sink, D: Disk, C: Clock, K: Checker>(
+pub fn serve_session_with<R: Wait, I: Source, O: Sink, D: Disk, C: TurnClock, K: Checker>(
     rt: &R,
     alloc: Global,
     lock: &TreeLock<OpenedStore<D>>,
@@ -135,6 +112,9 @@ pub fn serve_session_with<R: Wait, I: Source, O: Sink, D: Disk, C: Clock, K: Che
     ensures greets_first { GreetsFirst nonce
         (streams_of I.left I.faults O.held O.faults input.old output.old)
         (streams_of I.left I.faults O.held O.faults input.new output.new) }
+    ensures steady { NothingFailedBefore
+        (streams_of I.left I.faults O.held O.faults input.old output.old) result
+        (streams_of I.left I.faults O.held O.faults input.new output.new) }
     ensures same_lock { pass.new.lock ≡ lock.now }
 {
     match greet(alloc, &nonce, output) {
@@ -144,7 +124,7 @@ pub fn serve_session_with<R: Wait, I: Source, O: Sink, D: Disk, C: Clock, K: Che
 }
 
 /// Holds a session as `serve_session_with` does; each proof is checked when its line is answered.
-pub fn serve_session<R: Wait, I: Source, O: Sink, D: Disk, C: Clock>(
+pub fn serve_session<R: Wait, I: Source, O: Sink, D: Disk, C: TurnClock>(
     rt: &R,
     alloc: Global,
     lock: &TreeLock<OpenedStore<D>>,
@@ -160,6 +140,9 @@ pub fn serve_session<R: Wait, I: Source, O: Sink, D: Disk, C: Clock>(
         (streams_of I.left I.faults O.held O.faults input.new output.new) }
     ensures greets_first { GreetsFirst nonce
         (streams_of I.left I.faults O.held O.faults input.old output.old)
+        (streams_of I.left I.faults O.held O.faults input.new output.new) }
+    ensures steady { NothingFailedBefore
+        (streams_of I.left I.faults O.held O.faults input.old output.old) result
         (streams_of I.left I.faults O.held O.faults input.new output.new) }
     ensures same_lock { pass.new.lock ≡ lock.now }
 {

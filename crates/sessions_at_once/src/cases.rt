@@ -23,7 +23,8 @@ struct Case {
     found: &'static str,
 }
 
-const ALICE_WRITES: &str =
+/// The procap by which alice writes in the root, of the first issue.
+pub const ALICE_WRITES: &str =
     "470205616c696365000000000000000102000001000000015c17fc1140a5e342973cb964bae1b0eedecb5b0d8e5a22660367385b4264fe25";
 
 /// The clock is read for alice's operation until bob has asked for his, which is allowed from second 200 on.

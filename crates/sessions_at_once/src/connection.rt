@@ -5,7 +5,6 @@ ghost use Rattle.std.specs.Prelude.{◌≡◌, ◌≤◌, None, length};
 use crate::meeting::Meeting;
 use bl_syntax::Bytes;
 use pcfs_ports::{Accepted, Failed, Listener, Sink, Source};
-use pcfs_server::TellingListener;
 use std::alloc::Global;
 use std::str;
 
@@ -122,6 +121,8 @@ impl<'b> Listener for TwoConnections<'b> {
 
     type Out = Hearer<'b>;
 
+    ghost queue = { λ _. None };
+
     ghost waiting = { λ _. None };
 
     ghost over = { λ _. Unit {0} };
@@ -145,17 +146,5 @@ impl<'b> Listener for TwoConnections<'b> {
             Speaker::new(self.meeting, speech),
             Hearer::new(self.meeting),
         )
-    }
-}
-
-impl<'b> TellingListener for TwoConnections<'b> {
-    ghost queue = { λ _. None };
-
-    fn start(&mut self, port: u16) -> Result<(), Failed> {
-        self.listen(port)
-    }
-
-    fn next(&mut self, alloc: Global) -> Accepted<Speaker<'b>, Hearer<'b>> {
-        self.accept(alloc)
     }
 }

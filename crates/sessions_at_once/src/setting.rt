@@ -13,7 +13,7 @@ use std::thread::Threads;
 const SECRETS: &str = "seal 6f6e65\nkey admin 61\nkey alice 62\nkey bob 63\n";
 
 /// How alice logs in, over a nonce of zeros.
-const ALICE: &str =
+pub const ALICE: &str =
     "login alice cf6ed2b39a698aba8a337f2f4397c514edf2fd860a90dad7a5b7177ce7aa8fee\n";
 
 /// How bob logs in, over a nonce of zeros.

@@ -28,10 +28,10 @@ use Rattle.shared_store.proofs.TurningLemmas.{stop_of, turn_shown}
 
 module _ {D : Type 0} where
   -- the entries after a turn are those before, and then the given ones under the number of the pass
-  grown : (faults : D → ℕ) (gives : ℤ → Type 0) (request : TurnRequest) (before after : OpenedView D) (pass : ℕ) (reply : TurnReply) (t : HasTurned faults gives request before pass after reply) → lock_entries after ≡ lock_history before.opening (entries_of before.store ++ t.given)
+  grown : (faults : D → ℕ) (gives : List StoreEntry → ℤ → Type 0) (request : TurnRequest) (before after : OpenedView D) (pass : ℕ) (reply : TurnReply) (t : HasTurned faults gives request before pass after reply) → lock_entries after ≡ lock_history before.opening (entries_of before.store ++ t.given)
   grown faults gives request before after pass reply t = ap (λ (o : StoreView D). lock_history o (entries_of after.store)) t.opening_stays ∙ ap (lock_history before.opening) t.grows
 
-  pub appends : (faults : D → ℕ) (gives : ℤ → Type 0) (request : TurnRequest) (before after : OpenedView D) (pass : ℕ) (reply : TurnReply) → HasTurned faults gives request before pass after reply → Appends pass (lock_entries before) (lock_entries after)
+  pub appends : (faults : D → ℕ) (gives : List StoreEntry → ℤ → Type 0) (request : TurnRequest) (before after : OpenedView D) (pass : ℕ) (reply : TurnReply) → HasTurned faults gives request before pass after reply → Appends pass (lock_entries before) (lock_entries after)
   appends faults gives request before after pass reply t = record {
     added = numbered t.given;
     is = grown faults gives request before after pass reply t ∙ ap (λ (l : List (ℕ × LockEntry D)). (0, Opened before.opening) ∷ l) (numbered_both D (entries_of before.store) t.given);
@@ -39,11 +39,11 @@ module _ {D : Type 0} where
   }
 
   -- the moment was one that the clock gives
-  pub turned_shown : (faults : D → ℕ) (gives : ℤ → Type 0) (request : TurnRequest) (before after : OpenedView D) (pass : ℕ) (moment : ℤ) (reply : TurnReply) → gives moment → HasTurned faults (λ m. m ≡ moment) request before pass after reply → HasTurned faults gives request before pass after reply
+  pub turned_shown : (faults : D → ℕ) (gives : List StoreEntry → ℤ → Type 0) (request : TurnRequest) (before after : OpenedView D) (pass : ℕ) (moment : ℤ) (reply : TurnReply) → gives (entries_of before.store) moment → HasTurned faults (λ _ m. m ≡ moment) request before pass after reply → HasTurned faults gives request before pass after reply
   turned_shown faults gives request before after pass moment reply shown t =
       record { given = t.given; opening_stays = t.opening_stays; grows = t.grows; turn = turn_shown gives (pass_at before.opening pass) (entries_of before.store) request moment reply t.given shown t.turn; stops = t.stops }
 
-  module _ (faults : D → ℕ) (gives : ℤ → Type 0) (request : TurnRequest) where
+  module _ (faults : D → ℕ) (gives : List StoreEntry → ℤ → Type 0) (request : TurnRequest) where
     abbrev Done : OpenedView D → ℕ → OpenedView D → TurnReply → Type 0
     Done before pass after reply = TakesTurn faults gives request before pass after reply
 
@@ -91,6 +91,7 @@ module _ {D : Type 0} where
           found_seen = t.found;
           seen_is = seen;
           turn = w.turn;
+          turns = t.turns;
           placed = λ opening entries begins.
               let longer = subst (λ (l : List (ℕ × LockEntry D)). IsPrefix l (lock_history opening entries)) seen begins in
               record {
@@ -124,7 +125,7 @@ module _ {D : Type 0} where
   seen_later faults old new grew f =
       record { root = f.root; after = f.after; number = f.number; seen = prefix_trans (lock_history f.root (entries_of f.after)) old.seen new.seen f.seen grew; stop = f.stop; since = f.since }
 
-  pub told_found : (gives : ℤ → Type 0) (told old new : PassView (LockEntry D)) (opening : StoreView D) (request : TurnRequest) (reply : TurnReply) → (h : HasHistory opening told) → IsPrefix told.seen old.seen → (a : HasAsked gives request old new reply) →
+  pub told_found : (gives : List StoreEntry → ℤ → Type 0) (told old new : PassView (LockEntry D)) (opening : StoreView D) (request : TurnRequest) (reply : TurnReply) → (h : HasHistory opening told) → IsPrefix told.seen old.seen → (a : HasAsked gives request old new reply) →
       (opening ≡ a.root) × IsPrefix h.entries a.found
   told_found gives told old new opening request reply h earlier a =
       let whole : IsPrefix told.seen (lock_history a.root a.found) = prefix_trans told.seen old.seen (lock_history a.root a.found) earlier a.found_seen in

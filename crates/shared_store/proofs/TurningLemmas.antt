@@ -118,7 +118,7 @@ module _ {D : Type 0} (clock : D → ℕ) (left_since : D → ℕ → List ℕ �
 
   -- a step
   by_step : (new : StoreView D) (pass : ℕ) (moment : ℤ) (request : StepRequest) (reply : StoreReply) → IsStore now → Steps faults now pass moment request reply new →
-      HasTurned faults (λ m. m ≡ moment) (requests.Step request) (record { store = now; opening = opening }) pass (record { store = new; opening = opening }) (turn_reply reply)
+      HasTurned faults (λ _ m. m ≡ moment) (requests.Step request) (record { store = now; opening = opening }) pass (record { store = new; opening = opening }) (turn_reply reply)
   by_step _ pass moment request _ store (steps.answered reply running answers) = record {
     given = [];
     opening_stays = refl;
@@ -179,7 +179,7 @@ module _ {D : Type 0} (clock : D → ℕ) (left_since : D → ℕ → List ℕ �
   checkpoint_here pass store (inr last) = inr (subst (λ (n : ℕ). 2 ^ 48 - 1 ≤ n) (sym (generation_is store)) last)
 
   by_checkpoint : (pass : ℕ) (new : StoreView D) (moment : ℤ) (reply : CheckpointReply) → IsStore now → MakesCheckpoint faults now pass reply new →
-      HasTurned faults (λ m. m ≡ moment) requests.Checkpoint (record { store = now; opening = opening }) pass (record { store = new; opening = opening }) (checkpoint_reply reply)
+      HasTurned faults (λ _ m. m ≡ moment) requests.Checkpoint (record { store = now; opening = opening }) pass (record { store = new; opening = opening }) (checkpoint_reply reply)
   by_checkpoint pass _ moment _ store (makes.made active running fits) = record {
     given = checkpointed pass ∷ [];
     opening_stays = refl;
@@ -212,7 +212,7 @@ module _ {D : Type 0} (clock : D → ℕ) (left_since : D → ℕ → List ℕ �
 
   -- a look at the store, which adds nothing
   abbrev Looks : TurnRequest → TurnReply → Type 0
-  Looks request reply = (pass : ℕ) (moment : ℤ) → Turn (λ m. m ≡ moment) (pass_at opening pass) (entries_of now) request reply []
+  Looks request reply = (pass : ℕ) (moment : ℤ) → Turn (λ _ m. m ≡ moment) (pass_at opening pass) (entries_of now) request reply []
 
   pub look_stopped : (request : TurnRequest) → is_some now.stop ≡ true → Looks request turn_replies.Stopped
   look_stopped request stop pass moment = turns.was_stopped (stands now stop)
@@ -265,36 +265,36 @@ module _ {D : Type 0} (clock : D → ℕ) (left_since : D → ℕ → List ℕ �
 
 pub turned_by_checkpoint : {D : Type 0} (clock : D → ℕ) (left_since : D → ℕ → List ℕ → Type 0) (image : D → Option (List ℕ)) (faults : D → ℕ) (opening old new : StoreView D) (pass : ℕ) (moment : ℤ) (reply : CheckpointReply) (told : TurnReply) →
     HasGoneOn clock left_since image faults opening old → IsStore old → MakesCheckpoint faults old pass reply new → told ≡ checkpoint_reply reply →
-    HasTurned faults (λ m. m ≡ moment) requests.Checkpoint (record { store = old; opening = opening }) pass (record { store = new; opening = opening }) told
+    HasTurned faults (λ _ m. m ≡ moment) requests.Checkpoint (record { store = old; opening = opening }) pass (record { store = new; opening = opening }) told
 turned_by_checkpoint clock left_since image faults opening old new pass moment reply told g store checkpoint is =
-    subst (λ (r : TurnReply). HasTurned faults (λ m. m ≡ moment) requests.Checkpoint (record { store = old; opening = opening }) pass (record { store = new; opening = opening }) r) (sym is)
+    subst (λ (r : TurnReply). HasTurned faults (λ _ m. m ≡ moment) requests.Checkpoint (record { store = old; opening = opening }) pass (record { store = new; opening = opening }) r) (sym is)
     (by_checkpoint clock left_since image faults opening old g pass new moment reply store checkpoint)
 
 pub turned_by_step : {D : Type 0} (clock : D → ℕ) (left_since : D → ℕ → List ℕ → Type 0) (image : D → Option (List ℕ)) (faults : D → ℕ) (opening old new : StoreView D) (pass : ℕ) (moment : ℤ) (request : StepRequest) (reply : StoreReply) (told : TurnReply) →
     HasGoneOn clock left_since image faults opening old → IsStore old → Steps faults old pass moment request reply new → told ≡ turn_reply reply →
-    HasTurned faults (λ m. m ≡ moment) (requests.Step request) (record { store = old; opening = opening }) pass (record { store = new; opening = opening }) told
+    HasTurned faults (λ _ m. m ≡ moment) (requests.Step request) (record { store = old; opening = opening }) pass (record { store = new; opening = opening }) told
 turned_by_step clock left_since image faults opening old new pass moment request reply told g store stepped is =
-    subst (λ (r : TurnReply). HasTurned faults (λ m. m ≡ moment) (requests.Step request) (record { store = old; opening = opening }) pass (record { store = new; opening = opening }) r) (sym is)
+    subst (λ (r : TurnReply). HasTurned faults (λ _ m. m ≡ moment) (requests.Step request) (record { store = old; opening = opening }) pass (record { store = new; opening = opening }) r) (sym is)
     (by_step clock left_since image faults opening old g new pass moment request reply store stepped)
 
 -- a look is a turn that leaves all as it was
-pub turned_by_look : {D : Type 0} (faults : D → ℕ) (s : OpenedView D) (pass : ℕ) (moment : ℤ) (asked request : TurnRequest) (reply : TurnReply) → asked ≡ request → ((n : ℕ) (m : ℤ) → Turn (λ k. k ≡ m) (pass_at s.opening n) (entries_of s.store) asked reply []) →
-    HasTurned faults (λ m. m ≡ moment) request s pass s reply
+pub turned_by_look : {D : Type 0} (faults : D → ℕ) (s : OpenedView D) (pass : ℕ) (moment : ℤ) (asked request : TurnRequest) (reply : TurnReply) → asked ≡ request → ((n : ℕ) (m : ℤ) → Turn (λ _ k. k ≡ m) (pass_at s.opening n) (entries_of s.store) asked reply []) →
+    HasTurned faults (λ _ m. m ≡ moment) request s pass s reply
 turned_by_look faults s pass moment asked request reply is looks =
-    subst (λ (r : TurnRequest). HasTurned faults (λ m. m ≡ moment) r s pass s reply) is (record { given = []; opening_stays = refl; grows = sym (append-nil (entries_of s.store)); turn = looks pass moment; stops = λ stopper was now_is. none_some s.store.stop stopper was now_is })
+    subst (λ (r : TurnRequest). HasTurned faults (λ _ m. m ≡ moment) r s pass s reply) is (record { given = []; opening_stays = refl; grows = sym (append-nil (entries_of s.store)); turn = looks pass moment; stops = λ stopper was now_is. none_some s.store.stop stopper was now_is })
 
 -- a step is one that was asked for, at the moment that was shown
-pub turned_by_request : {D : Type 0} (faults : D → ℕ) (before after : OpenedView D) (pass : ℕ) (shown moment : ℤ) (asked request : TurnRequest) (reply : TurnReply) → shown ≡ moment → asked ≡ request → HasTurned faults (λ m. m ≡ shown) asked before pass after reply →
-    HasTurned faults (λ m. m ≡ moment) request before pass after reply
+pub turned_by_request : {D : Type 0} (faults : D → ℕ) (before after : OpenedView D) (pass : ℕ) (shown moment : ℤ) (asked request : TurnRequest) (reply : TurnReply) → shown ≡ moment → asked ≡ request → HasTurned faults (λ _ m. m ≡ shown) asked before pass after reply →
+    HasTurned faults (λ _ m. m ≡ moment) request before pass after reply
 turned_by_request faults before after pass shown moment asked request reply is same turned =
-    subst (λ (k : ℤ). HasTurned faults (λ m. m ≡ k) request before pass after reply) is (subst (λ (r : TurnRequest). HasTurned faults (λ m. m ≡ shown) r before pass after reply) same turned)
+    subst (λ (k : ℤ). HasTurned faults (λ _ m. m ≡ k) request before pass after reply) is (subst (λ (r : TurnRequest). HasTurned faults (λ _ m. m ≡ shown) r before pass after reply) same turned)
 
 -- the moment was one that the clock gives
-pub turn_shown : (gives : ℤ → Type 0) (p : StorePass) (before : List StoreEntry) (request : TurnRequest) (moment : ℤ) (reply : TurnReply) (given : List StoreEntry) → gives moment →
-    Turn (λ m. m ≡ moment) p before request reply given → Turn gives p before request reply given
+pub turn_shown : (gives : List StoreEntry → ℤ → Type 0) (p : StorePass) (before : List StoreEntry) (request : TurnRequest) (moment : ℤ) (reply : TurnReply) (given : List StoreEntry) → gives before moment →
+    Turn (λ _ m. m ≡ moment) p before request reply given → Turn gives p before request reply given
 turn_shown gives p before request moment _ _ shown (turns.was_stopped is) = turns.was_stopped is
-turn_shown gives p before request moment _ _ shown (turns.answered at reply running same answers) = turns.answered at reply running (subst gives (sym same) shown) answers
-turn_shown gives p before request moment _ _ shown (turns.full at reply entry running same answers is_full) = turns.full at reply entry running (subst gives (sym same) shown) answers is_full
-turn_shown gives p before request moment _ _ shown (turns.kept at reply entry running same answers room) = turns.kept at reply entry running (subst gives (sym same) shown) answers room
-turn_shown gives p before request moment _ _ shown (turns.failed at reply entry running same answers room) = turns.failed at reply entry running (subst gives (sym same) shown) answers room
+turn_shown gives p before request moment _ _ shown (turns.answered at reply running same answers) = turns.answered at reply running (subst (gives before) (sym same) shown) answers
+turn_shown gives p before request moment _ _ shown (turns.full at reply entry running same answers is_full) = turns.full at reply entry running (subst (gives before) (sym same) shown) answers is_full
+turn_shown gives p before request moment _ _ shown (turns.kept at reply entry running same answers room) = turns.kept at reply entry running (subst (gives before) (sym same) shown) answers room
+turn_shown gives p before request moment _ _ shown (turns.failed at reply entry running same answers room) = turns.failed at reply entry running (subst (gives before) (sym same) shown) answers room
 turn_shown gives p before request moment _ _ shown turns.without_memory = turns.without_memory

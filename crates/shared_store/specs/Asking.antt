@@ -1,7 +1,7 @@
 -- What a pass knows after a turn at a shared store (this project's own).
 use Rattle.std.specs.Prelude.{◌≡◌, ℕ, ℤ, ◌-◌, List, ◌++◌, length, Some}
 use mathlib.Core.List.{IsPrefix}
-use Rattle.tree_lock.specs.Seen.{PassView}
+use Rattle.tree_lock.specs.Seen.{PassView, one_more}
 use Rattle.pcfs_store.specs.Entries.{StoreEntry, entries_of}
 use Rattle.pcfs_store.specs.StoreView.{StoreView}
 use Rattle.session_history.specs.declared.request.TurnRequest.{TurnRequest}
@@ -42,7 +42,7 @@ module _ {D : Type 0} where
   -- it found the entries `found`, and all that it had seen before was among them; and it added the
   -- given ones. So it is in each history that
   -- begins with that.
-  pub record HasAsked (gives : ℤ → Type 0) (request : TurnRequest) (old new : PassView (LockEntry D)) (reply : TurnReply) : Type 0 where
+  pub record HasAsked (gives : List StoreEntry → ℤ → Type 0) (request : TurnRequest) (old new : PassView (LockEntry D)) (reply : TurnReply) : Type 0 where
     pub given : List StoreEntry
     pub goes_on : PassGoesOn old new given
     pub root : StoreView D
@@ -50,6 +50,7 @@ module _ {D : Type 0} where
     pub found_seen : IsPrefix old.seen (lock_history root found)
     pub seen_is : new.seen ≡ lock_history root (found ++ given)
     pub turn : Turn gives (pass_at root old.number) found request reply given
+    pub turns : new.turns ≡ one_more old.turns
     pub placed : InEachHistory new (λ opening entries. TurnPlaced gives (pass_at opening old.number)
         entries (entries_seen old) request reply (entries_seen new) given)
 

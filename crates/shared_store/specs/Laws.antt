@@ -1,9 +1,9 @@
 -- Laws of shared stores.
-use Rattle.std.specs.Prelude.{◌≡◌, ℤ}
+use Rattle.std.specs.Prelude.{◌≡◌, ℤ, List}
 use mathlib.Core.List.{IsPrefix}
 use Rattle.tree_lock.specs.Seen.{PassView, DoormanView}
 use Rattle.tree_lock.specs.Closing.{IsClosed}
-use Rattle.pcfs_store.specs.Entries.{entries_of}
+use Rattle.pcfs_store.specs.Entries.{StoreEntry, entries_of}
 use Rattle.pcfs_store.specs.StoreView.{StoreView}
 use Rattle.session_history.specs.declared.request.TurnRequest.{TurnRequest}
 use Rattle.session_history.specs.declared.reply.TurnReply.{TurnReply}
@@ -23,7 +23,7 @@ ClosedAreMerged D = (first last : OpenedView D) (door : DoormanView (LockEntry D
 -- A turn finds what was told before. When something was told under a pass, it had seen these
 -- entries of a store; if another pass has seen as much when it takes a turn, the turn finds the
 -- same store with all these entries, also if it keeps nothing.
-abbrev pub TurnsFindWhatWasTold : Type 0 → (ℤ → Type 0) → Type 0
+abbrev pub TurnsFindWhatWasTold : Type 0 → (List StoreEntry → ℤ → Type 0) → Type 0
 TurnsFindWhatWasTold D gives = (told old new : PassView (LockEntry D)) (opening : StoreView D) (request : TurnRequest) (reply : TurnReply) →
     (h : HasHistory opening told) → IsPrefix told.seen old.seen →
     (a : HasAsked gives request old new reply) →

@@ -44,7 +44,7 @@ HasTurnFailed faults (requests.Login who nonce signature) before after = ⊥
 -- A turn of the pass took the store from `before` to `after`: it added entries at the end, and its
 -- reply is that of a turn which finds those before. If it was this turn that stopped the store, a
 -- count rose in it.
-pub record HasTurned {D : Type 0} (faults : D → ℕ) (gives : ℤ → Type 0) (request : TurnRequest)
+pub record HasTurned {D : Type 0} (faults : D → ℕ) (gives : List StoreEntry → ℤ → Type 0) (request : TurnRequest)
     (before : OpenedView D) (pass : ℕ) (after : OpenedView D) (reply : TurnReply) : Type 0 where
   pub given : List StoreEntry
   pub opening_stays : after.opening ≡ before.opening
@@ -55,7 +55,7 @@ pub record HasTurned {D : Type 0} (faults : D → ℕ) (gives : ℤ → Type 0) 
 
 -- What a turn does at the store: so it turned; and if the store is stopped then, in this turn or in
 -- an earlier one, a count has risen since the opening.
-pub record TakesTurn {D : Type 0} (faults : D → ℕ) (gives : ℤ → Type 0) (request : TurnRequest)
+pub record TakesTurn {D : Type 0} (faults : D → ℕ) (gives : List StoreEntry → ℤ → Type 0) (request : TurnRequest)
     (before : OpenedView D) (pass : ℕ) (after : OpenedView D) (reply : TurnReply) : Type 0 where
   pub turned : HasTurned faults gives request before pass after reply
   pub failed : (stopper : ℕ) → after.store.stop ≡ Some stopper →

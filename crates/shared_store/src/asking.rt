@@ -6,8 +6,8 @@ ghost use Rattle.shared_store.specs.Asking.{HasAsked, HasSeenFault};
 use crate::formed::FormedRequest;
 use crate::opened::OpenedStore;
 use crate::turn::StoreTurn;
-use pcfs_ports::{Clock, Disk};
-use session_history::TurnReply;
+use pcfs_ports::Disk;
+use session_history::{TurnClock, TurnReply};
 use std::alloc::Global;
 use std::sync::Wait;
 use tree_lock::{Pass, TreeLock};
@@ -16,7 +16,7 @@ use tree_lock::{Pass, TreeLock};
 /// with what the pass has seen then, and the pass's own entries grew by those that it was given.
 ///
 /// `Stopped` comes only if a disk failed, in this turn or in an earlier one.
-pub fn ask<R: Wait, D: Disk, C: Clock>(
+pub fn ask<R: Wait, D: Disk, C: TurnClock>(
     rt: &R,
     alloc: Global,
     lock: &TreeLock<OpenedStore<D>>,

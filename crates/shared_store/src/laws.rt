@@ -3,7 +3,8 @@
 ghost use Rattle.shared_store.specs.Laws.{ClosedAreMerged, TurnsFindWhatWasTold};
 ghost use Rattle.shared_store.specs.Growing.{StepsGrow, CheckpointsGrow};
 
-use pcfs_ports::{Clock, Disk};
+use pcfs_ports::Disk;
+use session_history::TurnClock;
 
 /// When all passes were taken in, the entries of the store are those with which the lock was made, and then a merge of
 /// the passes' own; and the store was opened as it was then.
@@ -13,7 +14,7 @@ pub fn closed_stores_are_merges<D: Disk>()
 
 /// A turn finds all entries that a pass had seen when something was told under it, if the pass that takes the turn had seen
 /// as much before.
-pub fn turns_find_what_was_told<D: Disk, C: Clock>(clock: &C)
+pub fn turns_find_what_was_told<D: Disk, C: TurnClock>(clock: &C)
     ensures { TurnsFindWhatWasTold D (C.gives clock.now) }
 {
     let _ = clock;

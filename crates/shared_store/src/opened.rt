@@ -102,11 +102,18 @@ impl<D: Disk> OpenedStore<D> {
         store
     }
 
+    /// The store, to look at.
+    pub(crate) fn store(&self) -> &Store<D>
+        ensures { result.now ≡ self.now.store }
+    {
+        &self.store
+    }
+
     // Has the step decided and kept.
     fn step(&mut self, alloc: Global, pass: u64, request: StepRequest, clock: i64) -> TurnReply
         requires in_range { IsMoment clock }
         requires well_formed { IsWellFormed request }
-        ensures { HasTurned D.faults (λ moment. moment ≡ clock) (TurnRequest.Step request) self.old pass self.new result }
+        ensures { HasTurned D.faults (λ _ moment. moment ≡ clock) (TurnRequest.Step request) self.old pass self.new result }
     {
         self.store.lemma_is_store();
         let reply = self.store.step(alloc, pass, request, clock);
@@ -115,7 +122,7 @@ impl<D: Disk> OpenedStore<D> {
 
     // Makes a checkpoint.
     fn checkpoint(&mut self, alloc: Global, pass: u64) -> TurnReply
-        ensures { (clock : ℤ) → HasTurned D.faults (λ moment. moment ≡ clock) TurnRequest.Checkpoint self.old pass self.new result }
+        ensures { (clock : ℤ) → HasTurned D.faults (λ _ moment. moment ≡ clock) TurnRequest.Checkpoint self.old pass self.new result }
     {
         self.store.lemma_is_store();
         let reply = self.store.checkpoint(alloc, pass);
@@ -126,7 +133,7 @@ impl<D: Disk> OpenedStore<D> {
     fn cite(&self, alloc: Global, numbers: &Numbers) -> TurnReply
         requires { AreCitable numbers.now }
         ensures { (pass : ℕ) (clock : ℤ) →
-            Turn (λ moment. moment ≡ clock) (pass_at self.now.opening pass) (entries_of self.now.store) (TurnRequest.Cite numbers.now) result [] }
+            Turn (λ _ moment. moment ≡ clock) (pass_at self.now.opening pass) (entries_of self.now.store) (TurnRequest.Cite numbers.now) result [] }
     {
         if self.store.is_stopped() {
             return TurnReply::Stopped;
@@ -146,7 +153,7 @@ impl<D: Disk> OpenedStore<D> {
         nonce: &[u8; 16],
         signature: &Bytes,
     ) -> TurnReply
-        ensures { (pass : ℕ) (clock : ℤ) → Turn (λ moment. moment ≡ clock)
+        ensures { (pass : ℕ) (clock : ℤ) → Turn (λ _ moment. moment ≡ clock)
             (pass_at self.now.opening pass) (entries_of self.now.store)
             (TurnRequest.Login who.now nonce.now signature.now) result [] }
     {
@@ -175,7 +182,7 @@ impl<D: Disk> OpenedStore<D> {
         clock: i64,
     ) -> TurnReply
         requires { IsMoment clock }
-        ensures { HasTurned D.faults (λ moment. moment ≡ clock) request self.old pass self.new result }
+        ensures { HasTurned D.faults (λ _ moment. moment ≡ clock) request self.old pass self.new result }
     {
         match request.into_request() {
             TurnRequest::Step(request) => self.step(alloc, pass, request, clock),

@@ -3,8 +3,8 @@
 use crate::entry::LockEntry;
 use crate::formed::FormedRequest;
 use crate::opened::OpenedStore;
-use pcfs_ports::{Clock, Disk};
-use session_history::TurnReply;
+use pcfs_ports::Disk;
+use session_history::{TurnClock, TurnReply};
 use std::alloc::Global;
 use tree_lock::{Job, Recorded};
 
@@ -23,7 +23,7 @@ pub struct StoreTurn<'c, C> {
     pub request: FormedRequest,
 }
 
-impl<'c, D: Disk, C: Clock> Job<OpenedStore<D>> for StoreTurn<'c, C> {
+impl<'c, D: Disk, C: TurnClock> Job<OpenedStore<D>> for StoreTurn<'c, C> {
     type Out = TurnReply;
 
     ghost use Rattle.shared_store.specs.Turning.{TakesTurn};
@@ -36,7 +36,7 @@ impl<'c, D: Disk, C: Clock> Job<OpenedStore<D>> for StoreTurn<'c, C> {
             clock,
             request,
         } = self;
-        let moment = clock.now();
+        let moment = clock.now(value.store());
         let reply = value.answer(alloc, pass, request, moment);
         value.lemma_has_gone_on();
         reply

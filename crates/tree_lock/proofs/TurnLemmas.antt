@@ -1,12 +1,12 @@
 -- What the steps of a turn come to.
-use Rattle.std.proofs.Common.{◌≡◌, ℕ, List, [], ◌∷◌, ◌++◌, sym, ap, ◌∙◌, subst}
+use Rattle.std.proofs.Common.{◌≡◌, ℕ, List, [], ◌∷◌, ◌++◌, refl, sym, ap, ◌∙◌, subst}
 use Rattle.std.specs.Prelude.{Option, Some, None}
 use mathlib.Core.List.{IsPrefix}
 use Rattle.atomic_table.specs.Table.{Me}
 use Rattle.atomic_table.specs.declared.shared.Seat.{Seat}
 use Rattle.tree_lock.specs.declared.view.Knowledge.{Knowledge}
 use Rattle.tree_lock.specs.Entries.{of_number, AllOfNumber, Appends}
-use Rattle.tree_lock.specs.Seen.{PassView}
+use Rattle.tree_lock.specs.Seen.{PassView, one_more}
 use Rattle.tree_lock.specs.Knowledge.{after_turn, holding}
 use Rattle.tree_lock.specs.Seats.{seat_view}
 use Rattle.tree_lock.specs.Steps.{Takes}
@@ -23,8 +23,8 @@ module _ {V : Type 0} where
   same_value k x y xs ys e = ap (first_of x) e
 
 module _ {V E : Type 0} where
-  pub same_view : (s t : Seat (Option V) (Knowledge E)) → t.table_id ≡ s.table_id → t.me ≡ s.me → seat_view t ≡ seat_view s
-  same_view s t table me = λ i. record { lock = table i; number = (me i).0.number; seen = (me i).0.seen; own = (me i).0.own }
+  pub same_view : (s t : Seat (Option V) (Knowledge E)) → t.table_id ≡ s.table_id → t.me ≡ s.me → seat_view 0 t ≡ seat_view 0 s
+  same_view s t table me = λ i. record { lock = table i; number = (me i).0.number; seen = (me i).0.seen; own = (me i).0.own; turns = 0 }
 
 module _ {V E Out : Type 0} (entries : V → List (ℕ × E)) (done : V → ℕ → V → Out → Type 0) where
   abbrev S : Type 0
@@ -35,10 +35,10 @@ module _ {V E Out : Type 0} (entries : V → List (ℕ × E)) (done : V → ℕ 
   Worked s2 number result s3 = (before after : V) × (s2.me.1 ≡ (0, Some before) ∷ []) × done before number after result × Appends number (entries before) (entries after) × (s3.table_id ≡ s2.table_id)
       × (s3.me ≡ (s2.me.0, (0, Some after) ∷ []))
 
-  pub turned : (s0 s1 s2 s3 s4 s5 : S) (number t : ℕ) (result : Out) → number ≡ s0.me.0.number → seat_view s1 ≡ seat_view s0 → s2.table_id ≡ s1.table_id → Takes entries t s1.me s2.me → Worked s2 number result s3
+  pub turned : (s0 s1 s2 s3 s4 s5 : S) (number t : ℕ) (result : Out) → number ≡ s0.me.0.number → seat_view 0 s1 ≡ seat_view 0 s0 → s2.table_id ≡ s1.table_id → Takes entries t s1.me s2.me → Worked s2 number result s3
       → s4.table_id ≡ s3.table_id → ((value : V) → s3.me.1 ≡ (0, Some value) ∷ [] → s4.me.0 ≡ after_turn s3.me.0 (entries value) (of_number s3.me.0.number (entries value)))
-      → s5.table_id ≡ s4.table_id → s5.me ≡ s4.me → Turned entries done (seat_view s0) (seat_view s5) result
-  turned s0 s1 s2 s3 s4 s5 number t result is drawn waited takes work served gave rung same =
+      → s5.table_id ≡ s4.table_id → s5.me ≡ s4.me → (turns : ℕ) → Turned entries done (seat_view turns s0) (seat_view (one_more turns) s5) result
+  turned s0 s1 s2 s3 s4 s5 number t result is drawn waited takes work served gave rung same turns =
       let before : V = work.0 in
       let after : V = work.1 in
       let appends = work.4 in
@@ -66,6 +66,7 @@ module _ {V E Out : Type 0} (entries : V → List (ℕ × E)) (done : V → ℕ 
         own = own5 ∙ ap (of_number s0.me.0.number) appends.is ∙ of_number-added s0.me.0.number (entries before) added all ∙ ap (λ (l : List (ℕ × E)). l ++ added) own_before;
         lock = rung ∙ served ∙ work.5 ∙ waited ∙ ap (λ (p : PassView E). p.lock) drawn;
         number = number5;
+        turns = refl;
         own_before = own_before;
         own_after = ap (λ (n : ℕ). of_number n (entries after)) number5 ∙ sym own5;
       }

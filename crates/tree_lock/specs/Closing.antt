@@ -32,3 +32,9 @@ module _ {E : Type 0} where
   pub record IsClosed (door : DoormanView E) (history : List (ℕ × E)) : Type 0 where
     pub all : length door.retired ≡ door.made
     pub knows : Knows door history
+
+-- What a pass had seen when it was taken in, each pass has seen that is made later.
+abbrev pub LaterPassesHaveSeen : Type 0 → Type 0
+LaterPassesHaveSeen E = (left later : PassView E) (before after door : DoormanView E) →
+    TakesIn left before after → IsPrefix after.seen door.seen → later.seen ≡ door.seen →
+    IsPrefix left.seen later.seen

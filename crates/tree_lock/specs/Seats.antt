@@ -17,8 +17,15 @@ abbrev pub doorman_view : {E : Type 0} → Knowledge E → TableId → ℕ → D
 doorman_view v lock out = record { lock = lock; seen = v.seen; opening = v.own; made = v.made; out = out; retired = v.retired }
 
 module _ {V E : Type 0} where
-  abbrev pub seat_view : Seat (Option V) (Knowledge E) → PassView E
-  seat_view seat = record { lock = seat.table_id; number = seat.me.0.number; seen = seat.me.0.seen; own = seat.me.0.own }
+  -- what contracts see of a pass that took so many turns and has this seat
+  abbrev pub seat_view : ℕ → Seat (Option V) (Knowledge E) → PassView E
+  seat_view turns seat = record {
+    lock = seat.table_id;
+    number = seat.me.0.number;
+    seen = seat.me.0.seen;
+    own = seat.me.0.own;
+    turns = turns;
+  }
 
   -- the seat of a pass at this table
   pub record IsPassAt (table : TableId) (seat : Seat (Option V) (Knowledge E)) : Type 0 where

@@ -1,5 +1,5 @@
 -- What contracts see of a pass and of a doorman. This project's own.
-use Rattle.std.specs.Prelude.{◌≡◌, ℕ, ◌≤◌, List, map, eqb}
+use Rattle.std.specs.Prelude.{◌≡◌, ℕ, ◌+◌, ◌-◌, ◌^◌, ◌≤◌, min, List, map, eqb}
 use Rattle.std.specs.List.{AllByRecursion, IsDistinct}
 use Rattle.atomic_table.specs.Seated.{TableId}
 use Rattle.tree_lock.specs.Entries.{of_number}
@@ -12,6 +12,12 @@ pub record PassView (E : Type 0) : Type 0 where
   pub seen : List (ℕ × E)
   -- the entries that its own jobs appended
   pub own : List (ℕ × E)
+  -- how many turns it took, up to 2 ^ 64 - 1
+  pub turns : ℕ
+
+-- one turn more
+abbrev pub one_more : ℕ → ℕ
+one_more turns = min (turns + 1) (2 ^ 64 - 1)
 
 -- a pass's number, and the entries that its own jobs appended
 abbrev pub Retired : Type 0 → Type 0

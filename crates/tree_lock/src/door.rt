@@ -73,7 +73,7 @@ impl<V: Recorded> TreeLock<V> {
     pub fn pass(&self, door: &mut Doorman<V>) -> Pass<V>
         requires lock { door.old.lock ≡ self.now }
         requires room { door.old.made < 2 ^ 64 - 1 }
-        ensures pass { result ≡ record { lock = self.now; number = door.old.made + 1; seen = door.old.seen; own = [] } }
+        ensures pass { result ≡ record { lock = self.now; number = door.old.made + 1; seen = door.old.seen; own = []; turns = 0 } }
         ensures opened { IsPrefix door.old.opening door.old.seen }
         ensures door { door.new ≡ record door.old { made = door.old.made + 1; out = door.old.out + 1 } }
     {
@@ -83,6 +83,7 @@ impl<V: Recorded> TreeLock<V> {
         Pass {
             seat,
             number: door.made,
+            turns: 0,
         }
     }
 

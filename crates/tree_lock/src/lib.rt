@@ -13,6 +13,6 @@ mod turn;
 mod view;
 mod waiting;
 
-pub use laws::closed_histories_are_merges;
+pub use laws::{closed_histories_are_merges, later_passes_have_seen_it};
 pub use parts::{Doorman, Pass, TreeLock};
 pub use recorded::{Job, Recorded};

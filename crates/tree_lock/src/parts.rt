@@ -77,6 +77,7 @@ impl<V: Recorded> Drop for Doorman<V> {
 pub struct Pass<V: Recorded> {
     pub(crate) seat: LockSeat<V>,
     pub(crate) number: u64,
+    pub(crate) turns: u64,
 }
 
 impl<V: Recorded> Model for Pass<V> {
@@ -86,7 +87,7 @@ impl<V: Recorded> Model for Pass<V> {
 
     ghost Value = { PassView V.Entry };
 
-    ghost view = { λ p. record { lock = p.seat.table_id; number = p.number; seen = p.seat.me.0.seen; own = p.seat.me.0.own } };
+    ghost view = { λ p. record { lock = p.seat.table_id; number = p.number; seen = p.seat.me.0.seen; own = p.seat.me.0.own; turns = p.turns } };
 
     ghost invariant = { λ p. (p.seat.me.1 ≡ []) × (p.number ≡ p.seat.me.0.number) × (1 ≤ p.number) × (p.seat.me.0.stage ≡ Idle) × (p.seat.me.0.out ≡ true) };
 }
@@ -98,15 +99,23 @@ impl<V: Recorded> Pass<V> {
 
     pub(crate) fn into_seat(self) -> LockSeat<V>
         ensures seat { (result.me.1 ≡ []) × (result.me.0.stage ≡ Idle) × (result.me.0.out ≡ true) × (1 ≤ result.me.0.number) }
-        ensures view { seat_view result ≡ self }
+        ensures view { seat_view self.turns result ≡ self }
     {
-        let Pass { seat, number: _ } = self;
+        let Pass {
+            seat,
+            number: _,
+            turns: _,
+        } = self;
         seat
     }
 }
 
 impl<V: Recorded> Drop for Pass<V> {
     fn drop(self) {
-        let Pass { seat: _, number: _ } = self;
+        let Pass {
+            seat: _,
+            number: _,
+            turns: _,
+        } = self;
     }
 }

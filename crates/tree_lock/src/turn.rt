@@ -2,6 +2,7 @@
 ghost use Rattle.std.specs.Prelude.{◌≡◌, ℕ, [], ◌∷◌, Some};
 ghost use Rattle.tree_lock.specs.Entries.{of_number, Appends};
 ghost use Rattle.tree_lock.specs.Knowledge.{after_turn};
+ghost use Rattle.tree_lock.specs.Seen.{one_more};
 ghost use Rattle.tree_lock.specs.Seats.{seat_view, IsPassAt, IsIdle, IsWaiting, IsHolding};
 ghost use Rattle.tree_lock.specs.Steps.{Takes};
 ghost use Rattle.tree_lock.specs.Turned.{Turned};
@@ -19,7 +20,9 @@ impl<V: Recorded> TreeLock<V> {
         ensures { Turned V.entries (J.done job) pass.old pass.new result }
     {
         let number = pass.number;
-        turn_at(rt, &self.table.shared, &mut pass.seat, number, job)
+        let out = turn_at(rt, &self.table.shared, &mut pass.seat, number, job);
+        pass.turns = pass.turns.saturating_add(1);
+        out
     }
 }
 
@@ -33,7 +36,7 @@ fn turn_at<V: Recorded, J: Job<V>, R: Wait>(
     requires idle { IsIdle shared.now.table_id seat.old }
     requires number { number ≡ seat.old.me.0.number }
     ensures idle { IsIdle shared.now.table_id seat.new }
-    ensures turned { Turned V.entries (J.done job) (seat_view seat.old) (seat_view seat.new) result }
+    ensures turned { (turns : ℕ) → Turned V.entries (J.done job) (seat_view turns seat.old) (seat_view (one_more turns) seat.new) result }
 {
     approach(rt, shared, seat);
     let ticket = draw(shared, seat);
@@ -48,7 +51,7 @@ fn turn_at<V: Recorded, J: Job<V>, R: Wait>(
 fn draw<V: Recorded>(shared: &LockShared<V>, seat: &mut LockSeat<V>) -> u64
     requires { IsIdle shared.now.table_id seat.old }
     ensures seat { IsWaiting shared.now.table_id seat.new result }
-    ensures same { seat_view seat.new ≡ seat_view seat.old }
+    ensures same { seat_view 0 seat.new ≡ seat_view 0 seat.old }
 {
     shared.fetch_add::<DrawStep>(seat, TICKETS, 1)
 }

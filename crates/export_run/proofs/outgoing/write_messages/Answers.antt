@@ -6,7 +6,6 @@ use Rattle.event_messages.specs.Messages.{Message}
 use Rattle.pcfs_session.specs.declared.outbox.SendFault.TheVariants.{Write}
 use Rattle.pcfs_session.proofs.StoredLemmas.{HasRisen-earlier}
 use Rattle.export_run.specs.Exported.{messages_of}
-use Rattle.export_run.specs.Outgoing.{FitsMessage}
 use Rattle.export_run.proofs.ExportLemmas.{AreGoingOut, AreGoingOut-more, all_sent, at_fault, cut_short_at, messages_more, part_sent}
 use Rattle.export_run.proofs.outgoing.write_messages.Goals as goal
 

@@ -1,6 +1,5 @@
 -- Its line is written, or some first part of it.
 use Rattle.std.proofs.Common.{arith}
-use Rattle.pcfs_ports.specs.Observable.{with_back}
 use Rattle.pcfs_session.proofs.OutboxLemmas.{with_back-nil}
 use Rattle.follow_run.proofs.taking.write_answer.Goals as goal
 

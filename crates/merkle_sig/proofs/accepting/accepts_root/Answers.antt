@@ -1,5 +1,4 @@
 use Rattle.std.proofs.Common.{sym, ◌∙◌, arith}
-use Rattle.merkle_sig.specs.Signature.{climb}
 use Rattle.merkle_sig.proofs.StepLemmas.{decides_by_root, reaches, refuses_leaf, refuses_length}
 use Rattle.merkle_sig.proofs.accepting.accepts_root.Goals as goal
 

@@ -1,4 +1,4 @@
-use Rattle.std.proofs.Common.{◌∙◌, true, arith}
+use Rattle.std.proofs.Common.{◌∙◌, arith}
 use Rattle.std.proofs.lemmas.Bool.{le-leb}
 use Rattle.merkle_sig.proofs.StepLemmas.{high_power, shift_tells}
 use Rattle.merkle_sig.proofs.accepting.is_below_power.Goals as goal

@@ -6,5 +6,5 @@ use Rattle.pcfs_run.proofs.laws.each_entry_has_its_line.Goals as goal
 
 pub returns : goal.returns
 returns g c = λ inputs nonces root first attended count added of.
-    merged_all (HasLine (sources_of (g.C.Clock.gives c.args.clock.now) g.I.Source.left inputs nonces) root (first ++ added)) _ added of.merged
-    (each_with_line (sources_of (g.C.Clock.gives c.args.clock.now) g.I.Source.left inputs nonces) root (first ++ added) attended of.passes of.own of.of_connections)
+    merged_all (HasLine (sources_of (g.C.TurnClock.gives c.args.clock.now) g.I.Source.left inputs nonces) root (first ++ added)) _ added of.merged
+    (each_with_line (sources_of (g.C.TurnClock.gives c.args.clock.now) g.I.Source.left inputs nonces) root (first ++ added) attended of.passes of.own of.of_connections)

@@ -5,5 +5,5 @@ use Rattle.pcfs_run.proofs.laws.empty_connections_add_nothing.Goals as goal
 
 pub returns : goal.returns
 returns g c = λ inputs nonces empty root first attended count added of.
-    merged_none _ added of.merged (all_without (sources_of (g.C.Clock.gives c.args.clock.now) g.I.Source.left (Some inputs) nonces)
+    merged_none _ added of.merged (all_without (sources_of (g.C.TurnClock.gives c.args.clock.now) g.I.Source.left (Some inputs) nonces)
     (λ number nonce lines says. none_said_of_empty g.I.Source.left inputs nonces number nonce lines empty says) root (first ++ added) attended of.passes of.of_connections)

@@ -6,5 +6,5 @@ use Rattle.pcfs_run.proofs.laws.healthy_runs_end_so.Goals as goal
 
 pub returns : goal.returns
 returns g c = λ inputs nonces secrets words before after status ends sound.
-    EndsHealthy-run secrets words (ports_at g.L.Listener.over before) (ports_at g.L.Listener.over after) sound (sources_of (g.C.Clock.gives c.args.clock.now) g.I.Source.left inputs nonces)
+    EndsHealthy-run secrets words (ports_at g.L.Listener.over before) (ports_at g.L.Listener.over after) sound (sources_of (g.C.TurnClock.gives c.args.clock.now) g.I.Source.left inputs nonces)
     (rests_between (IsPinned g.D.Disk.clock g.D.Disk.left_since g.D.Disk.image) before after) status ends

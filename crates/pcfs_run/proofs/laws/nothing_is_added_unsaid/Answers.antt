@@ -5,4 +5,4 @@ use Rattle.pcfs_run.proofs.laws.nothing_is_added_unsaid.Goals as goal
 
 pub returns : goal.returns
 returns g c = λ inputs nonces none_said root first attended count added of.
-    merged_none _ added of.merged (all_without (sources_of (g.C.Clock.gives c.args.clock.now) g.I.Source.left inputs nonces) none_said root (first ++ added) attended of.passes of.of_connections)
+    merged_none _ added of.merged (all_without (sources_of (g.C.TurnClock.gives c.args.clock.now) g.I.Source.left inputs nonces) none_said root (first ++ added) attended of.passes of.of_connections)

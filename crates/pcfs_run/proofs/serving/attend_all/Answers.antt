@@ -4,7 +4,7 @@ use denote.Exit.{no}
 use Rattle.pcfs_server.specs.Ends.{number_of}
 use Rattle.shared_store.specs.LockHistory.{lock_entries}
 use Rattle.session_service.specs.Connections.{AreOfConnections}
-use Rattle.pcfs_server.specs.Telling.{IsAt}
+use Rattle.pcfs_ports.specs.Telling.{IsAt}
 use Rattle.session_service.specs.Sessions.{sources_of, inputs_of, AreOfSeenSession}
 use denote.Param.Send.{param_send, param_sync, arg_send, arg_sync}
 use Rattle.session_service.proofs.service.SessionToken.TheSendSync as token
@@ -23,15 +23,15 @@ serve_conns-requires-sync-H g c κs lives = param_sync _ _ (arg_sync _ no _ (ser
 pub serve_conns-requires-clause-belongs : goal.serve_conns-requires-clause-belongs
 serve_conns-requires-clause-belongs g c κs within = (
   c.requires.lock,
-  nonce_first c.args.front.now.door.made (g.N.TellingNonces.coming c.args.service.now.nonces.value) (g.N.TellingNonces.coming c.args.front.now.nonces.now) c.requires.unmade (ap g.N.TellingNonces.coming c.requires.nonces),
+  nonce_first c.args.front.now.door.made (g.N.Nonces.coming c.args.service.now.nonces.value) (g.N.Nonces.coming c.args.front.now.nonces.now) c.requires.unmade (ap g.N.Nonces.coming c.requires.nonces),
   nobody_yet _ c.args.front.now.served c.args.front.now.door.retired c.requires.unserved c.requires.none,
 )
 
 pub serve_conns-requires-clause-expected : goal.serve_conns-requires-clause-expected
 serve_conns-requires-clause-expected g c κs within = λ place input output at.
     let number : c.args.front.now.door.made + place + 1 ≡ place + 1 = omega (arith, c.requires.unmade) in
-    input_of g.L.In.Source.left (g.L.TellingListener.queue c.args.service.now.net.value) place (c.args.front.now.door.made + place + 1) input output number
-    (subst (λ net. IsAt (g.L.TellingListener.queue net) place input output) (sym c.requires.net) at)
+    input_of g.L.In.Source.left (g.L.Listener.queue c.args.service.now.net.value) place (c.args.front.now.door.made + place + 1) input output number
+    (subst (λ net. IsAt (g.L.Listener.queue net) place input output) (sym c.requires.net) at)
 
 pub returns-clause-same_reference : goal.returns-clause-same_reference
 returns-clause-same_reference g c = ap (λ k. k.1) c.serve_conns.ensures.kept
@@ -47,10 +47,10 @@ returns-clause-attended g c = record { taken = c.serve_conns.ensures.taken; caus
 
 pub returns-clause-of_connections : goal.returns-clause-of_connections
 returns-clause-of_connections g c =
-    let gives = g.C.Clock.gives c.args.service.now.clock.now in
+    let gives = g.C.TurnClock.gives c.args.service.now.clock.now in
     let left = g.L.In.Source.left in
     let all : c.serve_conns.new.door.served ≡ number_of c.serve_conns.result = omega (arith, c.serve_conns.ensures.served, c.requires.unserved) in
-    subst (λ (n : ℕ). AreOfConnections (AreOfSeenSession (sources_of gives left (inputs_of left (g.L.TellingListener.queue c.args.net.now)) (g.N.TellingNonces.coming c.args.front.now.nonces.now)) c.serve_conns.new.door.door.seen) n c.serve_conns.new.door.door.retired) all
-    (subst (λ net. AreOfConnections (AreOfSeenSession (sources_of gives left (inputs_of left (g.L.TellingListener.queue net)) (g.N.TellingNonces.coming c.args.front.now.nonces.now)) c.serve_conns.new.door.door.seen) c.serve_conns.new.door.served c.serve_conns.new.door.door.retired) c.requires.net
-    (subst (λ nonces. AreOfConnections (AreOfSeenSession (sources_of gives left (inputs_of left (g.L.TellingListener.queue c.args.service.now.net.value)) (g.N.TellingNonces.coming nonces)) c.serve_conns.new.door.door.seen) c.serve_conns.new.door.served c.serve_conns.new.door.door.retired) c.requires.nonces
+    subst (λ (n : ℕ). AreOfConnections (AreOfSeenSession (sources_of gives left (inputs_of left (g.L.Listener.queue c.args.net.now)) (g.N.Nonces.coming c.args.front.now.nonces.now)) c.serve_conns.new.door.door.seen) n c.serve_conns.new.door.door.retired) all
+    (subst (λ net. AreOfConnections (AreOfSeenSession (sources_of gives left (inputs_of left (g.L.Listener.queue net)) (g.N.Nonces.coming c.args.front.now.nonces.now)) c.serve_conns.new.door.door.seen) c.serve_conns.new.door.served c.serve_conns.new.door.door.retired) c.requires.net
+    (subst (λ nonces. AreOfConnections (AreOfSeenSession (sources_of gives left (inputs_of left (g.L.Listener.queue c.args.service.now.net.value)) (g.N.Nonces.coming nonces)) c.serve_conns.new.door.door.seen) c.serve_conns.new.door.served c.serve_conns.new.door.door.retired) c.requires.nonces
     c.serve_conns.ensures.belongs.2))

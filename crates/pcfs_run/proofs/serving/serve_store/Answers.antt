@@ -12,14 +12,14 @@ use Rattle.pcfs_run.proofs.serving.serve_store.Goals as goal
 
 pub returns-in-Ok-clause-grown : goal.returns-in-Ok-clause-grown
 returns-in-Ok-clause-grown g c =
-    subst (λ (s : StoreView _). IsGrown (sources_of (g.C.Clock.gives c.args.clock.now) g.L.In.Source.left (inputs_of g.L.In.Source.left (g.L.TellingListener.queue c.args.net.now)) (g.N.TellingNonces.coming c.args.nonces.now)) (number_of c.serve_under-end.result.0) c.args.count c.args.store s) (sym c.into_store.ensures.same)
+    subst (λ (s : StoreView _). IsGrown (sources_of (g.C.TurnClock.gives c.args.clock.now) g.L.In.Source.left (inputs_of g.L.In.Source.left (g.L.Listener.queue c.args.net.now)) (g.N.Nonces.coming c.args.nonces.now)) (number_of c.serve_under-end.result.0) c.args.count c.args.store s) (sym c.into_store.ensures.same)
     (IsGrown-closed _ (record { store = c.args.store; opening = c.args.store }) c.close-closed.result c.serve_under-end.result.1 (number_of c.serve_under-end.result.0) c.args.count refl
     (c.serve_under-end.ensures.opening ∙ ap (λ d. d.opening) c.in-Ok.ensures.ok ∙ ap lock_entries c.new-opened.ensures.opened)
     c.close-closed.ensures c.serve_under-end.ensures.of_connections c.serve_under-end.ensures.every c.serve_under-end.ensures.made)
 
 pub returns-in-Err-clause-grown : goal.returns-in-Err-clause-grown
 returns-in-Err-clause-grown g c =
-    subst (λ (s : StoreView _). IsGrown (sources_of (g.C.Clock.gives c.args.clock.now) g.L.In.Source.left (inputs_of g.L.In.Source.left (g.L.TellingListener.queue c.args.net.now)) (g.N.TellingNonces.coming c.args.nonces.now)) 0 c.args.count c.args.store s) (sym (c.into_store-in-Err.ensures.same ∙ ap (λ (o : OpenedView _). o.store) (c.in-Err.ensures.err ∙ c.new-opened.ensures.opened)))
+    subst (λ (s : StoreView _). IsGrown (sources_of (g.C.TurnClock.gives c.args.clock.now) g.L.In.Source.left (inputs_of g.L.In.Source.left (g.L.Listener.queue c.args.net.now)) (g.N.Nonces.coming c.args.nonces.now)) 0 c.args.count c.args.store s) (sym (c.into_store-in-Err.ensures.same ∙ ap (λ (o : OpenedView _). o.store) (c.in-Err.ensures.err ∙ c.new-opened.ensures.opened)))
     (IsGrown-none _ c.args.store c.args.count)
 
 pub returns-in-Err-clause-attended : goal.returns-in-Err-clause-attended

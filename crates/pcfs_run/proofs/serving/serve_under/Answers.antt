@@ -7,5 +7,5 @@ use Rattle.pcfs_run.proofs.serving.serve_under.Goals as goal
 
 pub returns-clause-of_connections : goal.returns-clause-of_connections
 returns-clause-of_connections g c =
-    subst (λ clock. AreOfConnections (AreOfSeenSession (sources_of (g.C.Clock.gives clock) g.L.In.Source.left (inputs_of g.L.In.Source.left (g.L.TellingListener.queue c.args.net.now)) (g.N.TellingNonces.coming c.args.nonces.now)) c.attend_all-end.new.front.door.seen) (number_of c.attend_all-end.result) c.attend_all-end.new.front.door.retired)
+    subst (λ clock. AreOfConnections (AreOfSeenSession (sources_of (g.C.TurnClock.gives clock) g.L.In.Source.left (inputs_of g.L.In.Source.left (g.L.Listener.queue c.args.net.now)) (g.N.Nonces.coming c.args.nonces.now)) c.attend_all-end.new.front.door.seen) (number_of c.attend_all-end.result) c.attend_all-end.new.front.door.retired)
     c.new-service.ensures.clock c.attend_all-end.ensures.of_connections

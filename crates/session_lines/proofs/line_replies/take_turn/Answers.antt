@@ -10,12 +10,12 @@ use Rattle.session_lines.proofs.line_replies.take_turn.Goals as goal
 pub reply_of-requires : goal.reply_of-requires
 reply_of-requires g c =
     let a = c.ask-found.ensures.asked in
-    tellable (g.C.Clock.gives c.args.clock.now) _ a.found _ c.ask-found.result a.given (subst IsSingle (sym c.new.ensures) c.requires.single) a.turn
+    tellable (g.C.TurnClock.gives c.args.clock.now) _ a.found _ c.ask-found.result a.given (subst IsSingle (sym c.new.ensures) c.requires.single) a.turn
 
 pub returns-clause-told : goal.returns-clause-told
 returns-clause-told g c = record {
   replied = c.ask-found.result;
-  asked = subst (λ (r : TurnRequest). HasAsked (g.C.Clock.gives c.args.clock.now) r c.args.pass.now c.ask-found.new.pass c.ask-found.result) c.new.ensures c.ask-found.ensures.asked;
+  asked = subst (λ (r : TurnRequest). HasAsked (g.C.TurnClock.gives c.args.clock.now) r c.args.pass.now c.ask-found.new.pass c.ask-found.result) c.new.ensures c.ask-found.ensures.asked;
   says = c.reply_of.ensures;
 }
 

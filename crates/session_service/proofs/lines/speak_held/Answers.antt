@@ -8,15 +8,16 @@ use Rattle.session_service.proofs.lines.speak_held.Goals as goal
 
 pub loop-line-init : goal.loop-line-init
 loop-line-init g c = record {
-  so_far = IsSpeaking-start g.D.Disk.faults (g.C.Clock.gives c.args.clock.now) c.args.nonce.now _ _ _ _;
+  so_far = IsSpeaking-start g.D.Disk.faults (g.C.TurnClock.gives c.args.clock.now) c.args.nonce.now _ _ _ _;
   same_lock = c.requires;
   long_stays = refl;
+  steady = refl;
   never_falls = omega arith;
 }
 
 pub returns-in-Err-clause-cut : goal.returns-in-Err-clause-cut
 returns-in-Err-clause-cut g c =
-    IsCutWithin-at g.D.Disk.faults (g.C.Clock.gives c.args.clock.now) c.args.nonce.now _ _ _ _ _ _ _ _ _ _ c.in-Some.ensures.line.0 _ _ c.loop-line.invariant.so_far c.in-Some.ensures.line.1 c.in-Some.ensures.few c.in-Err.ensures.cut
+    IsCutWithin-at g.D.Disk.faults (g.C.TurnClock.gives c.args.clock.now) c.args.nonce.now _ _ _ _ _ _ _ _ _ _ c.in-Some.ensures.line.0 _ _ c.loop-line.invariant.so_far c.in-Some.ensures.line.1 c.in-Some.ensures.few c.in-Err.ensures.cut
 
 pub returns-in-Err-clause-risen : goal.returns-in-Err-clause-risen
 returns-in-Err-clause-risen g c is = HasRisen-earlier _ _ _ c.loop-line.invariant.never_falls (c.in-Err.ensures.risen is)
@@ -29,11 +30,15 @@ loop-line-preserved g c =
     let next = c.take_line.ensures.taken _ _ c.in-Some.ensures.line.1 in
     record {
       so_far =
-          IsSpeaking-taken g.D.Disk.faults (g.C.Clock.gives c.args.clock.now) c.args.nonce.now _ _ _ _ _ _ _ _ _ _ _ c.in-Some.ensures.line.0 _ _ c.loop-line.invariant.so_far c.in-Some.ensures.line.1 c.in-Some.ensures.few next c.in-Ok.ensures.ok;
+          IsSpeaking-taken g.D.Disk.faults (g.C.TurnClock.gives c.args.clock.now) c.args.nonce.now _ _ _ _ _ _ _ _ _ _ _ c.in-Some.ensures.line.0 _ _ c.loop-line.invariant.so_far c.in-Some.ensures.line.1 c.in-Some.ensures.few next c.in-Ok.ensures.ok;
       same_lock = c.in-Ok.ensures.same_lock;
       long_stays = ap (λ (f : FramerState). f.is_long) next ∙ c.loop-line.invariant.long_stays;
+      steady = c.in-Ok.ensures.steady ∙ c.loop-line.invariant.steady;
       never_falls = omega (arith, c.in-Ok.ensures.never_falls);
     }
 
 pub returns-clause-ok : goal.returns-clause-ok
-returns-clause-ok g c = SpeaksHeld-all g.D.Disk.faults (g.C.Clock.gives c.args.clock.now) c.args.nonce.now _ _ _ _ _ _ _ _ c.loop-line.invariant.so_far c.in_default.ensures.line
+returns-clause-ok g c = SpeaksHeld-all g.D.Disk.faults (g.C.TurnClock.gives c.args.clock.now) c.args.nonce.now _ _ _ _ _ _ _ _ c.loop-line.invariant.so_far c.in_default.ensures.line
+
+pub returns-in-Err-clause-steady_unsent : goal.returns-in-Err-clause-steady_unsent
+returns-in-Err-clause-steady_unsent g c is = c.in-Err.ensures.steady_unsent is ∙ c.loop-line.invariant.steady

@@ -1,5 +1,6 @@
 -- The lines that came with their ends are answered, piece by piece.
 use Rattle.std.proofs.Common.{◌≡◌, ◌≤◌, length, take, Err, ap, ◌∙◌, refl, arith}
+use Rattle.session_service.proofs.StillLemmas.{NothingFailedBefore-then}
 use Rattle.line_framer.specs.Framing.{FramerState}
 use Rattle.pcfs_session.proofs.StoredLemmas.{HasRisen-earlier}
 use Rattle.pcfs_session.proofs.TakenLemmas.{nothing_taken, IsShown-front, taken_shown, room_stays}
@@ -8,21 +9,23 @@ use Rattle.session_service.proofs.session.speak_pieces.Goals as goal
 
 pub loop-taken-init : goal.loop-taken-init
 loop-taken-init g c = record {
-  reading = IsReading-start g.D.Disk.faults (g.C.Clock.gives c.args.clock.now) c.args.nonce.now _ _ _ (ap (λ (f : FramerState). f.left) c.new-framer.ensures);
+  reading = IsReading-start g.D.Disk.faults (g.C.TurnClock.gives c.args.clock.now) c.args.nonce.now _ _ _ (ap (λ (f : FramerState). f.left) c.new-framer.ensures);
   same_lock = c.requires;
   not_long = ap (λ (f : FramerState). f.is_long) c.new-framer.ensures;
   within = omega arith;
   room = c.in-Ok.ensures;
+  read_steady = refl;
+  write_steady = refl;
   read_never_falls = omega arith;
   write_never_falls = omega arith;
 }
 
 pub returns-in-Err-clause-ends : goal.returns-in-Err-clause-ends
-returns-in-Err-clause-ends g c = GoesOnToEnd-unbegun g.D.Disk.faults (g.C.Clock.gives c.args.clock.now) c.args.nonce.now _ _ _ refl refl
+returns-in-Err-clause-ends g c = GoesOnToEnd-unbegun g.D.Disk.faults (g.C.TurnClock.gives c.args.clock.now) c.args.nonce.now _ _ _ refl refl
 
 pub returns-in-Err-read_piece-clause-ends : goal.returns-in-Err-read_piece-clause-ends
 returns-in-Err-read_piece-clause-ends g c =
-    GoesOnToEnd-read_fault g.D.Disk.faults (g.C.Clock.gives c.args.clock.now) c.args.nonce.now _ _ _ _ _ _ _ _ c.loop-taken.invariant.reading c.in-Err-read_piece.ensures.err
+    GoesOnToEnd-read_fault g.D.Disk.faults (g.C.TurnClock.gives c.args.clock.now) c.args.nonce.now _ _ _ _ _ _ _ _ c.loop-taken.invariant.reading c.in-Err-read_piece.ensures.err
     (HasRisen-earlier _ _ _ c.loop-taken.invariant.read_never_falls c.in-Err-read_piece.ensures.risen)
 
 pub speak_last-requires-clause-one : goal.speak_last-requires-clause-one
@@ -30,7 +33,7 @@ speak_last-requires-clause-one g c = c.loop-taken.invariant.reading.is_open.one
 
 pub returns-then-count-eq0-clause-ends : goal.returns-then-count-eq0-clause-ends
 returns-then-count-eq0-clause-ends g c =
-    GoesOnToEnd-last g.D.Disk.faults (g.C.Clock.gives c.args.clock.now) c.args.nonce.now _ _ _ _ _ _ _ _ _ _ _ c.loop-taken.invariant.reading _
+    GoesOnToEnd-last g.D.Disk.faults (g.C.TurnClock.gives c.args.clock.now) c.args.nonce.now _ _ _ _ _ _ _ _ _ _ _ c.loop-taken.invariant.reading _
     (nothing_taken _ _ _ _ c.if-count-eq0.true c.in-Ok-read_piece.ensures.taken) (c.in-Ok-read_piece.ensures.end c.if-count-eq0.true)
     (λ is. HasRisen-earlier _ _ _ c.loop-taken.invariant.write_never_falls (c.speak_last.ensures.risen is)) c.speak_last.ensures.ends
 
@@ -39,7 +42,7 @@ returns-in-Err-speak_piece-clause-ends g c =
     let fits : length c.read_piece.new.piece ≤ c.loop-taken.piece.len = omega (arith, c.loop-taken.piece.ok.0, c.deref_mut.ensures.len, c.read_piece.auto.piece) in
     let shown = IsShown-front c.in-Ok-read_piece.count c.loop-taken.piece.len c.read_piece.new.piece c.loop-taken.piece.items c.deref.result.now c.deref.ensures.value c.in-Ok-read_piece.ensures.bound fits in
     let small : length (take c.in-Ok-read_piece.count c.deref.result.now) ≤ 65536 = omega (arith, shown.len, c.in-Ok-read_piece.ensures.bound, fits, c.loop-taken.piece.ok.0, c.loop-taken.invariant.room) in
-    GoesOnToEnd-piece g.D.Disk.faults (g.C.Clock.gives c.args.clock.now) c.args.nonce.now _ _ _ _ _ _ _ _ _ _ _ _ c.loop-taken.invariant.reading _ (taken_shown _ _ _ _ _ shown c.in-Ok-read_piece.ensures.taken) small
+    GoesOnToEnd-piece g.D.Disk.faults (g.C.TurnClock.gives c.args.clock.now) c.args.nonce.now _ _ _ _ _ _ _ _ _ _ _ _ c.loop-taken.invariant.reading _ (taken_shown _ _ _ _ _ shown c.in-Ok-read_piece.ensures.taken) small
     (λ is. HasRisen-earlier _ _ _ c.loop-taken.invariant.write_never_falls (c.in-Err-speak_piece.ensures.risen (ap Err is))) c.in-Err-speak_piece.ensures.ends
 
 pub loop-taken-preserved : goal.loop-taken-preserved
@@ -49,12 +52,14 @@ loop-taken-preserved g c =
     let shown = IsShown-front c.in-Ok-read_piece.count c.loop-taken.piece.len c.read_piece.new.piece c.loop-taken.piece.items c.deref.result.now c.deref.ensures.value c.in-Ok-read_piece.ensures.bound fits in
     record {
       reading =
-          IsReading-more g.D.Disk.faults (g.C.Clock.gives c.args.clock.now) c.args.nonce.now _ _ _ _ _ _ _ _ _ _ _ _ _ _ _ c.loop-taken.invariant.reading (taken_shown _ _ _ _ _ shown c.in-Ok-read_piece.ensures.taken) shown.len
+          IsReading-more g.D.Disk.faults (g.C.TurnClock.gives c.args.clock.now) c.args.nonce.now _ _ _ _ _ _ _ _ _ _ _ _ _ _ _ c.loop-taken.invariant.reading (taken_shown _ _ _ _ _ shown c.in-Ok-read_piece.ensures.taken) shown.len
           c.in-Ok-speak_piece.ensures.ok c.in-Ok-speak_piece.ensures.few;
       same_lock = c.in-Ok-speak_piece.ensures.same_lock;
       not_long = c.in-Ok-speak_piece.ensures.stays_so;
       within = omega (arith, c.in-Ok-read_piece.ensures.few);
       room = room_stays c.loop-taken.piece.len c.read_piece.new.piece c.loop-taken.piece.items same c.loop-taken.piece.ok.0 ∙ c.loop-taken.invariant.room;
+      read_steady = c.in-Ok-read_piece.ensures.steady ∙ c.loop-taken.invariant.read_steady;
+      write_steady = c.in-Ok-speak_piece.ensures.steady ∙ c.loop-taken.invariant.write_steady;
       read_never_falls = omega (arith, c.in-Ok-read_piece.ensures.never_falls);
       write_never_falls = omega (arith, c.in-Ok-speak_piece.ensures.never_falls);
     }
@@ -62,4 +67,21 @@ loop-taken-preserved g c =
 pub returns-clause-ends : goal.returns-clause-ends
 returns-clause-ends g c =
     let all : c.loop-taken.taken ≡ 1073741824 = omega arith in
-    GoesOnToEnd-too_long g.D.Disk.faults (g.C.Clock.gives c.args.clock.now) c.args.nonce.now _ _ _ _ _ _ _ c.loop-taken.invariant.reading all
+    GoesOnToEnd-too_long g.D.Disk.faults (g.C.TurnClock.gives c.args.clock.now) c.args.nonce.now _ _ _ _ _ _ _ c.loop-taken.invariant.reading all
+
+pub returns-in-Err-clause-steady : goal.returns-in-Err-clause-steady
+returns-in-Err-clause-steady g c = record { input = refl; output = refl }
+
+pub returns-in-Err-read_piece-clause-steady : goal.returns-in-Err-read_piece-clause-steady
+returns-in-Err-read_piece-clause-steady g c = record { input = tt; output = c.loop-taken.invariant.write_steady }
+
+pub returns-then-count-eq0-clause-steady : goal.returns-then-count-eq0-clause-steady
+returns-then-count-eq0-clause-steady g c =
+    NothingFailedBefore-then _ _ _ _ (c.in-Ok-read_piece.ensures.steady ∙ c.loop-taken.invariant.read_steady) c.loop-taken.invariant.write_steady c.speak_last.ensures.steady
+
+pub returns-in-Err-speak_piece-clause-steady : goal.returns-in-Err-speak_piece-clause-steady
+returns-in-Err-speak_piece-clause-steady g c =
+    NothingFailedBefore-then _ _ _ _ (c.in-Ok-read_piece.ensures.steady ∙ c.loop-taken.invariant.read_steady) c.loop-taken.invariant.write_steady c.in-Err-speak_piece.ensures.steady_end
+
+pub returns-clause-steady : goal.returns-clause-steady
+returns-clause-steady g c = record { input = c.loop-taken.invariant.read_steady; output = c.loop-taken.invariant.write_steady }

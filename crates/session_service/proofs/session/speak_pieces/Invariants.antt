@@ -4,11 +4,13 @@ use Rattle.session_service.proofs.session.speak_pieces.Given as goal
 
 abbrev pub invariant-loop-taken : goal.invariant-loop-taken
 invariant-loop-taken g l = record {
-  reading : IsReading g.D.Disk.faults (g.C.Clock.gives l.clock) l.nonce l.fn.pass (record { left = g.I.Source.left l.fn.input; read_faults = g.I.Source.faults l.fn.input; held = g.O.Sink.held l.fn.output; write_faults = g.O.Sink.faults l.fn.output }) l.pass l.caller l.framer.left (g.I.Source.left l.input) (g.O.Sink.held l.output) l.taken;
+  reading : IsReading g.D.Disk.faults (g.C.TurnClock.gives l.clock) l.nonce l.fn.pass (record { left = g.I.Source.left l.fn.input; read_faults = g.I.Source.faults l.fn.input; held = g.O.Sink.held l.fn.output; write_faults = g.O.Sink.faults l.fn.output }) l.pass l.caller l.framer.left (g.I.Source.left l.input) (g.O.Sink.held l.output) l.taken;
   same_lock : l.pass.lock ≡ l.lock;
   not_long : l.framer.is_long ≡ false;
   within : l.taken ≤ 1073741824;
   room : length l.piece.items ≡ 65536;
+  read_steady : g.I.Source.faults l.input ≡ g.I.Source.faults l.fn.input;
+  write_steady : g.O.Sink.faults l.output ≡ g.O.Sink.faults l.fn.output;
   read_never_falls : g.I.Source.faults l.fn.input ≤ g.I.Source.faults l.input;
   write_never_falls : g.O.Sink.faults l.fn.output ≤ g.O.Sink.faults l.output;
 }

@@ -8,8 +8,8 @@ use Rattle.session_service.proofs.service.SessionServiceOpenedStoreServiceInOut.
 pub returns-clause-belongs : goal.returns-clause-belongs
 returns-clause-belongs g c =
     let service = c.args.self.now in
-    let nonces = g.N.TellingNonces.coming service.nonces.value in
-    let sources = sources_of (g.C.Clock.gives service.clock.now) g.L.In.Source.left (inputs_of g.L.In.Source.left (g.L.TellingListener.queue service.net.value)) nonces in
+    let nonces = g.N.Nonces.coming service.nonces.value in
+    let sources = sources_of (g.C.TurnClock.gives service.clock.now) g.L.In.Source.left (inputs_of g.L.In.Source.left (g.L.Listener.queue service.net.value)) nonces in
     let before : Streams = record { left = g.L.In.Source.left c.args.input.now; read_faults = g.L.In.Source.faults c.args.input.now; held = g.L.Out.Sink.held c.args.output.now; write_faults = g.L.Out.Sink.faults c.args.output.now } in (
       c.serve_session.ensures.same_lock,
       subst (λ (n : ℕ). IsNonceOf nonces n c.args.token.now.nonce) (sym (number_ended g.D.Disk.faults sources c.args.token.now.nonce c.args.token.now.pass _ before _ _ c.serve_session.ensures.ends)) c.requires.belongs.1,
@@ -22,4 +22,4 @@ returns-clause-belongs g c =
     )
 
 pub returns-clause-session : goal.returns-clause-session
-returns-clause-session g c = (c.serve_session.result, c.serve_session.ensures.ends)
+returns-clause-session g c = (c.serve_session.result, c.serve_session.ensures.ends, c.serve_session.ensures.steady)

@@ -19,4 +19,4 @@ returns-in-Login g c = turned_by_look g.D.Disk.faults c.args.self.now c.args.pas
 
 pub returns-in-Checkpoint : goal.returns-in-Checkpoint
 returns-in-Checkpoint g c =
-    subst (λ (r : TurnRequest). HasTurned g.D.Disk.faults (λ moment. moment ≡ c.args.clock) r c.args.self.now c.args.pass c.checkpoint.new.self c.checkpoint.result) c.in-Checkpoint.ensures.same (c.checkpoint.ensures c.args.clock)
+    subst (λ (r : TurnRequest). HasTurned g.D.Disk.faults (λ _ moment. moment ≡ c.args.clock) r c.args.self.now c.args.pass c.checkpoint.new.self c.checkpoint.result) c.in-Checkpoint.ensures.same (c.checkpoint.ensures c.args.clock)

@@ -27,6 +27,6 @@ invariant_of-self g c =
 
 pub returns : goal.returns
 returns g c = λ clock.
-    subst (λ (s : OpenedView _). HasTurned g.D.Disk.faults (λ moment. moment ≡ clock) Checkpoint s c.args.pass (record { store = c.checkpoint-reply.new.self; opening = c.self.inside.opening.value }) c.reply_of_checkpoint.result) c.self.view_is
+    subst (λ (s : OpenedView _). HasTurned g.D.Disk.faults (λ _ moment. moment ≡ clock) Checkpoint s c.args.pass (record { store = c.checkpoint-reply.new.self; opening = c.self.inside.opening.value }) c.reply_of_checkpoint.result) c.self.view_is
     (turned_by_checkpoint g.D.Disk.clock g.D.Disk.left_since g.D.Disk.image g.D.Disk.faults c.self.inside.opening.value c.self.inside.store c.checkpoint-reply.new.self c.args.pass clock c.checkpoint-reply.result c.reply_of_checkpoint.result c.self.invariant c.lemma_is_store.ensures
     c.checkpoint-reply.ensures.answer c.reply_of_checkpoint.ensures)

@@ -29,6 +29,6 @@ invariant_of-self g c =
 
 pub returns : goal.returns
 returns g c =
-    subst (λ (s : OpenedView _). HasTurned g.D.Disk.faults (λ moment. moment ≡ c.args.clock) (Step c.args.request) s c.args.pass (record { store = c.step-reply.new.self; opening = c.self.inside.opening.value }) c.reply_of.result) c.self.view_is
+    subst (λ (s : OpenedView _). HasTurned g.D.Disk.faults (λ _ moment. moment ≡ c.args.clock) (Step c.args.request) s c.args.pass (record { store = c.step-reply.new.self; opening = c.self.inside.opening.value }) c.reply_of.result) c.self.view_is
     (turned_by_step g.D.Disk.clock g.D.Disk.left_since g.D.Disk.image g.D.Disk.faults c.self.inside.opening.value c.self.inside.store c.step-reply.new.self c.args.pass c.args.clock c.args.request c.step-reply.result c.reply_of.result c.self.invariant c.lemma_is_store.ensures
     (subst (λ (m : ℤ). Steps g.D.Disk.faults c.self.inside.store c.args.pass m c.args.request c.step-reply.result c.step-reply.new.self) (to_z-of_z w64 c.args.clock (SFits-moment c.args.clock c.requires.in_range)) c.step-reply.ensures.answer) c.reply_of.ensures)

@@ -1,5 +1,7 @@
 -- The turn is taken at the moment that the clock shows.
-use Rattle.std.proofs.Common.{refl}
+use Rattle.std.proofs.Common.{refl, subst}
+use Rattle.pcfs_store.specs.StoreView.{StoreView}
+use Rattle.pcfs_store.specs.Entries.{entries_of}
 use Rattle.std.proofs.lemmas.Int.{to_z-of_z}
 use Rattle.std.specs.Int.{w64}
 use Rattle.access_history.proofs.HistoryLemmas.{SFits-moment}
@@ -10,7 +12,7 @@ use Rattle.shared_store.proofs.turn.StoreTurnJobOpenedStore.work.Goals as goal
 pub returns-clause-done : goal.returns-clause-done
 returns-clause-done g c = record {
   turned =
-      turned_shown g.D.Disk.faults (g.C.Clock.gives c.args.self.clock.now) c.args.self.request c.args.value.now c.answer-reply.new.self c.args.pass c.now-moment.result c.answer-reply.result c.now-moment.ensures.given
+      turned_shown g.D.Disk.faults (g.C.TurnClock.gives c.args.self.clock.now) c.args.self.request c.args.value.now c.answer-reply.new.self c.args.pass c.now-moment.result c.answer-reply.result (subst (λ (s : StoreView _). g.C.TurnClock.gives c.args.self.clock.now (entries_of s) c.now-moment.result) c.store.ensures c.now-moment.ensures.given)
       (turned_by_request g.D.Disk.faults c.args.value.now c.answer-reply.new.self c.args.pass _ c.now-moment.result c.args.self.request c.args.self.request c.answer-reply.result (to_z-of_z w64 c.now-moment.result (SFits-moment c.now-moment.result c.now-moment.ensures.in_range)) refl c.answer-reply.ensures);
   failed = c.lemma_has_gone_on.ensures.failed;
 }

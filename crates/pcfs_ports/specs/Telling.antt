@@ -1,5 +1,5 @@
 -- What listeners and nonces tell of what they are to give. This project's own.
-use Rattle.std.specs.Prelude.{◌≡◌, ℕ, ◌*◌, List, take, drop, Option, Some, IfSome, slice_get, Bool, true, false}
+use Rattle.std.specs.Prelude.{◌≡◌, ℕ, ◌*◌, List, [], take, drop, Option, Some, IfSome, slice_get, Bool, true, false}
 use Rattle.std.specs.Option.{option_map}
 use Rattle.pcfs_ports.specs.declared.accepted.Accepted.{Accepted}
 use Rattle.pcfs_ports.specs.declared.accepted.Accepted.TheVariants.{Conn, Closed, Failed, NoMemory}
@@ -18,6 +18,10 @@ IsAt told place input output = IfSome told (λ queue. slice_get queue place ≡ 
 -- so many were taken of the front, if they are told; and they are told now if they were told before
 abbrev pub AreTakenOff : {A : Type 0} → ℕ → Option (List A) → Option (List A) → Type 0
 AreTakenOff count old new = new ≡ option_map (drop count) old
+
+-- none is left, if they are told
+abbrev pub AreAllGiven : {A : Type 0} → Option (List A) → Type 0
+AreAllGiven told = IfSome told (λ queue. queue ≡ [])
 
 -- how many bytes a call takes that gives a nonce, or none
 abbrev pub bytes_taken : Bool → ℕ

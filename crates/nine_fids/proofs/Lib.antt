@@ -1,0 +1,5 @@
+pub mod ControlLemmas
+pub mod FidLemmas
+pub mod LawLemmas
+pub mod NonceLemmas
+pub mod TakingLemmas

@@ -1,0 +1,13 @@
+pub mod Control
+pub mod Errors
+pub mod Fids
+pub mod Files
+pub mod Index
+pub mod Laws
+pub mod Nonce
+pub mod Purse
+pub mod States
+pub mod Steps
+pub mod Taking
+pub mod Tests
+pub mod Walks

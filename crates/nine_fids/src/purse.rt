@@ -1,0 +1,123 @@
+//! Procaps that a client brought.
+
+ghost use Rattle.std.specs.Prelude.{◌≡◌, ◌<◌, [], ◌∷◌, ◌++◌, length, nat_le, is_some, IfOk, OnOk, OnErr};
+ghost use Rattle.nine_fids.specs.Purse.{is_fitting, fitting};
+
+use bl_syntax::{NoMemory, NodeId, Perm, Principal, Sequence};
+use procap::Procap;
+use std::alloc::Global;
+use std::marker::Model;
+
+/// The greatest number of procaps.
+const MOST_PROCAPS: usize = 64;
+
+/// At most 64 procaps. Contracts see them in the order in which they came.
+#[derive(Debug, Drop)]
+pub struct Purse {
+    procaps: Sequence<Procap>,
+}
+
+impl Model for Purse {
+    ghost use Rattle.std.specs.Prelude.{◌≤◌, List, length};
+    ghost use Rattle.procap.specs.declared.procap.Procap.{Procap};
+
+    ghost Value = { List Procap };
+
+    ghost view = { λ p. p.procaps };
+
+    ghost invariant = { λ p. length p.procaps ≤ 64 };
+}
+
+// Whether the procap names the principal, the file and the permission.
+fn is_fitting(who: &Principal, node: NodeId, permission: Perm, p: &Procap) -> bool
+    ensures { result ≡ is_fitting who.now node permission p.now }
+{
+    let goal = p.grant.goal();
+    goal.file.0 == node.0 && goal.perm == permission && goal.who == *who
+}
+
+fn has_fitting(procaps: &[Procap], who: &Principal, node: NodeId, permission: Perm) -> bool
+    ensures { result ≡ is_some (fitting procaps.now who.now node permission) }
+{
+    match procaps {
+        [] => false,
+        [first, others @ ..] => {
+            is_fitting(who, node, permission, first) || has_fitting(others, who, node, permission)
+        }
+    }
+}
+
+fn copy_fitting(
+    alloc: Global,
+    procaps: &[Procap],
+    who: &Principal,
+    node: NodeId,
+    permission: Perm,
+) -> Result<Option<Procap>, NoMemory>
+    ensures { IfOk result (λ p. p ≡ fitting procaps.now who.now node permission) }
+{
+    match procaps {
+        [] => Ok(None),
+        [first, others @ ..] => {
+            if is_fitting(who, node, permission, first) {
+                Ok(Some(first.copy(alloc)?))
+            } else {
+                copy_fitting(alloc, others, who, node, permission)
+            }
+        }
+    }
+}
+
+impl Purse {
+    /// No procaps. It takes no memory.
+    pub fn new(alloc: Global) -> Purse
+        ensures { result ≡ [] }
+    {
+        Purse {
+            procaps: Sequence::new(alloc),
+        }
+    }
+
+    /// Whether there is no room for another procap.
+    pub fn is_full(&self) -> bool
+        ensures { result ≡ nat_le 64 (length self.now) }
+    {
+        MOST_PROCAPS <= self.procaps.len()
+    }
+
+    /// Adds a procap after the others.
+    pub fn push(&mut self, p: Procap) -> Result<(), NoMemory>
+        requires { length self.old < 64 }
+        ensures ok { OnOk result (self.new ≡ self.old ++ p ∷ []) }
+        ensures err { OnErr result (self.new ≡ self.old) }
+    {
+        self.procaps.push(p)
+    }
+
+    /// Drops all procaps.
+    pub fn clear(&mut self)
+        ensures { self.new ≡ [] }
+    {
+        self.procaps.clear();
+    }
+
+    /// Whether a procap names the principal, the file and the permission.
+    pub fn has_fitting(&self, who: &Principal, node: NodeId, permission: Perm) -> bool
+        ensures { result ≡ is_some (fitting self.now who.now node permission) }
+    {
+        has_fitting(self.procaps.as_slice(), who, node, permission)
+    }
+
+    /// The first procap that names the principal, the file and the permission, copied.
+    pub fn fitting(
+        &self,
+        alloc: Global,
+        who: &Principal,
+        node: NodeId,
+        permission: Perm,
+    ) -> Result<Option<Procap>, NoMemory>
+        ensures { IfOk result (λ p. p ≡ fitting self.now who.now node permission) }
+    {
+        copy_fitting(alloc, self.procaps.as_slice(), who, node, permission)
+    }
+}
