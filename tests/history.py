@@ -20,7 +20,7 @@ from datetime import datetime, timedelta
 from pathlib import Path
 
 HERE = Path(__file__).resolve().parent
-sys.path[:0] = [str(HERE / "model"), str(HERE / "hostile"), str(HERE.parent / "examples")]
+sys.path[:0] = [str(HERE / "model"), str(HERE / "hostile"), str(HERE.parent / "client")]
 import pcfs_model as model
 import switches
 from areas import fresh

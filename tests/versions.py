@@ -31,7 +31,7 @@ from itertools import islice
 from pathlib import Path
 
 TESTS = Path(__file__).resolve().parent
-sys.path += [str(TESTS / "model"), str(TESTS / "hostile"), str(TESTS.parent / "client")]
+sys.path[:0] = [str(TESTS / "model"), str(TESTS / "hostile"), str(TESTS.parent / "client")]
 
 import switches
 

@@ -85,7 +85,7 @@ def stream(agreed, data):
         data = data[size:]
 
 
-def reply(tag, kind, *words):
+def reply_bytes(tag, kind, *words):
     several = len(words) // 3
     words = (*words, "")
 
@@ -106,13 +106,18 @@ def reply(tag, kind, *words):
         "write": lambda: (119, struct.pack("<I", int(words[0]))),
         "clunk": lambda: (121, b""),
     }[kind]()
-    print((struct.pack("<IBH", 7 + len(body), number, int(tag)) + body).hex())
+    return struct.pack("<IBH", 7 + len(body), number, int(tag)) + body
 
 
-for row in sys.stdin.read().splitlines():
-    print(row)
-    kind, number, *words = row.split(" ")
-    if kind == "reply":
-        reply(number, *words)
-    else:
-        stream(int(number), b"".join(map(bytes_of, words)))
+def main():
+    for row in sys.stdin.read().splitlines():
+        print(row)
+        kind, number, *words = row.split(" ")
+        if kind == "reply":
+            print(reply_bytes(number, *words).hex())
+        else:
+            stream(int(number), b"".join(map(bytes_of, words)))
+
+
+if __name__ == "__main__":
+    main()

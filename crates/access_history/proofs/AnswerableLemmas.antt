@@ -23,7 +23,7 @@ use Rattle.file_world.specs.Needs.{Need, needs, child_need, slots}
 use Rattle.file_world.specs.TreeEffect.{child_of}
 use Rattle.file_world.specs.World.{World, tree_of}
 use Rattle.access_history.specs.declared.event.Issue.{Issue}
-use Rattle.access_history.specs.declared.event.Event.{Event}
+use Rattle.journal_records.specs.declared.event.Event.{Event}
 use Rattle.access_history.specs.declared.request.StepRequest.{StepRequest}
 use Rattle.access_history.specs.declared.request.StepRequest.TheVariants.{Register, Withdraw, Issue as IssueOf, Act, ShowProcap}
 use Rattle.access_history.specs.declared.reply.DenialCause.{DenialCause}

@@ -7,8 +7,8 @@ use Rattle.std.proofs.lemmas.Option.{none-some, same_Some, slice_get-map}
 use Rattle.bl_syntax.specs.Statement.{StatementView}
 use Rattle.policy_statement.specs.Registered.{RegisteredView}
 use Rattle.policy_statement.specs.Withdrawal.{entry_of_number, live_statement, marked}
-use Rattle.access_history.specs.declared.event.Event.{Event}
-use Rattle.access_history.specs.declared.event.Event.TheVariants.{Registered, Withdrawn, Issued, Acted}
+use Rattle.journal_records.specs.declared.event.Event.{Event}
+use Rattle.journal_records.specs.declared.event.Event.TheVariants.{Registered, Withdrawn, Issued, Acted}
 use Rattle.access_history.specs.Authority.{sayings}
 use Rattle.access_history.specs.Base.{BaseView}
 use Rattle.access_history.specs.Books.{live_book, book_of}

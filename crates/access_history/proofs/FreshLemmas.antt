@@ -11,7 +11,7 @@ use Rattle.file_world.proofs.HalvesLemmas.{IsWorld-fresh}
 use Rattle.issue_standings.specs.declared.standings.Standings.{Standings}
 use Rattle.issue_standings.specs.Index.{IsIndexOf}
 use Rattle.access_history.specs.declared.event.Issue.{Issue}
-use Rattle.access_history.specs.declared.event.Event.{Event}
+use Rattle.journal_records.specs.declared.event.Event.{Event}
 use Rattle.access_history.specs.declared.history.History.TheInside.{Inside}
 use Rattle.access_history.specs.Base.{BaseView}
 use Rattle.access_history.specs.Authority.{Authority}

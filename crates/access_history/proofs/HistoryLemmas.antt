@@ -21,8 +21,8 @@ use Rattle.file_world.specs.World.{World}
 use Rattle.world_state.specs.State.{WorldState, ReservesWorld}
 use Rattle.access_history.specs.declared.event.Addition.{Addition}
 use Rattle.access_history.specs.declared.event.Issue.{Issue}
-use Rattle.access_history.specs.declared.event.Event.{Event}
-use Rattle.access_history.specs.declared.event.Event.TheVariants.{Registered, Withdrawn, Issued, Acted}
+use Rattle.journal_records.specs.declared.event.Event.{Event}
+use Rattle.journal_records.specs.declared.event.Event.TheVariants.{Registered, Withdrawn, Issued, Acted}
 use Rattle.issue_standings.specs.Index.{IsIndexOf, Knows}
 use Rattle.issue_standings.specs.GrantStanding.{gone_by, standing_of}
 use Rattle.access_history.specs.declared.history.History.TheInside.{Inside}

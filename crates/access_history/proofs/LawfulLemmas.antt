@@ -12,8 +12,8 @@ use Rattle.proof_term.specs.Proof.{ProofView}
 use Rattle.file_world.specs.declared.operation.Op.{Op}
 use Rattle.file_world.specs.World.{IsWorld}
 use Rattle.file_world.proofs.HalvesLemmas.{IsWorld-after}
-use Rattle.access_history.specs.declared.event.Event.{Event}
-use Rattle.access_history.specs.declared.event.Event.TheVariants.{Registered, Withdrawn, Issued, Acted}
+use Rattle.journal_records.specs.declared.event.Event.{Event}
+use Rattle.journal_records.specs.declared.event.Event.TheVariants.{Registered, Withdrawn, Issued, Acted}
 use Rattle.access_history.specs.Base.{BaseView}
 use Rattle.access_history.specs.Authority.{Authority, MayBeRegistered, IsSignedEntry, sayings}
 use Rattle.access_history.specs.Books.{book_of}

@@ -1,11 +1,11 @@
 -- An event is as good with another pass.
 use Rattle.std.proofs.Common.{◌≡◌, refl}
-use Rattle.access_history.specs.declared.event.Event.{Event}
-use Rattle.access_history.specs.declared.event.Event.TheVariants.{Registered, Withdrawn, Issued, Acted}
+use Rattle.journal_records.specs.declared.event.Event.{Event}
+use Rattle.journal_records.specs.declared.event.Event.TheVariants.{Registered, Withdrawn, Issued, Acted}
 use Rattle.access_history.specs.Authority.{Authority}
 use Rattle.access_history.specs.Base.{BaseView}
 use Rattle.access_history.specs.Lawful.{MayFollow}
-use Rattle.access_history.specs.Passes.{event_pass, erase}
+use Rattle.journal_records.specs.Passes.{event_pass, erase}
 use Rattle.access_history.specs.Replay.{next_state}
 
 pub erase_twice : (event : Event) → erase (erase event) ≡ erase event

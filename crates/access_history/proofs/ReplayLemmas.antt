@@ -5,7 +5,7 @@ use Rattle.file_world.specs.declared.refusal.Refusal.{Refusal}
 use Rattle.file_world.specs.Outcome.{outcome}
 use Rattle.file_world.specs.World.{World}
 use Rattle.file_world.specs.Effect.{refusal, reply, effect, world_after}
-use Rattle.access_history.specs.declared.event.Event.{Event}
+use Rattle.journal_records.specs.declared.event.Event.{Event}
 use Rattle.access_history.specs.Base.{BaseView}
 use Rattle.access_history.specs.Replay.{world_left, replay, next_state}
 

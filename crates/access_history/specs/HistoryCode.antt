@@ -5,8 +5,8 @@ use Rattle.policy_statement.specs.Ring.{KeyView}
 use Rattle.policy_statement.specs.RingCode as ring_code
 use Rattle.world_state.specs.State.{Readiness}
 use Rattle.world_state.specs.StateCode.{readiness_code}
-use Rattle.access_history.specs.declared.event.Event.{Event}
-use Rattle.access_history.specs.contracts.event.Event as event
+use Rattle.journal_records.specs.declared.event.Event.{Event}
+use Rattle.journal_records.specs.contracts.event.Event as event
 use Rattle.access_history.specs.Base.{BaseView}
 use Rattle.access_history.specs.BaseCode.{base_code}
 use Rattle.access_history.specs.History.{HistoryView}

@@ -4,8 +4,8 @@ use Rattle.std.specs.Prelude.{◌<◌, List, length, IsSome}
 use Rattle.bl_syntax.specs.TimeOrder.{IsMoment}
 use Rattle.policy_statement.specs.Registered.{RegisteredView}
 use Rattle.policy_statement.specs.Withdrawal.{live_of_number}
-use Rattle.access_history.specs.declared.event.Event.{Event}
-use Rattle.access_history.specs.declared.event.Event.TheVariants as events
+use Rattle.journal_records.specs.declared.event.Event.{Event}
+use Rattle.journal_records.specs.declared.event.Event.TheVariants as events
 use Rattle.access_history.specs.declared.event.Addition.{Addition}
 use Rattle.access_history.specs.declared.event.Addition.TheVariants as additions
 

@@ -13,8 +13,8 @@ use Rattle.file_world.specs.declared.operation.Op.{Op}
 use Rattle.file_world.specs.World.{IsWorld}
 use Rattle.file_world.specs.Effect.{refusal, reply}
 use Rattle.file_world.specs.Needs.{Need, needs}
-use Rattle.access_history.specs.declared.event.Event.{Event}
-use Rattle.access_history.specs.declared.event.Event.TheVariants.{Acted, Withdrawn}
+use Rattle.journal_records.specs.declared.event.Event.{Event}
+use Rattle.journal_records.specs.declared.event.Event.TheVariants.{Acted, Withdrawn}
 use Rattle.access_history.specs.declared.request.StepRequest.{StepRequest}
 use Rattle.access_history.specs.declared.request.StepRequest.TheVariants.{Act}
 use Rattle.access_history.specs.declared.reply.StepReply.{StepReply}

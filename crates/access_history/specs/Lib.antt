@@ -15,6 +15,5 @@ pub mod Keeping
 pub mod Lawful
 pub mod Laws
 pub mod Numbered
-pub mod Passes
 pub mod Replay
 pub mod WellFormed

@@ -7,8 +7,8 @@ use Rattle.file_world.specs.Outcome.{Outcome, refused, replied}
 use Rattle.file_world.specs.World.{World, fresh_world}
 use Rattle.file_world.specs.Effect.{effect}
 use Rattle.access_history.specs.declared.event.Issue.{Issue}
-use Rattle.access_history.specs.declared.event.Event.{Event}
-use Rattle.access_history.specs.declared.event.Event.TheVariants.{Registered, Withdrawn, Issued, Acted}
+use Rattle.journal_records.specs.declared.event.Event.{Event}
+use Rattle.journal_records.specs.declared.event.Event.TheVariants.{Registered, Withdrawn, Issued, Acted}
 use Rattle.access_history.specs.declared.event.Addition.{Addition}
 use Rattle.access_history.specs.declared.event.Addition.TheVariants as additions
 use Rattle.access_history.specs.Base.{BaseView}

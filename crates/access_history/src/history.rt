@@ -4,11 +4,12 @@ ghost use Rattle.std.specs.Prelude.{◌≡◌, ◌≤◌, ◌<◌, ◌-◌, ◌^
 
 use crate::base::Base;
 use crate::copying::{copy_issues, copy_statements, registry_of};
-use crate::event::{Addition, Event, Issue};
+use crate::event::{Addition, Issue};
 use crate::keeping::{add_to_state, apply_event};
 use bl_syntax::{Grant, NoMemory, Principal, Statement};
 use file_world::{Op, OpFault, OpReply};
 use issue_standings::{Standings, first_withdrawn};
+use journal_records::{Event, EventRecord};
 use policy_statement::{Keyring, Registered, Registry};
 use procap::{Procap, SealKey};
 use std::alloc::Global;
@@ -22,7 +23,7 @@ pub struct History {
     key: SealKey,
     ring: Keyring,
     base: Base,
-    events: Vec<Event>,
+    events: Vec<EventRecord>,
     world: World,
     statements: Registry,
     issues: Vec<Issue>,
@@ -149,8 +150,8 @@ impl History {
         &self.base
     }
 
-    /// The events since, in their order.
-    pub fn events(&self) -> &[Event]
+    /// The records of the events since, in their order.
+    pub fn events(&self) -> &[EventRecord]
         ensures { result.now ≡ self.now.events }
     {
         self.events.as_slice()
@@ -303,9 +304,10 @@ impl History {
         self.world.reserve(alloc, caller, op)
     }
 
-    /// Keeps the event and what the state keeps of it, for which there has to be room. It takes no memory.
-    pub fn keep(&mut self, event: Event, addition: Addition)
+    /// Keeps the event's record and what the state keeps of the event, for which there has to be room. It takes no memory.
+    pub fn keep(&mut self, event: Event, kept: EventRecord, addition: Addition)
         requires room { 1 ≤ self.old.room }
+        requires kept { kept ≡ event }
         requires lawful { MayFollow (authority_of self.old) (state_of self.old) event }
         requires addition { addition ≡ addition_of event }
         requires ready { IsReadyFor self.old event }
@@ -323,7 +325,7 @@ impl History {
             &mut self.standings,
             addition,
         );
-        self.events.push(event).unwrap();
+        self.events.push(kept).unwrap();
         self.count += 1;
     }
 }

@@ -7,8 +7,9 @@ ghost use Rattle.access_history.specs.History.{IsReadyIn, spare};
 ghost use Rattle.access_history.specs.Keeping.{HasMomentInRange, HasPlaceAmong};
 ghost use Rattle.access_history.specs.Replay.{world_next, moment_next, statements_with, issues_with};
 
-use crate::event::{Addition, Event, Issue};
+use crate::event::{Addition, Issue};
 use issue_standings::Standings;
+use journal_records::Event;
 use policy_statement::Registry;
 use procap::SealKey;
 use world_state::World;

@@ -18,7 +18,7 @@ mod request;
 pub use base::Base;
 pub use citing::is_grant_of;
 pub use copying::keep_copy;
-pub use event::{Addition, Event, Events, Issue, Issues, Procaps, Statements};
+pub use event::{Addition, Issue, Issues, Statements};
 pub use history::History;
 pub use laws::{
     admitted_operations_are_kept, answers_are_determined, answers_may_follow, fresh_is_lawful,

@@ -1,8 +1,8 @@
 //! What the gate is asked.
 
-use crate::event::Procaps;
 use bl_syntax::{Bytes, Principal, Statement};
 use file_world::Op;
+use journal_records::Procaps;
 use proof_verifier::Checked;
 
 /// A request to the gate.

@@ -1,8 +1,8 @@
 //! A case: a history, the keys it is audited under, and the report that is wanted.
 
-use access_history::{Base, Event};
+use access_history::Base;
 use bl_syntax::{Bytes, NoMemory, Principal};
-use journal_records::read_event;
+use journal_records::{Event, read_event};
 use line_text::read_hex;
 use pcfs_audit::{Report, audit, audit_pieces, write_report};
 use policy_statement::Keyring;

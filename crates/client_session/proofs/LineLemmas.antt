@@ -1,11 +1,11 @@
 -- What stands before the first end of a line is taken, and what stands after that end is left.
-use Rattle.std.proofs.Common.{◌≡◌, ℕ, ◌-◌, ◌≤◌, Bool, true, false, not, List, [], ◌∷◌, ◌++◌, length, take, drop, get_or, Some, IsTrue, refl, sym, ap, ◌∙◌, subst, append-nil, arith}
-use Rattle.std.proofs.lemmas.List.{take_all}
+use Rattle.std.proofs.Common.{◌≡◌, ℕ, ◌+◌, ◌-◌, ◌<◌, ◌≤◌, Bool, true, false, not, List, [], ◌∷◌, ◌++◌, length, take, drop, get_or, Some, IsTrue, refl, sym, ap, ◌∙◌, subst, append-nil, append_assoc, length-append, arith}
+use Rattle.std.proofs.lemmas.List.{take_all, take_at, take-append-drop, length-take-le}
 use Rattle.std.specs.Prelude.{◌==◌}
 use Rattle.std.specs.List.{list_all}
-use Rattle.std.proofs.lemmas.Bool.{eqb-true, and_from}
+use Rattle.std.proofs.lemmas.Bool.{eqb-true, and_parts, and_from}
 use Rattle.line_text.specs.Words.{is_word_end, HasNo}
-use Rattle.client_session.specs.Lines.{TakesLine}
+use Rattle.client_session.specs.Lines.{HasPassed, TakesLine}
 
 -- a word without the stop byte, and what stands after it: nothing, or the stop byte and more
 record IsCut (stop : ℕ) (line : List ℕ) : Type 0 where
@@ -39,7 +39,7 @@ rest_ends stop line word rest only =
     subst (λ (r : List ℕ). IsTrue (is_word_end stop r)) (sym (only cut.word cut.behind cut.no_stop cut.ends cut.parts).1) cut.ends
 
 -- the first word ends at the end of a line
-pub takes : (old word rest after : List ℕ) (first : ℕ) → old ≡ word ++ rest → HasNo 10 word
+takes : (old word rest after : List ℕ) (first : ℕ) → old ≡ word ++ rest → HasNo 10 word
     → ((first' behind : List ℕ) → HasNo 10 first' → IsTrue (is_word_end 10 behind) → old ≡ first' ++ behind → (word ≡ first') × (rest ≡ behind))
     → rest ≡ first ∷ after → TakesLine old after (Some word)
 takes old word rest after first parts no_end only is =
@@ -49,7 +49,7 @@ takes old word rest after first parts no_end only is =
     (no_end, parts ∙ ap (λ (r : List ℕ). word ++ r) (is ∙ ap (λ (b : ℕ). b ∷ after) first_is))
 
 -- there is no end of a line
-pub leaves : (old word rest : List ℕ) → old ≡ word ++ rest → HasNo 10 word → rest ≡ [] → HasNo 10 old
+leaves : (old word rest : List ℕ) → old ≡ word ++ rest → HasNo 10 word → rest ≡ [] → HasNo 10 old
 leaves old word rest parts no_end is =
     subst (HasNo 10) (sym (parts ∙ ap (λ (r : List ℕ). word ++ r) is ∙ append-nil word)) no_end
 
@@ -58,9 +58,39 @@ first_and_others : (rest after : List ℕ) → 1 ≤ length rest → after ≡ t
 first_and_others [] after some is = absurd (omega (arith, some))
 first_and_others (byte ∷ bytes) after some is = ap (λ (t : List ℕ). byte ∷ t) (sym (is ∙ take_all (length (byte ∷ bytes) - 1) bytes (omega arith)))
 
--- the line that is taken is a copy of the first word, and what is left one of what stands after the stop byte
-pub taken : (old word rest line after : List ℕ) → old ≡ word ++ rest → HasNo 10 word
-    → ((first behind : List ℕ) → HasNo 10 first → IsTrue (is_word_end 10 behind) → old ≡ first ++ behind → (word ≡ first) × (rest ≡ behind))
-    → 1 ≤ length rest → line ≡ word → after ≡ take (length rest - 1) (drop 1 rest) → TakesLine old after (Some line)
-taken old word rest line after parts no_end only some line_is after_is =
-    subst (λ (l : List ℕ). TakesLine old after (Some l)) (sym line_is) (takes old word rest after (get_or rest 0 0) parts no_end only (first_and_others rest after some after_is))
+-- no end of a line in one part, and none in the next
+HasNo-append : (stop : ℕ) (front back : List ℕ) → HasNo stop front → HasNo stop back → HasNo stop (front ++ back)
+HasNo-append stop [] back f b = b
+HasNo-append stop (byte ∷ front) back f b =
+    let parts = and_parts (not (byte == stop)) (list_all (λ x. not (x == stop)) front) f in
+    and_from (not (byte == stop)) (list_all (λ x. not (x == stop)) (front ++ back)) parts.0 (HasNo-append stop front back parts.1 b)
+
+-- what `first_line` promises of its parts
+abbrev IsFirst : List ℕ → List ℕ → List ℕ → Type 0
+IsFirst bytes line after = HasNo 10 line × (bytes ≡ line ++ 10 ∷ after)
+
+-- the bytes that were passed, and the first line of the others
+joined : (bytes front word after : List ℕ) → bytes ≡ front ++ (word ++ 10 ∷ after) → HasNo 10 front → HasNo 10 word → IsFirst bytes (front ++ word) after
+joined bytes front word after is f w = (HasNo-append 10 front word f w, is ∙ sym (append_assoc front word (10 ∷ after)))
+
+-- the first line of all bytes ends where the first line of those that were not passed does
+pub first_after : (bytes new word rest line after : List ℕ) (passed : ℕ) → HasPassed passed bytes → new ≡ drop passed bytes → new ≡ word ++ rest → HasNo 10 word
+    → ((first behind : List ℕ) → HasNo 10 first → IsTrue (is_word_end 10 behind) → new ≡ first ++ behind → (word ≡ first) × (rest ≡ behind))
+    → 1 ≤ length rest → line ≡ take (passed + length word) bytes → after ≡ take (length rest - 1) (drop 1 rest) → IsFirst bytes line after
+first_after bytes new word rest line after passed h new_is parts no_end only some line_is after_is =
+    let found = takes new word rest after (get_or rest 0 0) parts no_end only (first_and_others rest after some after_is) in
+    let all : bytes ≡ take passed bytes ++ (word ++ 10 ∷ after) = sym (take-append-drop passed bytes) ∙ ap (λ (b : List ℕ). take passed bytes ++ b) (sym new_is ∙ found.1) in
+    let whole = joined bytes (take passed bytes) word after all h.no_end no_end in
+    let size : length (take passed bytes ++ word) ≡ passed + length word = length-append (take passed bytes) word ∙ ap (λ (n : ℕ). n + length word) (length-take-le passed bytes h.within) in
+    let cut : take (passed + length word) bytes ≡ take passed bytes ++ word = ap (λ (b : List ℕ). take (passed + length word) b) whole.1 ∙ take_at (take passed bytes ++ word) (10 ∷ after) (passed + length word) size in
+    subst (λ (l : List ℕ). IsFirst bytes l after) (sym (line_is ∙ cut)) whole
+
+no_rest : (rest : List ℕ) → length rest < 1 → rest ≡ []
+no_rest [] few = refl
+no_rest (byte ∷ bytes) few = absurd (omega (arith, few))
+
+-- if the others have no end of a line, there is none
+pub none_after : (bytes new word rest : List ℕ) (passed : ℕ) → HasPassed passed bytes → new ≡ drop passed bytes → new ≡ word ++ rest → HasNo 10 word → length rest < 1 → HasNo 10 bytes
+none_after bytes new word rest passed h new_is parts no_end few =
+    let others : HasNo 10 (drop passed bytes) = subst (HasNo 10) new_is (leaves new word rest parts no_end (no_rest rest few)) in
+    subst (HasNo 10) (take-append-drop passed bytes) (HasNo-append 10 (take passed bytes) (drop passed bytes) h.no_end others)

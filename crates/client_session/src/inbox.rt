@@ -1,7 +1,8 @@
 //! Bytes that were read, and the lines in them.
 
-ghost use Rattle.std.specs.Prelude.{◌≡◌, [], ◌++◌, IfOk, OnOk, OnErr, length};
-ghost use Rattle.client_session.specs.Lines.{TakesLine};
+ghost use Rattle.std.specs.Prelude.{◌≡◌, [], ◌∷◌, ◌++◌, IfOk, MatchOption, OnOk, OnErr, length};
+ghost use Rattle.line_text.specs.Words.{HasNo};
+ghost use Rattle.client_session.specs.Lines.{HasPassed, TakesLine};
 
 use bl_syntax::{Bytes, NoMemory, copy_bytes};
 use line_text::split_word;
@@ -12,14 +13,31 @@ use std::marker::Model;
 #[derive(Drop)]
 pub struct Inbox {
     bytes: Bytes,
+    // How many bytes at the front have no end of a line, as was seen: these are not looked at again.
+    passed: usize,
 }
 
 impl Model for Inbox {
     ghost use Rattle.std.specs.Prelude.{ℕ, List};
+    ghost use Rattle.client_session.specs.Lines.{HasPassed};
 
     ghost Value = { List ℕ };
 
     ghost view = { λ i. i.bytes };
+
+    ghost invariant = { λ i. HasPassed i.passed i.bytes };
+}
+
+// The first line, and what stands after its end; none if there is no end of a line. The first `passed` bytes have none.
+fn first_line(bytes: &[u8], passed: usize) -> Option<(&[u8], &[u8])>
+    requires { HasPassed passed bytes.now }
+    ensures { MatchOption result (HasNo 10 bytes.now) (λ p. HasNo 10 p.0.now × (bytes.now ≡ p.0.now ++ 10 ∷ p.1.now)) }
+{
+    let (word, rest) = split_word(&bytes[passed..], b'\n');
+    match rest {
+        [] => None,
+        [_, after @ ..] => Some((&bytes[..passed + word.len()], after)),
+    }
 }
 
 impl Inbox {
@@ -29,6 +47,7 @@ impl Inbox {
     {
         Inbox {
             bytes: Bytes::new(alloc),
+            passed: 0,
         }
     }
 
@@ -52,6 +71,7 @@ impl Inbox {
         ensures { self.new ≡ [] }
     {
         self.bytes.clear();
+        self.passed = 0;
     }
 
     /// Takes the first line, without its end: all bytes before the first end of a line. None if there is no end of a line; then all
@@ -60,14 +80,17 @@ impl Inbox {
         ensures ok { IfOk result (TakesLine self.old self.new) }
         ensures err { OnErr result (self.new ≡ self.old) }
     {
-        let (line, rest) = split_word(self.bytes.as_slice(), b'\n');
-        let after = match rest {
-            [] => return Ok(None),
-            [_, after @ ..] => after,
+        let (line, after) = match first_line(self.bytes.as_slice(), self.passed) {
+            Some(parts) => parts,
+            None => {
+                self.passed = self.bytes.len();
+                return Ok(None);
+            }
         };
         let line = copy_bytes(alloc, line)?;
         let after = copy_bytes(alloc, after)?;
         self.bytes = after;
+        self.passed = 0;
         Ok(Some(line))
     }
 }

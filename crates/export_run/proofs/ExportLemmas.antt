@@ -7,7 +7,7 @@ use Rattle.access_history.specs.Base.{BaseView}
 use Rattle.access_history.specs.History.{authority_with}
 use Rattle.access_history.specs.Lawful.{IsLawful}
 use Rattle.access_history.specs.Replay.{replay}
-use Rattle.access_history.specs.declared.event.Event.{Event}
+use Rattle.journal_records.specs.declared.event.Event.{Event}
 use Rattle.event_messages.specs.Messages.{Message, message_spelling, messages_spelling}
 use Rattle.payload_limits.specs.Limits.{PayloadsAreShort}
 use Rattle.pcfs_ports.specs.Observable.{with_back, HoldsSome}
@@ -16,7 +16,7 @@ use Rattle.pcfs_session.specs.declared.outbox.SendFault.{SendFault}
 use Rattle.pcfs_session.specs.declared.outbox.SendFault.TheVariants.{Write, NoMemory}
 use Rattle.pcfs_session.proofs.OutboxLemmas.{with_back-nil, GoesOut-all, GoesOut-more, GoesOut-part, GoesOut-some, GoesOut-whole, HoldsSome-more, all_out}
 use Rattle.pcfs_session.proofs.StoredLemmas.{HasRisen-earlier}
-use Rattle.pcfs_store.proofs.FittingLemmas.{fits_fields}
+use Rattle.op_gate.proofs.FittingLemmas.{fits_fields}
 use Rattle.recover.proofs.FollowingLemmas.{next_at}
 use Rattle.export_run.specs.Exported.{TellsExport, message_of, messages_of, messages_from}
 use Rattle.export_run.specs.Outgoing.{AreCollectedOrOut, AreCutShort, FitMessages, FitsMessage, IsUnsent}

@@ -3,7 +3,7 @@ use Rattle.std.specs.Prelude.{◌≡◌, ◌<◌, ◌≤◌, ◌+◌, ◌-◌, �
 use Rattle.std.specs.Fmt.{decimal}
 use Rattle.pcfs_ports.specs.Observable.{with_back}
 use Rattle.access_history.specs.Base.{BaseView}
-use Rattle.access_history.specs.declared.event.Event.{Event}
+use Rattle.journal_records.specs.declared.event.Event.{Event}
 use Rattle.event_messages.specs.Messages.{Message, messages_spelling}
 use Rattle.journal_records.specs.EventSpelling.{event_spelling}
 use Rattle.pcfs_tools.specs.LastLine.{IsWritten, Wrote, WroteNothing}

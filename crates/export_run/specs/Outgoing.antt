@@ -4,7 +4,7 @@ use Rattle.std.specs.Prelude.{◌≡◌, ◌⊎◌, ◌≤◌, ℕ, List, [], le
 use Rattle.std.specs.List.{AllByRecursion}
 use Rattle.pcfs_ports.specs.Faults.{HasRisen}
 use Rattle.pcfs_ports.specs.Observable.{with_back, HoldsSome}
-use Rattle.access_history.specs.declared.event.Event.{Event}
+use Rattle.journal_records.specs.declared.event.Event.{Event}
 use Rattle.event_messages.specs.Messages.{Message, messages_spelling}
 use Rattle.journal_records.specs.EventSpelling.{event_spelling, HasFittingFields, IsSpellableEvent}
 use Rattle.pcfs_session.specs.declared.outbox.SendFault.{SendFault}

@@ -6,9 +6,10 @@ ghost use Rattle.pcfs_tools.specs.LastLine.{Wrote, WroteNothing};
 ghost use Rattle.export_run.specs.Exported.{TellsExport, gone_text};
 
 use crate::outgoing::write_messages;
-use access_history::{Event, History};
+use access_history::History;
 use bl_syntax::decimal::put_counted;
 use bl_syntax::{Bytes, NoMemory};
+use journal_records::EventRecord;
 use payload_limits::laws::payloads_are_short;
 use pcfs_ports::Sink;
 use pcfs_session::SendFault;
@@ -40,7 +41,7 @@ fn write_gone<O: Sink>(alloc: Global, output: &mut O, count: u64) -> u8
 }
 
 // The events after the first ones, of which there are so many or fewer.
-fn events_after(events: &[Event], first: u64) -> &[Event]
+fn events_after(events: &[EventRecord], first: u64) -> &[EventRecord]
     ensures { result.now ≡ drop first events.now }
 {
     if (events.len() as u64) < first {

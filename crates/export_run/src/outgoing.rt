@@ -7,10 +7,9 @@ ghost use Rattle.event_messages.specs.Messages.{message_spelling, messages_spell
 ghost use Rattle.export_run.specs.Exported.{message_of, messages_of};
 ghost use Rattle.export_run.specs.Outgoing.{AreCollectedOrOut, AreCutShort, FitMessages, FitsMessage, IsUnsent};
 
-use access_history::Event;
 use bl_syntax::{Bytes, NoMemory};
 use event_messages::write_message;
-use journal_records::write_event;
+use journal_records::EventRecord;
 use pcfs_ports::{Failed, Sink};
 use pcfs_session::{SendFault, flush};
 use std::alloc::Global;
@@ -18,20 +17,13 @@ use std::alloc::Global;
 /// How many bytes are collected before they are written.
 const ENOUGH: usize = 65_536;
 
-// Adds the message of an event, or nothing. Its payload is written into memory that is used again.
-fn add_message(
-    number: u64,
-    event: &Event,
-    payload: &mut Bytes,
-    collected: &mut Bytes,
-) -> Result<(), NoMemory>
+// Adds the message of an event, or nothing.
+fn add_message(number: u64, event: &EventRecord, collected: &mut Bytes) -> Result<(), NoMemory>
     requires { FitsMessage event.now }
     ensures ok { OnOk result (collected.new ≡ collected.old ++ message_spelling (message_of number event.now)) }
     ensures err { OnErr result (collected.new ≡ collected.old) }
 {
-    payload.clear();
-    write_event(event, payload)?;
-    write_message(number, payload.as_slice(), collected)
+    write_message(number, event.payload(), collected)
 }
 
 // Writes what was collected once it is enough.
@@ -50,8 +42,7 @@ fn flush_if_enough<O: Sink>(collected: &mut Bytes, output: &mut O) -> Result<(),
 // Collects the message of an event, and writes what was collected once it is enough.
 fn send_message<O: Sink>(
     number: u64,
-    event: &Event,
-    payload: &mut Bytes,
+    event: &EventRecord,
     collected: &mut Bytes,
     output: &mut O,
 ) -> Result<(), SendFault>
@@ -62,7 +53,7 @@ fn send_message<O: Sink>(
         (collected.old ++ message_spelling (message_of number event.now)) (O.held output.new) (O.faults output.new)) }
     ensures never_falls { O.faults output.old ≤ O.faults output.new }
 {
-    match add_message(number, event, payload, collected) {
+    match add_message(number, event, collected) {
         Ok(()) => Ok(flush_if_enough(collected, output)?),
         Err(_) => Err(SendFault::NoMemory),
     }
@@ -73,7 +64,7 @@ fn send_message<O: Sink>(
 pub fn write_messages<O: Sink>(
     alloc: Global,
     first: u64,
-    events: &[Event],
+    events: &[EventRecord],
     output: &mut O,
 ) -> Result<(), SendFault>
     requires fit { FitMessages events.now }
@@ -83,10 +74,9 @@ pub fn write_messages<O: Sink>(
         (messages_of first events.now) (O.held output.new) (O.faults output.new)) }
 {
     let mut collected = Bytes::new(alloc);
-    let mut payload = Bytes::new(alloc);
     let mut number = first;
     for event in events {
-        send_message(number, event, &mut payload, &mut collected, output)?;
+        send_message(number, event, &mut collected, output)?;
         number += 1;
     }
     Ok(flush(&mut collected, output)?)

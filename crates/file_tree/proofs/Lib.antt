@@ -5,6 +5,7 @@ pub mod CopyLemmas
 pub mod FreshLemmas
 pub mod IndexLemmas
 pub mod KeptLemmas
+pub mod KindLemmas
 pub mod ListLemmas
 pub mod PartLemmas
 pub mod RowLoopLemmas

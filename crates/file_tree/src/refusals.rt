@@ -4,7 +4,7 @@ ghost use Rattle.std.specs.Prelude.{◌≡◌, ◌≤◌, ◌+◌, ◌-◌, ◌^
 ghost use Rattle.file_world.specs.Limits.{longest_name};
 ghost use Rattle.file_world.specs.Outcome.{first_of};
 ghost use Rattle.file_world.specs.Tree.{node_at, contents_sum};
-ghost use Rattle.file_world.specs.TreeEffect.{file_tests, directory_tests, name_tests, length_tests, write_tests, truncate_tests, lookup_tests, make_tests, unlink_tests, rename_tests, tree_refusal, contents_of, child_of, has_names, is_full, has_way_past, length_after};
+ghost use Rattle.file_world.specs.TreeEffect.{file_tests, directory_tests, name_tests, length_tests, write_tests, truncate_tests, lookup_tests, make_tests, unlink_tests, rename_tests, tree_refusal, contents_of, child_of, has_names, is_full, has_way_past, length_after, is_directory};
 ghost use Rattle.file_tree.specs.Index.{rows_of, reserved_at, tree_in, IsTreeIndex};
 
 use crate::name::Name;
@@ -21,6 +21,17 @@ fn kind_at(nodes: &KeptNodes, number: u64) -> Option<Kind>
     match nodes.get(&number) {
         None => None,
         Some(node) => Some(node.kind),
+    }
+}
+
+/// Whether the number is that of a directory that is kept, also of one that is only ready to be made.
+pub fn is_directory(nodes: &KeptNodes, number: u64) -> bool
+    ensures { result ≡ is_directory (node_at (rows_of nodes.now.entries) number) }
+{
+    match kind_at(nodes, number) {
+        None => false,
+        Some(Kind::File) => false,
+        Some(Kind::Directory) => true,
     }
 }
 

@@ -1,8 +1,8 @@
 //! The tree and its calls.
 
 ghost use Rattle.std.specs.Prelude.{◌≡◌, map, None, Some, IfOk};
-ghost use Rattle.file_world.specs.TreeEffect.{child_of, fresh_tree, tree_after};
-ghost use Rattle.file_world.specs.Tree.{IsTree};
+ghost use Rattle.file_world.specs.TreeEffect.{child_of, fresh_tree, is_directory, tree_after};
+ghost use Rattle.file_world.specs.Tree.{IsTree, node_at};
 ghost use Rattle.node_rows.specs.Rows.{tree_row};
 ghost use Rattle.file_tree.specs.State.{directories_of_nodes, Reserves, IsReady, MakesTree};
 ghost use Rattle.file_tree.specs.Index.{option_number, above_zero};
@@ -16,7 +16,7 @@ use crate::name::Name;
 use crate::node::{KeptNode, KeptNodes};
 use crate::preparing::{forget, prepare};
 use crate::ready::Ready;
-use crate::refusals::{number_in, refusal};
+use crate::refusals::{is_directory, number_in, refusal};
 use crate::to_rows::published_rows;
 use bl_syntax::{NoMemory, NodeId};
 use file_blocks::FileContents;
@@ -83,6 +83,13 @@ impl Tree {
     {
         let kept = number_in(&self.nodes, d.0, name);
         node_of(kept)
+    }
+
+    /// Whether the number is that of a directory. It takes no memory.
+    pub fn is_directory(&self, n: NodeId) -> bool
+        ensures { result ≡ is_directory (node_at self.now.tree.rows n.0) }
+    {
+        n.0 < self.next && is_directory(&self.nodes, n.0)
     }
 
     /// The number of the next node that is made.

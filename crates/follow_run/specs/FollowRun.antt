@@ -4,7 +4,7 @@ use Rattle.std.specs.Prelude.{◌≡◌, ◌+◌, ◌<◌, ◌≤◌, length, �
 use Rattle.std.specs.Fmt.{decimal}
 use Rattle.pcfs_ports.specs.Faults.{HasRisen}
 use Rattle.pcfs_ports.specs.Observable.{with_back, HoldsSome, TakesFirst}
-use Rattle.access_history.specs.declared.event.Event.{Event}
+use Rattle.journal_records.specs.declared.event.Event.{Event}
 use Rattle.access_history.specs.Headline.{Headline}
 use Rattle.event_messages.specs.Messages.{Message, messages_spelling}
 use Rattle.op_gate.specs.declared.damage.Damage.{Damage}

@@ -1,6 +1,6 @@
 -- A delivery has one answer, but for faults of disks and lack of memory.
 use Rattle.std.proofs.Common.{◌≡◌, ◌+◌, ◌<◌, ◌≤◌, ◌⊎◌, ℕ, List, [], ◌++◌, refl, sym, ap, subst, ◌∙◌, inl, inr, arith}
-use Rattle.access_history.specs.declared.event.Event.{Event}
+use Rattle.journal_records.specs.declared.event.Event.{Event}
 use Rattle.access_history.specs.Authority.{Authority}
 use Rattle.access_history.specs.Base.{BaseView}
 use Rattle.journal_records.specs.EventSpelling.{event_spelling, IsReadEvent}

@@ -1,9 +1,9 @@
 -- Histories that are parts of one, as lists of events without passes.
 use Rattle.std.proofs.Common.{◌≡◌, ◌+◌, ◌≤◌, ℕ, List, [], ◌∷◌, ◌++◌, length, take, drop, map, refl, sym, ap, ◌∙◌, arith, append_assoc, length-append}
 use Rattle.std.proofs.lemmas.List.{map-append, length-map, append-nil, take-append-drop, take-take, take_at, drop_at, take_all, length-take-le, length-drop}
-use Rattle.access_history.specs.declared.event.Event.{Event}
+use Rattle.journal_records.specs.declared.event.Event.{Event}
 use Rattle.access_history.specs.Base.{BaseView}
-use Rattle.access_history.specs.Passes.{erase}
+use Rattle.journal_records.specs.Passes.{erase}
 use Rattle.access_history.specs.Replay.{replay, next_state}
 use Rattle.access_history.proofs.PassLemmas.{erase_twice, erased_next}
 use Rattle.access_history.proofs.ReplayLemmas.{count-replay}

@@ -3,7 +3,7 @@ use Rattle.std.proofs.Common.{◌≡◌, ◌≢◌, ◌<◌, ◌≤◌, ℕ, Lis
 use Rattle.std.specs.Prelude.{Option, Err, Bool, true, false, IsTrue, IsSome, ◌↔◌}
 use Rattle.bl_syntax.specs.declared.codec_fault.CodecFault.{CodecFault}
 use Rattle.bl_syntax.specs.declared.codec_fault.CodecFault.TheVariants as codec
-use Rattle.access_history.specs.declared.event.Event.{Event}
+use Rattle.journal_records.specs.declared.event.Event.{Event}
 use Rattle.access_history.proofs.PassLemmas.{pass_none}
 use Rattle.journal_records.specs.EventReading.{ReadsWholeEvent}
 use Rattle.op_gate.specs.declared.damage.Damage.TheVariants.{Shape}

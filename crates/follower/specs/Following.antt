@@ -2,11 +2,11 @@
 -- their histories (this project's own).
 use Rattle.std.specs.Prelude.{◌≡◌, ◌+◌, ℕ, ℤ, List, ◌∷◌, ◌++◌, length, map}
 use Rattle.bl_syntax.specs.TimeOrder.{IsMoment}
-use Rattle.access_history.specs.declared.event.Event.{Event}
+use Rattle.journal_records.specs.declared.event.Event.{Event}
 use Rattle.access_history.specs.declared.request.StepRequest.{StepRequest}
 use Rattle.access_history.specs.Base.{BaseView}
 use Rattle.access_history.specs.Lawful.{IsLawful}
-use Rattle.access_history.specs.Passes.{erase}
+use Rattle.journal_records.specs.Passes.{erase}
 use Rattle.access_history.specs.WellFormed.{IsWellFormed}
 use Rattle.journal_records.specs.EventSpelling.{event_spelling}
 use Rattle.pcfs_store.specs.declared.reply.StoreReply.{StoreReply}

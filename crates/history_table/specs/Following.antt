@@ -1,6 +1,6 @@
 -- A history that keeps one more event (this project's own).
 use Rattle.std.specs.Prelude.{◌≡◌, ◌<◌, ◌-◌, ◌^◌, [], ◌∷◌, ◌++◌}
-use Rattle.access_history.specs.declared.event.Event.{Event}
+use Rattle.journal_records.specs.declared.event.Event.{Event}
 use Rattle.access_history.specs.History.{HistoryView, authority_of, state_of}
 use Rattle.access_history.specs.Lawful.{MayFollow}
 

@@ -16,9 +16,10 @@ use crate::following::follow;
 use crate::issues::IssueIndex;
 use crate::places::Guesses;
 use crate::rows::{Row, row_of, second_of, who_of};
-use access_history::{Event, History};
+use access_history::History;
 use bl_syntax::NoMemory;
 use file_world::Op;
+use journal_records::{Event, EventRecord};
 use procap::SealKey;
 use std::alloc::Global;
 use std::marker::Model;
@@ -78,7 +79,7 @@ fn with_issue(issues: IssueIndex, before: &History, event: &Event) -> Result<Iss
 }
 
 // The history with one more event.
-fn with_event(alloc: Global, before: History, event: &Event) -> Result<History, NoMemory>
+fn with_event(alloc: Global, before: History, event: &EventRecord) -> Result<History, NoMemory>
     requires { MayKeep before event.now }
     ensures { IfOk result (Keeps before event.now) }
 {
@@ -145,11 +146,12 @@ impl<'a> RowCursor<'a> {
             issues,
         } = self;
         let mut guesses = guesses;
-        let event = &whole.events()[passed];
+        let kept = &whole.events()[passed];
+        let event = kept.event(alloc)?;
         whole.lemma_is_lawful();
-        expect_places(&before, &mut guesses, event)?;
-        let issues = with_issue(issues, &before, event)?;
-        let before = with_event(alloc, before, event)?;
+        expect_places(&before, &mut guesses, &event)?;
+        let issues = with_issue(issues, &before, &event)?;
+        let before = with_event(alloc, before, kept)?;
         Ok(RowCursor {
             whole,
             passed: passed + 1,

@@ -10,9 +10,10 @@ ghost use Rattle.history_table.specs.Table.{event_about, event_uses, event_who, 
 
 use crate::issues::{IssueIndex, rests_on};
 use crate::places::{Guesses, path_of};
-use access_history::{Event, History};
+use access_history::History;
 use bl_syntax::{Bytes, NoMemory, NodeId, Numbers, Perm, Principal, Sequence};
 use file_world::Op;
+use journal_records::Event;
 use procap::Procap;
 use std::alloc::Global;
 

@@ -5,8 +5,8 @@ use Rattle.std.specs.Option.{option_map}
 use Rattle.bl_syntax.specs.Grant.{GrantView}
 use Rattle.proof_term.specs.Proof.{ProofView}
 use Rattle.access_history.specs.declared.event.Issue.{Issue}
-use Rattle.access_history.specs.declared.event.Event.{Event}
-use Rattle.access_history.specs.declared.event.Event.TheVariants.{Issued}
+use Rattle.journal_records.specs.declared.event.Event.{Event}
+use Rattle.journal_records.specs.declared.event.Event.TheVariants.{Issued}
 use Rattle.access_history.specs.Base.{BaseView}
 use Rattle.history_text.specs.declared.issue_basis.Basis.{Basis}
 

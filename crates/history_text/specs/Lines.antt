@@ -7,8 +7,8 @@ use Rattle.bl_text.specs.Printed.{permission_text}
 use Rattle.policy_statement.specs.Registered.{RegisteredView}
 use Rattle.policy_statement.specs.Registry.{statement_of_number}
 use Rattle.proof_text.specs.Printed.{proof_text}
-use Rattle.access_history.specs.declared.event.Event.{Event}
-use Rattle.access_history.specs.declared.event.Event.TheVariants.{Acted}
+use Rattle.journal_records.specs.declared.event.Event.{Event}
+use Rattle.journal_records.specs.declared.event.Event.TheVariants.{Acted}
 use Rattle.access_history.specs.declared.event.Issue.{Issue}
 use Rattle.access_history.specs.Base.{BaseView}
 use Rattle.history_table.specs.declared.rows.Row.{Row}

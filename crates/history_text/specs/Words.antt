@@ -10,8 +10,8 @@ use Rattle.file_world.specs.declared.operation.Op.{Op}
 use Rattle.file_world.specs.declared.operation.Op.TheVariants.{Write}
 use Rattle.line_forms.specs.declared.command.Command.TheVariants.{Do}
 use Rattle.line_writing.specs.LineTexts.{command_text}
-use Rattle.access_history.specs.declared.event.Event.{Event}
-use Rattle.access_history.specs.declared.event.Event.TheVariants.{Registered, Withdrawn, Issued, Acted}
+use Rattle.journal_records.specs.declared.event.Event.{Event}
+use Rattle.journal_records.specs.declared.event.Event.TheVariants.{Registered, Withdrawn, Issued, Acted}
 use Rattle.access_history.specs.Base.{BaseView}
 
 -- an operation as it was asked for, without its procaps; of what is written into a file, how many

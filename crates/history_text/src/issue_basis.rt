@@ -5,8 +5,9 @@ ghost use Rattle.std.specs.Option.{option_map};
 ghost use Rattle.access_history.specs.History.{state_of};
 ghost use Rattle.history_text.specs.IssueBasis.{issue_made, issue_numbered, shown};
 
-use access_history::{Event, History};
+use access_history::History;
 use bl_syntax::Grant;
+use journal_records::Event;
 use proof_term::ProofTree;
 
 /// An issue: its number, its grant, its proof, and the numbers of the statements that it cites.

@@ -12,10 +12,11 @@ ghost use Rattle.history_text.specs.Lines.{admitting_lines, cited_line, cited_li
 use crate::dates::put_date;
 use crate::issue_basis::{Basis, issue_made, issue_numbered};
 use crate::words::{put_permission, put_spaced_statement, put_words};
-use access_history::{Event, History};
+use access_history::History;
 use bl_syntax::decimal::{put_counted, put_decimal, put_text};
 use bl_syntax::{Bytes, Grant, NoMemory, Principal};
 use history_table::{Row, Use};
+use journal_records::Event;
 use proof_text::print_proof;
 use std::alloc::Global;
 

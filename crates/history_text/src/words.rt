@@ -7,11 +7,12 @@ ghost use Rattle.bl_text.specs.Printed.{permission_text};
 ghost use Rattle.access_history.specs.History.{state_of};
 ghost use Rattle.history_text.specs.Words.{goal_words, node_text, operation_words, spaced_statement, words_text};
 
-use access_history::{Event, History};
+use access_history::History;
 use bl_syntax::decimal::{put_counted, put_text};
 use bl_syntax::{Bytes, Grant, NoMemory, NodeId, Perm, Statement, Term};
 use bl_text::{print_statement, print_term};
 use file_world::Op;
+use journal_records::Event;
 use line_forms::{Command, Line};
 use line_words::ProcapWords;
 use line_writing::write_line;

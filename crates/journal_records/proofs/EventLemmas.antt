@@ -11,13 +11,14 @@ use Rattle.bl_syntax.proofs.CodecLemmas.{bind_ok, by_test, ok_is, made_ok, made_
 use Rattle.bl_syntax.proofs.ReportsFaultLemmas.{stops, hands_on, stops_with}
 use Rattle.procap.specs.Procap.{at_end}
 use Rattle.procap.proofs.ItemsLemmas.{test_memoryless}
-use Rattle.access_history.specs.declared.event.Event.{Event}
-use Rattle.access_history.specs.declared.event.Event.TheVariants.{Registered, Withdrawn, Issued, Acted}
+use Rattle.journal_records.specs.declared.event.Event.{Event}
+use Rattle.journal_records.specs.declared.event.Event.TheVariants.{Registered, Withdrawn, Issued, Acted}
 use Rattle.record_parts.specs.RecordSpelling.{Registration, IsRegistration, registration_spelling, Withdrawal, IsWithdrawal, withdrawal_spelling, Issuing, IsIssuing, issuing_spelling, Action, IsAction, action_spelling}
 use Rattle.record_parts.specs.RecordReading.{registered_at, withdrawn_at, issued_at, acted_at}
 use Rattle.record_parts.proofs.OperationLemmas.{spelled_fits}
 use Rattle.record_parts.proofs.RecordLemmas.{registered_codec, withdrawn_codec, issued_codec, acted_codec}
-use Rattle.access_history.specs.Passes.{erase}
+use Rattle.journal_records.specs.Passes.{erase, event_pass, with_pass}
+use Rattle.journal_records.specs.EventRecord.{IsRecordOf}
 use Rattle.journal_records.specs.EventSpelling.{event_spelling, IsSpellableEvent, HasFittingFields, IsReadEvent}
 use Rattle.journal_records.specs.EventReading.{event_at, whole_event, ReadsWholeEvent}
 
@@ -154,13 +155,43 @@ pub reads : (bytes : List ℕ) (result : Result Event CodecFault) → AreBytes b
 reads bytes (Ok e) fits h = reads_ok bytes e fits h
 reads bytes (Err fault) fits h = reads_stop bytes fault h
 
--- an event that is read may be written
-read_fits : (e : Event) → IsReadEvent e → HasFittingFields e
-read_fits (Registered pass statement signature) h = h.spelled.signed
-read_fits (Issued pass cited proof grant) h = h.spelled.numbers.few
-read_fits (Acted pass caller op procaps moment) h = (spelled_fits op h.spelled.words, (h.spelled.sealed.few, h.spelled.timed))
-read_fits (Withdrawn pass number signature) h = h.spelled.signed
+-- an event that has a spelling may be written
+pub spellable_fits : (e : Event) → IsSpellableEvent e → HasFittingFields e
+spellable_fits (Registered pass statement signature) h = h.signed
+spellable_fits (Issued pass cited proof grant) h = h.numbers.few
+spellable_fits (Acted pass caller op procaps moment) h = (spelled_fits op h.words, (h.sealed.few, h.timed))
+spellable_fits (Withdrawn pass number signature) h = h.signed
 
 pub reads_what_fits : (bytes : List ℕ) (result : Result Event CodecFault) → AreBytes bytes → GivesReadingOrReports (λ d. d) result (whole_event bytes) → IfOk result HasFittingFields
-reads_what_fits bytes (Ok e) fits h = read_fits e (whole_found bytes e fits h).0
+reads_what_fits bytes (Ok e) fits h = spellable_fits e (whole_found bytes e fits h).0.spelled
 reads_what_fits bytes (Err fault) fits h = tt
+
+-- ---- records
+
+passed_again : (e : Event) → with_pass (event_pass e) (erase e) ≡ e
+passed_again (Registered pass statement signature) = refl
+passed_again (Issued pass cited proof grant) = refl
+passed_again (Acted pass caller op procaps moment) = refl
+passed_again (Withdrawn pass number signature) = refl
+
+-- what is read of an event's record, with its pass, is the event
+pub kept_again : (e d : Event) (pass : ℕ) (payload bytes : List ℕ) → IsRecordOf e pass payload → bytes ≡ payload → ReadsWholeEvent bytes (Ok d) → with_pass pass d ≡ e
+kept_again e d pass payload bytes kept bytes_are read =
+    let found = read.found in
+    let same : erase e ≡ erase d = (apart e d [] [] kept.spelled found.0.spelled (ap (λ (b : List ℕ). b ++ []) (sym kept.written ∙ (sym bytes_are ∙ found.1)))).0 in
+    ap (λ (p : ℕ). with_pass p d) kept.passed ∙ ap (with_pass (event_pass e)) (sym found.0.erased ∙ sym same) ∙ passed_again e
+
+pub recorded : (e : Event) → IsSpellableEvent e → IsRecordOf e (event_pass e) (event_spelling e)
+recorded e spelled = record { spelled = spelled; passed = refl; written = refl }
+
+pub one_record : (e d : Event) (pass : ℕ) (payload : List ℕ) → IsRecordOf e pass payload → IsRecordOf d pass payload → e ≡ d
+one_record e d pass payload first second =
+    let same : erase e ≡ erase d = (apart e d [] [] first.spelled second.spelled (ap (λ (b : List ℕ). b ++ []) (sym first.written ∙ second.written))).0 in
+    sym (passed_again e)
+    ∙ (ap (λ (p : ℕ). with_pass p (erase e)) (sym first.passed ∙ second.passed)
+    ∙ (ap (with_pass (event_pass d)) same ∙ passed_again d))
+
+pub read_again : (e d : Event) (pass : ℕ) (payload : List ℕ) → IsRecordOf e pass payload → whole_event payload ≡ Ok d → with_pass pass d ≡ e
+read_again e d pass payload kept read =
+    let same : erase e ≡ d = ok_is (erase e) d (sym (whole_again e kept.spelled) ∙ (ap whole_event (sym kept.written) ∙ read)) in
+    ap (λ (p : ℕ). with_pass p d) kept.passed ∙ (ap (with_pass (event_pass e)) (sym same) ∙ passed_again e)

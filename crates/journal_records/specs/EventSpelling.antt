@@ -2,9 +2,9 @@
 -- written. The format is this project's own.
 use Rattle.std.specs.Prelude.{◌≡◌, ℕ, List, ◌∷◌, ◌≤◌, length}
 use Rattle.bl_syntax.specs.TimeOrder.{IsMoment}
-use Rattle.access_history.specs.declared.event.Event.{Event}
-use Rattle.access_history.specs.declared.event.Event.TheVariants.{Registered, Withdrawn, Issued, Acted}
-use Rattle.access_history.specs.Passes.{erase}
+use Rattle.journal_records.specs.declared.event.Event.{Event}
+use Rattle.journal_records.specs.declared.event.Event.TheVariants.{Registered, Withdrawn, Issued, Acted}
+use Rattle.journal_records.specs.Passes.{erase}
 use Rattle.record_parts.specs.Fields.{FitsFourBytes}
 use Rattle.record_parts.specs.OperationSpelling.{HasFittingWords}
 use Rattle.record_parts.specs.RecordSpelling.{registered_spelling, IsSpellableRegistered, withdrawn_spelling, IsSpellableWithdrawn, issued_spelling, IsSpellableIssued, acted_spelling, IsSpellableActed}

@@ -1,2 +1,4 @@
 pub mod EventReading
+pub mod EventRecord
 pub mod EventSpelling
+pub mod Passes

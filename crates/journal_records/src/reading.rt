@@ -7,7 +7,7 @@ ghost use Rattle.procap.specs.Procap.{at_end};
 ghost use Rattle.journal_records.specs.EventSpelling.{HasFittingFields};
 ghost use Rattle.journal_records.specs.EventReading.{event_at, whole_event, ReadsWholeEvent};
 
-use access_history::Event;
+use crate::event::Event;
 use bl_syntax::CodecFault;
 use bl_syntax::fields::place;
 use record_parts::{acted_at, issued_at, registered_at, withdrawn_at};

@@ -4,7 +4,7 @@ ghost use Rattle.std.specs.Prelude.{◌≡◌, ◌++◌, OnOk, OnErr};
 ghost use Rattle.bl_syntax.specs.BeginsWith.{BeginsWith};
 ghost use Rattle.journal_records.specs.EventSpelling.{event_spelling, IsSpellableEvent, HasFittingFields};
 
-use access_history::Event;
+use crate::event::Event;
 use bl_syntax::{Bytes, NoMemory};
 use record_parts::{write_acted, write_issued, write_registered, write_withdrawn};
 

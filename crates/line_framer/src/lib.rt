@@ -11,3 +11,4 @@ mod queue;
 mod scanning;
 
 pub use framer::{FeedFault, Framer};
+pub use queue::Queue;

@@ -3,6 +3,7 @@
 //! rows are.
 #![tactic(auto)]
 
+mod connection;
 mod replies;
 mod rows;
 mod stream;

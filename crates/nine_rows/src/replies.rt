@@ -32,16 +32,16 @@ fn run_walk<R: Print + AllocGlobal>(rt: &R, row: &str) -> Result<(), Stop> {
         }
         qids.push(qid_at(row, 3 * place))?;
     }
-    print_reply(rt, row, &Reply::Walk(few(qids.as_slice())))
+    print_reply(rt, tag_of(row), &Reply::Walk(few(qids.as_slice())))
 }
 
 // Prints a reply with one qid.
 fn run_qid<R: Print + AllocGlobal>(rt: &R, row: &str, kind: &str) -> Result<(), Stop> {
     let qid = qid_at(row, 3);
     if kind == "open" {
-        print_reply(rt, row, &Reply::Open(qid))
+        print_reply(rt, tag_of(row), &Reply::Open(qid))
     } else {
-        print_reply(rt, row, &Reply::Attach(qid))
+        print_reply(rt, tag_of(row), &Reply::Attach(qid))
     }
 }
 
@@ -50,32 +50,44 @@ fn run_bytes<R: Print + AllocGlobal>(rt: &R, row: &str, kind: &str) -> Result<()
     let count = number(word(row, 3));
     if kind == "version" {
         let version = bytes_of(rt, word(row, 4))?;
-        print_reply(rt, row, &Reply::Version(count, few(version.as_slice())))
+        print_reply(
+            rt,
+            tag_of(row),
+            &Reply::Version(count, few(version.as_slice())),
+        )
     } else if kind == "read" {
         let bytes = bytes_of(rt, word(row, 3))?;
-        print_reply(rt, row, &Reply::Read(few(bytes.as_slice())))
+        print_reply(rt, tag_of(row), &Reply::Read(few(bytes.as_slice())))
     } else if kind == "error" {
         let ename = bytes_of(rt, word(row, 3))?;
-        print_reply(rt, row, &Reply::Error(few(ename.as_slice())))
+        print_reply(rt, tag_of(row), &Reply::Error(few(ename.as_slice())))
     } else if kind == "write" {
-        print_reply(rt, row, &Reply::Write(count))
+        print_reply(rt, tag_of(row), &Reply::Write(count))
     } else if kind == "flush" {
-        print_reply(rt, row, &Reply::Flush)
+        print_reply(rt, tag_of(row), &Reply::Flush)
     } else {
-        print_reply(rt, row, &Reply::Clunk)
+        print_reply(rt, tag_of(row), &Reply::Clunk)
     }
 }
 
-// Prints the bytes of a reply, whose tag is the second word of its row.
-fn print_reply<R: Print + AllocGlobal>(rt: &R, row: &str, reply: &Reply<'_>) -> Result<(), Stop>
+/// Prints the bytes of a reply with this tag.
+pub(crate) fn print_reply<R: Print + AllocGlobal>(
+    rt: &R,
+    tag: u16,
+    reply: &Reply<'_>,
+) -> Result<(), Stop>
     requires { IsWritableReply (reply_view reply.now) }
 {
-    let tag = word(row, 1).parse::<u16>().unwrap_or(0);
     let mut out = Bytes::new(rt.alloc());
     write_reply(tag, reply, &mut out)?;
     let digits = hex::encode(rt.alloc(), out.as_slice())?;
     println!(rt; "{digits}")?;
     Ok(())
+}
+
+// The tag of a row's reply.
+fn tag_of(row: &str) -> u16 {
+    word(row, 1).parse::<u16>().unwrap_or(0)
 }
 
 // At most 65,535 of these.

@@ -1,6 +1,7 @@
 //! A row: its kind, a number, and words.
 
 use crate::Stop;
+use crate::connection::run_connection;
 use crate::replies::run_reply;
 use crate::stream::Stream;
 
@@ -10,6 +11,9 @@ pub(crate) fn run_row<R: Print + AllocGlobal>(rt: &R, row: &str) -> Result<(), S
     let kind = word(row, 0);
     if kind == "reply" {
         return run_reply(rt, row);
+    }
+    if kind == "connection" {
+        return run_connection(rt, row);
     }
     let mut stream = Stream::new(rt.alloc(), number(word(row, 1)));
     for word in row.split(' ').skip(2) {

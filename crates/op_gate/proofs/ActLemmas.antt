@@ -14,7 +14,7 @@ use Rattle.file_world.specs.Effect.{refusal, reply}
 use Rattle.file_world.specs.World.{World}
 use Rattle.world_state.specs.State.{WorldState, ReservesWorld}
 use Rattle.access_history.specs.declared.event.Addition.TheVariants as additions
-use Rattle.access_history.specs.declared.event.Event.TheVariants.{Acted}
+use Rattle.journal_records.specs.declared.event.Event.TheVariants.{Acted}
 use Rattle.access_history.specs.declared.reply.Denial.{Denial}
 use Rattle.access_history.specs.declared.reply.StepReply.TheVariants as replies
 use Rattle.access_history.specs.declared.request.StepRequest.TheVariants.{Act}

@@ -5,8 +5,8 @@ use Rattle.std.specs.List.{AllByRecursion}
 use Rattle.bl_syntax.specs.Statement.{StatementView}
 use Rattle.proof_verifier.specs.Cited.{AreCited}
 use Rattle.proof_verifier.specs.CheckedView.{CheckedView, IsChecked}
-use Rattle.access_history.specs.declared.event.Event.{Event}
-use Rattle.access_history.specs.declared.event.Event.TheVariants.{Registered, Withdrawn, Issued}
+use Rattle.journal_records.specs.declared.event.Event.{Event}
+use Rattle.journal_records.specs.declared.event.Event.TheVariants.{Registered, Withdrawn, Issued}
 use Rattle.access_history.specs.declared.request.StepRequest.{StepRequest}
 use Rattle.access_history.specs.declared.request.StepRequest.TheVariants as requests
 use Rattle.access_history.specs.declared.reply.StepReply.{StepReply}

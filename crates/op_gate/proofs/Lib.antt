@@ -4,6 +4,7 @@ pub mod BaseDamageLemmas
 pub mod CheckLemmas
 pub mod CitingLemmas
 pub mod DecisionLemmas
+pub mod FittingLemmas
 pub mod IssuedLemmas
 pub mod KeepLemmas
 pub mod NeedLemmas

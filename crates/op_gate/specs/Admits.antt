@@ -16,9 +16,9 @@ use Rattle.policy_statement.specs.declared.registry.RegisterFault.TheVariants as
 use Rattle.policy_statement.specs.declared.registry.WithdrawFault.{WithdrawFault}
 use Rattle.policy_statement.specs.declared.registry.WithdrawFault.TheVariants as withdrawals
 use Rattle.access_history.specs.declared.event.Addition.TheVariants as additions
-use Rattle.access_history.specs.declared.event.Event.{Event}
+use Rattle.journal_records.specs.declared.event.Event.{Event}
 use Rattle.access_history.specs.declared.event.Issue.{Issue}
-use Rattle.access_history.specs.declared.event.Event.TheVariants.{Registered, Withdrawn, Issued}
+use Rattle.journal_records.specs.declared.event.Event.TheVariants.{Registered, Withdrawn, Issued}
 use Rattle.bl_syntax.specs.Citable.{AreCitable}
 use Rattle.access_history.specs.Books.{Book}
 use Rattle.access_history.specs.Citing.{AreFound, IsGrantedFrom, issued_grant, numbers_of}

@@ -5,8 +5,8 @@ use Rattle.bl_syntax.specs.FirstFailing.{IsFirstFailing}
 use Rattle.procap.specs.declared.procap.Procap.{Procap}
 use Rattle.file_world.specs.declared.operation.Op.{Op}
 use Rattle.file_world.specs.Effect.{refusal}
-use Rattle.access_history.specs.declared.event.Event.{Event}
-use Rattle.access_history.specs.declared.event.Event.TheVariants.{Registered, Withdrawn, Issued, Acted}
+use Rattle.journal_records.specs.declared.event.Event.{Event}
+use Rattle.journal_records.specs.declared.event.Event.TheVariants.{Registered, Withdrawn, Issued, Acted}
 use Rattle.access_history.specs.Admission.{IsAdmitted}
 use Rattle.bl_syntax.specs.Statement.{StatementView}
 use Rattle.access_history.specs.Authority.{Authority, CanRegister, IsSignedStatement, IsSignedWithdrawal, sayings}

@@ -6,8 +6,8 @@ use Rattle.bl_syntax.specs.Names.{is_principal_name}
 use Rattle.bl_syntax.specs.Statement.{IsStatement}
 use Rattle.file_world.specs.Effect.{IsOperation}
 use Rattle.file_world.specs.World.{IsWorld}
-use Rattle.access_history.specs.declared.event.Event.{Event}
-use Rattle.access_history.specs.declared.event.Event.TheVariants.{Registered, Acted}
+use Rattle.journal_records.specs.declared.event.Event.{Event}
+use Rattle.journal_records.specs.declared.event.Event.TheVariants.{Registered, Acted}
 use Rattle.access_history.specs.Authority.{Authority, sayings}
 use Rattle.access_history.specs.Base.{BaseView}
 use Rattle.access_history.specs.Lawful.{IsLawfulBase}

@@ -1,6 +1,6 @@
 -- What a decision of the gate says (this project's own).
 use Rattle.std.specs.Prelude.{◌≡◌, ℕ, ℤ, Option, Some, None}
-use Rattle.access_history.specs.declared.event.Event.{Event}
+use Rattle.journal_records.specs.declared.event.Event.{Event}
 use Rattle.access_history.specs.Base.{BaseView}
 use Rattle.op_gate.specs.declared.gate.Decision.{Decision}
 use Rattle.op_gate.specs.declared.gate.Decision.TheVariants.{Answer, Keep, NoMemory}

@@ -6,7 +6,7 @@ use Rattle.file_world.specs.declared.operation.Op.{Op}
 use Rattle.file_world.specs.declared.refusal.OpFault.{OpFault}
 use Rattle.file_world.specs.declared.refusal.OpFault.TheVariants as faults
 use Rattle.file_world.specs.Needs.{needs}
-use Rattle.access_history.specs.declared.event.Event.{Event}
+use Rattle.journal_records.specs.declared.event.Event.{Event}
 use Rattle.policy_statement.specs.declared.registry.WithdrawFault.{WithdrawFault}
 use Rattle.policy_statement.specs.declared.registry.WithdrawFault.TheVariants as withdrawals
 use Rattle.access_history.specs.declared.reply.Rejection.TheVariants as rejections

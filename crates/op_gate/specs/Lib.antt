@@ -9,4 +9,5 @@ pub mod Decides
 pub mod Decision
 pub mod DecisionCode
 pub mod Issued
+pub mod Recording
 pub mod Rejection

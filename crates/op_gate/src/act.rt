@@ -10,9 +10,10 @@ ghost use Rattle.op_gate.specs.Decision.{IsPlanned, IsDenial, plan_of_fault};
 
 use crate::cause::denial_cause;
 use crate::planned::{DecisionPlan, Pending};
-use access_history::{Addition, Denial, Event, History, Procaps, StepReply};
+use access_history::{Addition, Denial, History, StepReply};
 use bl_syntax::{Goal, Principal};
 use file_world::{Op, OpFault};
+use journal_records::{Event, Procaps};
 use procap::Procap;
 use std::alloc::Global;
 

@@ -1,7 +1,7 @@
 //! Events that were read from an area: each is tested as if it came now, at its own moment.
 
 ghost use Rattle.std.specs.Prelude.{◌≡◌, ◌↔◌, ◌<◌, ◌-◌, ◌^◌, ◌≤◌, ℕ, List, IfErr, IfOk, IsTrue, MatchOption, OnOk};
-ghost use Rattle.access_history.specs.declared.event.Event.TheVariants as events;
+ghost use Rattle.journal_records.specs.declared.event.Event.TheVariants as events;
 ghost use Rattle.bl_syntax.specs.Grant.{MayName};
 ghost use Rattle.proof_verifier.specs.Cited.{AreCited};
 ghost use Rattle.access_history.specs.Citing.{issued_grant, numbers_of};
@@ -16,12 +16,13 @@ use crate::cite::{Among, Citation, cite};
 use crate::damage::{AdmitFault, Damage};
 use crate::decide::{issue_parts, pend_issue, registered, withdrawn};
 use crate::planned::{DecisionPlan, Pending};
-use access_history::{Event, History, Procaps, is_grant_of};
+use access_history::{History, is_grant_of};
 use bl_syntax::limits::MOST_EVENTS;
 use bl_syntax::{
     Bytes, Grant, Numbers, Principal, Statement, are_citable, copy_numbers, is_moment,
 };
 use file_world::Op;
+use journal_records::{Event, Procaps};
 use policy_statement::{RegisterFault as RegistryFault, Registered, WithdrawFault};
 use procap::Procap;
 use proof_term::ProofTree;

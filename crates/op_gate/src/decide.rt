@@ -16,8 +16,9 @@ ghost use Rattle.op_gate.specs.Rejection.{rejection_of};
 
 use crate::cite::{cited_numbers, first_moved};
 use crate::planned::{DecisionPlan, Pending};
-use access_history::{Addition, Event, History, Issue, Rejection, StepReply};
+use access_history::{Addition, History, Issue, Rejection, StepReply};
 use bl_syntax::{Bytes, Grant, NoMemory, Numbers, Principal, Statement};
+use journal_records::Event;
 use policy_statement::{RegisterFault as RegistryFault, WithdrawFault};
 use procap::Procap;
 use proof_verifier::Checked;

@@ -3,6 +3,7 @@
 ghost use Rattle.std.specs.Prelude.{◌≡◌, ◌<◌, ◌-◌, ◌^◌, ◌++◌, ◌∷◌, [], Some, None, IfOk, IfSome, IsSome, MatchOption, OnOk, OnErr, MatchResult, length};
 ghost use Rattle.op_gate.specs.Decision.{IsPlanned};
 ghost use Rattle.access_history.specs.WellFormed.{IsWellFormed};
+ghost use Rattle.journal_records.specs.EventSpelling.{HasFittingFields};
 
 use crate::act::{decide_act, deny};
 use crate::admit::{admit, reserve_next};
@@ -10,10 +11,11 @@ use crate::base::test_base;
 use crate::cite::{Among, Citation, cite};
 use crate::damage::AdmitFault;
 use crate::decide::{decide_issue, decide_register, decide_show, decide_withdraw, issued_procap};
-use crate::planned::{DecisionPlan, Pending};
-use access_history::{Base, Denial, Event, History, Procaps, StepReply, StepRequest};
+use crate::planned::{DecisionPlan, Pending, Recorded};
+use access_history::{Base, Denial, History, StepReply, StepRequest};
 use bl_syntax::{NoMemory, Principal};
 use file_world::Op;
+use journal_records::{Event, EventRecord, Procaps};
 use policy_statement::Keyring;
 use procap::{Procap, SealKey};
 use std::alloc::Global;
@@ -26,7 +28,7 @@ pub enum Decision {
     Answer(StepReply),
     /// The answer, and an event is pending.
     Keep(StepReply),
-    /// There was no memory, and nothing was decided.
+    /// There was no memory, and nothing is pending.
     NoMemory,
 }
 
@@ -34,29 +36,41 @@ pub enum Decision {
 #[derive(Drop)]
 pub struct Gate {
     history: History,
-    pending: Option<Pending>,
+    pending: Option<Recorded>,
 }
 
 impl Model for Gate {
     ghost use Rattle.std.specs.Prelude.{⊤, MatchOption};
     ghost use Rattle.std.specs.Option.{option_map};
-    ghost use Rattle.op_gate.specs.Decision.{GateView, CanKeep};
+    ghost use Rattle.op_gate.specs.Decision.{GateView};
     ghost use Rattle.op_gate.specs.DecisionCode.{gate_code};
+    ghost use Rattle.op_gate.specs.Recording.{CanKeepRecorded};
 
     ghost Value = { GateView };
 
     ghost coded = { gate_code };
 
-    ghost view = { λ g. record { key = g.history.key; ring = g.history.ring; base = g.history.base; events = g.history.events; pending = option_map (λ p. p.event) g.pending } };
+    ghost view = { λ g. record { key = g.history.key; ring = g.history.ring; base = g.history.base; events = g.history.events; pending = option_map (λ p. p.kept) g.pending } };
 
-    ghost invariant = { λ g. MatchOption g.pending ⊤ (CanKeep g.history) };
+    ghost invariant = { λ g. MatchOption g.pending ⊤ (CanKeepRecorded g.history) };
 }
 
 // Replaces what was pending by the event.
-fn put(place: &mut Option<Pending>, pending: Pending)
+fn put(place: &mut Option<Recorded>, pending: Recorded)
     ensures { place.new ≡ Some pending }
 {
     *place = Some(pending);
+}
+
+// The event with its record.
+fn with_record(alloc: Global, pending: Pending) -> Result<Recorded, NoMemory>
+    requires { HasFittingFields pending.event }
+    ensures { IfOk result (λ recorded. recorded ≡ record { pending = pending; kept = pending.event }) }
+{
+    match EventRecord::of(alloc, &pending.event) {
+        Ok(kept) => Ok(Recorded { pending, kept }),
+        Err(refused) => Err(refused),
+    }
 }
 
 // The answer, or out of memory.
@@ -215,10 +229,13 @@ impl Gate {
         self.history.lemma_is_lawful();
         match decide_request(alloc, &mut self.history, pass, request, clock) {
             DecisionPlan::Answer(reply) => Decision::Answer(reply),
-            DecisionPlan::Keep(reply, pending) => {
-                put(&mut self.pending, pending);
-                Decision::Keep(reply)
-            }
+            DecisionPlan::Keep(reply, pending) => match with_record(alloc, pending) {
+                Ok(recorded) => {
+                    put(&mut self.pending, recorded);
+                    Decision::Keep(reply)
+                }
+                Err(_) => Decision::NoMemory,
+            },
             DecisionPlan::NoMemory => Decision::NoMemory,
         }
     }
@@ -239,10 +256,13 @@ impl Gate {
         self.forget();
         match reserve_next(&mut self.history) {
             Ok(()) => match admit(alloc, &mut self.history, event) {
-                Ok(pending) => {
-                    put(&mut self.pending, pending);
-                    Ok(())
-                }
+                Ok(pending) => match with_record(alloc, pending) {
+                    Ok(recorded) => {
+                        put(&mut self.pending, recorded);
+                        Ok(())
+                    }
+                    Err(_) => Err(AdmitFault::NoMemory),
+                },
                 Err(fault) => Err(fault),
             },
             Err(fault) => Err(fault),
@@ -270,13 +290,13 @@ impl Gate {
         }
     }
 
-    /// The event that was decided and is not kept yet; none exactly if nothing is pending. It may come next.
-    pub fn pending(&self) -> Option<&Event>
+    /// The record of the event that was decided and is not kept yet; none exactly if nothing is pending. It may come next.
+    pub fn pending(&self) -> Option<&EventRecord>
         ensures event { MatchOption result (self.now.pending ≡ None) (λ event. self.now.pending ≡ Some event.now) }
         ensures may_follow { IfSome result (λ event. MayFollow (authority_with self.now.key self.now.ring) (replay self.now.base self.now.events) event.now) }
     {
         match &self.pending {
-            Some(pending) => Some(&pending.event),
+            Some(recorded) => Some(&recorded.kept),
             None => None,
         }
     }
@@ -287,9 +307,10 @@ impl Gate {
         requires counted { (replay self.old.base self.old.events).count < 2 ^ 48 - 1 }
         ensures kept { IfSome self.old.pending (λ event. self.new ≡ record self.old { events = self.old.events ++ event ∷ []; pending = None }) }
     {
-        if let Some(pending) = self.pending.take() {
+        if let Some(recorded) = self.pending.take() {
+            let Recorded { pending, kept } = recorded;
             let Pending { event, addition } = pending;
-            self.history.keep(event, addition);
+            self.history.keep(event, kept, addition);
         }
     }
 

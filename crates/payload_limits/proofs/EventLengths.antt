@@ -18,8 +18,8 @@ use Rattle.proof_verifier.specs.declared.cites.Cite.{Cite}
 use Rattle.file_world.specs.declared.operation.Op.{Op}
 use Rattle.file_world.specs.declared.operation.Op.TheVariants.{Read, Write, Truncate, List as ListOf, Lookup, Create, Mkdir, Unlink, Rename, Getattr, Setattr, Delattr, Chown}
 use Rattle.file_world.specs.Needs.{slots, bytes_to_write}
-use Rattle.access_history.specs.declared.event.Event.{Event}
-use Rattle.access_history.specs.declared.event.Event.TheVariants.{Registered, Withdrawn, Issued, Acted}
+use Rattle.journal_records.specs.declared.event.Event.{Event}
+use Rattle.journal_records.specs.declared.event.Event.TheVariants.{Registered, Withdrawn, Issued, Acted}
 use Rattle.access_history.specs.Base.{BaseView}
 use Rattle.access_history.specs.Citing.{numbers_of}
 use Rattle.access_history.specs.History.{authority_with}

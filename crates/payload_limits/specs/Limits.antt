@@ -1,7 +1,7 @@
 -- How long the payload of an event is that may come next in a history (this project's own).
 use Rattle.std.specs.Prelude.{◌≤◌, ℕ, List, length}
 use Rattle.policy_statement.specs.Ring.{KeyView}
-use Rattle.access_history.specs.declared.event.Event.{Event}
+use Rattle.journal_records.specs.declared.event.Event.{Event}
 use Rattle.access_history.specs.Base.{BaseView}
 use Rattle.access_history.specs.History.{authority_with}
 use Rattle.access_history.specs.Lawful.{MayFollow}

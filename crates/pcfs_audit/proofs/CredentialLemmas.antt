@@ -17,8 +17,8 @@ use Rattle.procap.specs.declared.procap.Procap.{Procap}
 use Rattle.proof_term.specs.Proof.{ProofView}
 use Rattle.file_world.specs.declared.operation.Op.{Op}
 use Rattle.access_history.specs.declared.event.Issue.{Issue}
-use Rattle.access_history.specs.declared.event.Event.{Event}
-use Rattle.access_history.specs.declared.event.Event.TheVariants.{Registered, Withdrawn, Issued, Acted}
+use Rattle.journal_records.specs.declared.event.Event.{Event}
+use Rattle.journal_records.specs.declared.event.Event.TheVariants.{Registered, Withdrawn, Issued, Acted}
 use Rattle.access_history.specs.Authority.{Authority, CanRegister, sayings}
 use Rattle.access_history.specs.Base.{BaseView}
 use Rattle.access_history.specs.Books.{book_of, live_book}

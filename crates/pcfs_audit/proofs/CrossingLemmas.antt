@@ -34,7 +34,7 @@ use Rattle.sha2.proofs.block256.Core256.TheSendSync as core256
 use Rattle.file_world.proofs.operation.Op.TheSendSync as op
 use Rattle.world_state.proofs.world.World.TheSendSync as world
 use Rattle.access_history.specs.contracts.base.Base as Base
-use Rattle.access_history.specs.contracts.event.Event as Event
+use Rattle.journal_records.specs.contracts.event.Event as Event
 
 ruleset marks = (sequence.the_sync, principal.the_sync, text.the_sync, word.the_sync, short.the_sync, constraint.the_sync, node.the_sync, perm.the_sync, sort.the_sync, state.the_sync, term.the_sync, point.the_sync, point.the_field_sync, goal.the_sync, grant.the_sync)
 

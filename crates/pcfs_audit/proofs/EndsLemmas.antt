@@ -8,8 +8,8 @@ use Rattle.bl_syntax.proofs.GrantLemmas.{AllByRecursion-push}
 use Rattle.policy_statement.specs.Registered.{RegisteredView}
 use Rattle.policy_statement.specs.Withdrawal.{is_withdrawn, marked}
 use Rattle.policy_statement.proofs.WithdrawalLemmas.{is_withdrawn-push, length-marked}
-use Rattle.access_history.specs.declared.event.Event.{Event}
-use Rattle.access_history.specs.declared.event.Event.TheVariants.{Registered, Withdrawn, Issued, Acted}
+use Rattle.journal_records.specs.declared.event.Event.{Event}
+use Rattle.journal_records.specs.declared.event.Event.TheVariants.{Registered, Withdrawn, Issued, Acted}
 use Rattle.access_history.specs.Base.{BaseView}
 use Rattle.access_history.specs.Replay.{next_state, replay}
 use Rattle.access_history.proofs.ReplayLemmas.{replay-more}

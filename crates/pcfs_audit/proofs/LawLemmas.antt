@@ -10,9 +10,9 @@ use Rattle.proof_term.specs.Limits.{IsKeptProof}
 use Rattle.proof_verifier.specs.declared.cites.Cite.{Cite}
 use Rattle.proof_verifier.specs.Cited.{statements_of}
 use Rattle.proof_verifier.proofs.IsGrantedLemmas.{granted}
-use Rattle.access_history.specs.declared.event.Event.{Event}
+use Rattle.journal_records.specs.declared.event.Event.{Event}
 use Rattle.access_history.specs.declared.event.Issue.{Issue}
-use Rattle.access_history.specs.declared.event.Event.TheVariants.{Registered, Withdrawn, Issued, Acted}
+use Rattle.journal_records.specs.declared.event.Event.TheVariants.{Registered, Withdrawn, Issued, Acted}
 use Rattle.access_history.specs.Authority.{Authority, MayBeRegistered}
 use Rattle.access_history.specs.Base.{BaseView}
 use Rattle.access_history.specs.Books.{book_of, whole_book}

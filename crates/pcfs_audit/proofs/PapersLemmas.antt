@@ -10,8 +10,8 @@ use Rattle.bl_syntax.proofs.GrantLemmas.{Contains-head}
 use Rattle.policy_statement.specs.Registered.{RegisteredView}
 use Rattle.policy_statement.specs.Withdrawal.{is_withdrawn}
 use Rattle.access_history.specs.declared.event.Issue.{Issue}
-use Rattle.access_history.specs.declared.event.Event.{Event}
-use Rattle.access_history.specs.declared.event.Event.TheVariants.{Registered, Withdrawn, Issued, Acted}
+use Rattle.journal_records.specs.declared.event.Event.{Event}
+use Rattle.journal_records.specs.declared.event.Event.TheVariants.{Registered, Withdrawn, Issued, Acted}
 use Rattle.access_history.specs.Authority.{sayings}
 use Rattle.access_history.specs.Base.{BaseView}
 use Rattle.access_history.specs.Replay.{next_state, replay}

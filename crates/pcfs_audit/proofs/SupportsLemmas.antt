@@ -14,7 +14,7 @@ use Rattle.issue_standings.specs.declared.standing.GrantStanding.TheVariants as 
 use Rattle.issue_standings.specs.Bearing.{BearingView, IsUnissued}
 use Rattle.issue_standings.specs.GrantStanding.{after, after_issue, gone_by, standing_of}
 use Rattle.issue_standings.proofs.StandingLemmas.{find_nothing, find_same, not_gone, standing-unissued, standing_of-same}
-use Rattle.access_history.specs.declared.event.Event.{Event}
+use Rattle.journal_records.specs.declared.event.Event.{Event}
 use Rattle.access_history.specs.declared.event.Issue.{Issue}
 use Rattle.access_history.specs.Base.{BaseView}
 use Rattle.access_history.specs.Gone.{bearing, bearings, gone, gone_by_issues, gone_by_names, gone_naming}

@@ -4,8 +4,8 @@ use Rattle.bl_syntax.specs.Statement.{StatementView}
 use Rattle.policy_statement.specs.Messages.{withdraw_message}
 use Rattle.policy_statement.specs.Registered.{RegisteredView}
 use Rattle.policy_statement.specs.Withdrawal.{is_withdrawn}
-use Rattle.access_history.specs.declared.event.Event.{Event}
-use Rattle.access_history.specs.declared.event.Event.TheVariants.{Registered, Withdrawn}
+use Rattle.journal_records.specs.declared.event.Event.{Event}
+use Rattle.journal_records.specs.declared.event.Event.TheVariants.{Registered, Withdrawn}
 use Rattle.access_history.specs.Base.{BaseView}
 use Rattle.access_history.specs.Numbered.{IsNumbered}
 use Rattle.access_history.specs.Replay.{replay}

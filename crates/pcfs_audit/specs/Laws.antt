@@ -8,7 +8,7 @@ use Rattle.proof_term.specs.Limits.{IsKeptProof}
 use Rattle.proof_verifier.specs.declared.cites.Cite.{Cite}
 use Rattle.proof_verifier.specs.Cited.{AreCited, statements_of}
 use Rattle.proof_verifier.specs.Verdict.{verdict}
-use Rattle.access_history.specs.declared.event.Event.{Event}
+use Rattle.journal_records.specs.declared.event.Event.{Event}
 use Rattle.access_history.specs.declared.event.Issue.{Issue}
 use Rattle.access_history.specs.Authority.{Authority}
 use Rattle.access_history.specs.Base.{BaseView}

@@ -6,7 +6,7 @@ use Rattle.std.specs.Borrow.{Bor}
 use Rattle.std.specs.List.{AllByRecursion}
 use Rattle.bl_syntax.specs.Grant.{GrantView}
 use Rattle.access_history.specs.declared.event.Issue.{Issue}
-use Rattle.access_history.specs.declared.event.Event.{Event}
+use Rattle.journal_records.specs.declared.event.Event.{Event}
 use Rattle.access_history.specs.Authority.{sayings}
 use Rattle.access_history.specs.Base.{BaseView}
 use Rattle.access_history.specs.Replay.{next_state, replay}

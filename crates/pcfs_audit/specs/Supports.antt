@@ -6,7 +6,7 @@ use Rattle.bl_syntax.specs.Equality.{grant_eq}
 use Rattle.bl_syntax.specs.Grant.{GrantView}
 use Rattle.policy_statement.specs.Withdrawal.{is_withdrawn}
 use Rattle.issue_standings.specs.Bearing.{BearingView}
-use Rattle.access_history.specs.declared.event.Event.{Event}
+use Rattle.journal_records.specs.declared.event.Event.{Event}
 use Rattle.access_history.specs.declared.event.Issue.{Issue}
 use Rattle.access_history.specs.Base.{BaseView}
 use Rattle.access_history.specs.Gone.{bearings, gone, gone_by_issues}

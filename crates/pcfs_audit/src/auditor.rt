@@ -1,7 +1,7 @@
 //! The auditor: it follows the events in order, over a world of its own, up to the first with which something is wrong.
 
 ghost use Rattle.std.specs.Prelude.{◌≡◌, ◌<◌, ◌+◌, ◌-◌, ◌^◌, [], ℕ, false, IfOk, IsTrue, OnOk, Some, None};
-ghost use Rattle.access_history.specs.declared.event.Event.TheVariants as events;
+ghost use Rattle.journal_records.specs.declared.event.Event.TheVariants as events;
 ghost use Rattle.access_history.specs.Authority.{Authority};
 ghost use Rattle.pcfs_audit.specs.Dossier.{IsDossier};
 ghost use Rattle.pcfs_audit.specs.Following.{AuditsWith, FindsWith, HasAudited};
@@ -11,9 +11,10 @@ use crate::credentials::Credentials;
 use crate::dossier::Dossier;
 use crate::report::{Finding, ReportRow, ReportRows, is_wrong};
 use crate::supports::Supports;
-use access_history::{Base, Event};
+use access_history::Base;
 use bl_syntax::{NoMemory, Principal, Sequence};
 use file_world::Op;
+use journal_records::Event;
 use procap::Procap;
 use std::alloc::Global;
 use world_state::World;

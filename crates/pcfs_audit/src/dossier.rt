@@ -8,8 +8,9 @@ ghost use Rattle.pcfs_audit.specs.Papers.{ArePapers, shown};
 use crate::digests::statement_digests;
 use crate::firsts::{Firsts, firsts_of};
 use crate::papers::Papers;
-use access_history::{Base, Event};
+use access_history::Base;
 use bl_syntax::NoMemory;
+use journal_records::Event;
 use procap::SealKey;
 use std::alloc::Global;
 

@@ -2,14 +2,15 @@
 //! statements and issues there were before each event. Nothing of them is copied.
 
 ghost use Rattle.std.specs.Prelude.{◌≡◌, ◌∷◌, ◌++◌, [], List, IfOk};
-ghost use Rattle.access_history.specs.declared.event.Event.{Event as EventView};
+ghost use Rattle.journal_records.specs.declared.event.Event.{Event as EventView};
 ghost use Rattle.access_history.specs.Authority.{sayings};
 ghost use Rattle.access_history.specs.Base.{BaseView};
 ghost use Rattle.pcfs_audit.specs.Papers.{ArePapers, grants_in, shown};
 
 use crate::ends::{Ends, add_open_end, base_ends, end_statement, has_ended};
-use access_history::{Base, Event};
+use access_history::Base;
 use bl_syntax::{Grant, NoMemory, Statement};
+use journal_records::Event;
 use std::alloc::Global;
 
 /// How many statements and issues there are.

@@ -10,8 +10,8 @@ use crate::digests::tag_digest;
 use crate::dossier::Dossier;
 use crate::ends::{first_end, is_past};
 use crate::grants::row_of;
-use access_history::Event;
 use bl_syntax::{Grant, NoMemory};
+use journal_records::Event;
 use procap::Procap;
 use std::alloc::Global;
 

@@ -3,7 +3,7 @@ use Rattle.std.proofs.Common.{◌≡◌, ◌<◌, ◌≤◌, ◌+◌, ℕ, List,
 use Rattle.std.specs.List.{slice_get}
 use Rattle.std.proofs.lemmas.Option.{slice_get_read}
 use Rattle.pcfs_ports.specs.Observable.{HoldsSome, with_back}
-use Rattle.access_history.specs.declared.event.Event.{Event}
+use Rattle.journal_records.specs.declared.event.Event.{Event}
 use Rattle.access_history.specs.History.{HistoryView}
 use Rattle.history_table.specs.declared.filter.Filter.{Filter}
 use Rattle.history_table.specs.Cursor.{CursorView, state_before}
@@ -25,6 +25,10 @@ pub stands_before : (h : HistoryView) (cursor : CursorView) (place : ℕ) (event
 stands_before h cursor place events event at same below read =
     subst (λ (c : CursorView). slice_get c.history.events c.passed ≡ Some event) (sym at)
     (subst (λ (es : List Event). slice_get es place ≡ Some event) same (slice_get_read events (length events) place event refl below read))
+
+-- an equal event is the one read there too
+pub read_again : (events : List Event) (place : ℕ) (event given : Event) → given ≡ event → event ≡ get_or events place event → given ≡ get_or events place given
+read_again events place event given same read = subst (λ (e : Event). e ≡ get_or events place e) (sym same) read
 
 module _ (json : Bool) (filter : Filter) (h : HistoryView) (start : Option (List ℕ)) where
   -- of the table the text of the first events is out, or on its way

@@ -15,13 +15,14 @@ ghost use Rattle.pcfs_history.specs.Outbox.{GoesOut};
 ghost use Rattle.pcfs_history.specs.Written.{WritesSomeWhoMay, WritesWhoMay, admitting_text, admitting_texts, event_text, number_text, one_rest_text, rest_text, rests_text, shown_text, table_text};
 
 use crate::words::Question;
-use access_history::{Event, History};
+use access_history::History;
 use bl_syntax::{Bytes, NoMemory};
 use history_table::{Filter, Rest, Row, RowCursor, resting_on, who_may};
 use history_text::{
     Basis, issue_numbered, put_admitting_lines, put_admitting_object, put_event_lines,
     put_event_object, put_resting_lines, put_resting_object,
 };
+use journal_records::Event;
 use pcfs_ports::{Failed, Sink, write_all};
 use std::alloc::Global;
 
@@ -164,15 +165,9 @@ pub fn write_history<O: Sink>(
     let mut cursor = RowCursor::new(alloc, history, key)?;
     let events = history.events();
     for place in 0..events.len() {
-        write_event(
-            alloc,
-            &mut made,
-            json,
-            filter,
-            &cursor,
-            &events[place],
-            output,
-        )?;
+        let kept = &events[place];
+        let event = kept.event(alloc)?;
+        write_event(alloc, &mut made, json, filter, &cursor, &event, output)?;
         cursor = cursor.pass(alloc)?;
     }
     Ok(flush(&mut made, output)?)

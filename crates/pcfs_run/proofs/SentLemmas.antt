@@ -26,13 +26,15 @@ use Rattle.procap.specs.contracts.sealing.SealKey as SealKey
 use Rattle.policy_statement.specs.contracts.ring.Keyring as Keyring
 use Rattle.policy_statement.specs.contracts.registry.Registry as Registry
 use Rattle.issue_standings.specs.contracts.standings.Standings as Standings
-use Rattle.access_history.specs.contracts.event.Event as Event
+use Rattle.journal_records.specs.contracts.event.Event as Event
+use Rattle.journal_records.specs.contracts.record.EventRecord as EventRecord
 use Rattle.access_history.specs.contracts.event.Addition as Addition
 use Rattle.access_history.specs.contracts.event.Issue as Issue
 use Rattle.access_history.specs.contracts.base.Base as Base
 use Rattle.access_history.specs.contracts.history.History as History
 use Rattle.world_state.specs.contracts.world.World as World
 use Rattle.op_gate.specs.contracts.planned.Pending as Pending
+use Rattle.op_gate.specs.contracts.planned.Recorded as RecordedEvent
 use Rattle.op_gate.specs.contracts.gate.Gate as Gate
 use Rattle.pcfs_ports.specs.declared.disk.Disk as Disk
 use Rattle.pcfs_store.specs.contracts.checkpoints.Checkpoint as Checkpoint
@@ -73,8 +75,8 @@ standings_send = search (sendable, crosses, maps.crosses) depth 100 fits 20000
 world_send : IsSend World.the_row
 world_send = search (sendable, crosses, maps.crosses) depth 100 fits 20000
 
-event_send : IsSend Event.the_row
-event_send = search (sendable, crosses, statement_send, tree_send, op.the_field_send, sequence.the_send, grant.the_send, procap.the_send, principal.the_send) depth 100 fits 20000
+record_send : IsSend EventRecord.the_row
+record_send = search (sendable, crosses, sequence.the_send) depth 100 fits 20000
 
 issue_send : IsSend Issue.the_row
 issue_send = search (sendable, crosses, tree_send) depth 100 fits 20000
@@ -95,7 +97,7 @@ history_inside = declared_send history.the_type (
     (
       search (sendable, crosses, base_send) depth 100 fits 20000,
       (
-        search (sendable, as_row_send, crosses, event_send) depth 100 fits 20000,
+        search (sendable, as_row_send, crosses, record_send) depth 100 fits 20000,
         (
           search (sendable, crosses, world_send) depth 100 fits 20000,
           (
@@ -126,11 +128,14 @@ event_field = search (sendable, crosses, statement_send, tree_send, op.the_field
 addition_field : IsSend Addition.the_field.row
 addition_field = search (sendable, crosses, statement_send, tree_send) depth 100 fits 20000
 
-pending_send : IsSend Pending.the_row
-pending_send = search (sendable, crosses, event_field, addition_field) depth 100 fits 20000
+pending_field : IsSend Pending.the_field.row
+pending_field = search (sendable, crosses, event_field, addition_field) depth 100 fits 20000
+
+recorded_send : IsSend RecordedEvent.the_row
+recorded_send = search (sendable, crosses, pending_field, record_send) depth 100 fits 20000
 
 pub gate_send : IsSend Gate.the_row
-gate_send = search (sendable, crosses, history_send, pending_send) depth 100 fits 20000
+gate_send = search (sendable, crosses, history_send, recorded_send) depth 100 fits 20000
 
 checkpoint_send : IsSend Checkpoint.the_row
 checkpoint_send = search (sendable, crosses) depth 100 fits 20000

@@ -5,7 +5,7 @@ use Rattle.pcfs_ports.specs.Faults.{HasRisen}
 use Rattle.access_history.specs.Base.{BaseView}
 use Rattle.access_history.specs.History.{authority_with}
 use Rattle.access_history.specs.Lawful.{IsLawful}
-use Rattle.access_history.specs.declared.event.Event.{Event}
+use Rattle.journal_records.specs.declared.event.Event.{Event}
 use Rattle.access_history.proofs.HeadlineLemmas.{Headline-lawful}
 use Rattle.policy_statement.specs.Ring.{KeyView}
 use Rattle.pcfs_secrets.specs.declared.secrets.Secrets.{Secrets}

@@ -10,7 +10,7 @@ use Rattle.access_history.specs.Headline.{Headline}
 use Rattle.access_history.specs.Lawful.{IsLawful}
 use Rattle.access_history.specs.Base.{BaseView}
 use Rattle.access_history.specs.Replay.{replay}
-use Rattle.access_history.specs.declared.event.Event.{Event}
+use Rattle.journal_records.specs.declared.event.Event.{Event}
 use Rattle.op_gate.specs.declared.damage.Damage.{Damage}
 use Rattle.pcfs_secrets.specs.declared.secrets.Secrets.{Secrets}
 use Rattle.pcfs_server.specs.declared.end.ServeEnd.{ServeEnd}

@@ -24,7 +24,7 @@ use Rattle.op_gate.specs.declared.cite.Citation.{Citation}
 use Rattle.op_gate.specs.declared.cite.Citation.TheVariants as citations
 use Rattle.op_gate.specs.Citations.{GivesCitation}
 use Rattle.op_gate.specs.Decision.{GateView}
-use Rattle.access_history.specs.declared.event.Event.{Event}
+use Rattle.journal_records.specs.declared.event.Event.{Event}
 use Rattle.access_history.specs.Base.{BaseView}
 use Rattle.access_history.specs.History.{HistoryView, state_of}
 use Rattle.access_history.specs.Replay.{replay}

@@ -5,7 +5,7 @@ use Rattle.bl_syntax.specs.Statement.{IsStatement}
 use Rattle.bl_syntax.specs.TimeOrder.{IsMoment}
 use Rattle.file_world.specs.Effect.{IsOperation}
 use Rattle.file_world.specs.Needs.{slots, bytes_to_write}
-use Rattle.access_history.specs.declared.event.Event.{Event}
+use Rattle.journal_records.specs.declared.event.Event.{Event}
 use Rattle.access_history.specs.declared.request.StepRequest.{StepRequest}
 use Rattle.access_history.specs.declared.reply.StepReply.{StepReply}
 use Rattle.access_history.specs.Answer.{Answers}

@@ -1,6 +1,6 @@
 -- Laws of runs and lines: what runs keep is lawful, and lines and runs have one answer each.
 use Rattle.std.specs.Prelude.{◌≡◌, ℕ, ◌+◌, List, ◌++◌, length, codes, Option, None}
-use Rattle.access_history.specs.declared.event.Event.{Event}
+use Rattle.journal_records.specs.declared.event.Event.{Event}
 use Rattle.access_history.specs.Base.{BaseView}
 use Rattle.access_history.specs.Lawful.{IsLawful}
 use Rattle.line_text.specs.Lines.{lines_of}

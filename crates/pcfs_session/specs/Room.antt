@@ -1,7 +1,7 @@
 -- Where the closed gate of an area stands after an event (this project's own).
 use Rattle.std.specs.Prelude.{◌+◌, ℕ, length}
 use Rattle.journal_records.specs.EventSpelling.{event_spelling}
-use Rattle.access_history.specs.declared.event.Event.{Event}
+use Rattle.journal_records.specs.declared.event.Event.{Event}
 
 -- where the closed gate of an area stands after the record of the event was added: a gate, the
 -- length and the payload

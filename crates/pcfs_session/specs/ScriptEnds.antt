@@ -6,7 +6,7 @@ use Rattle.pcfs_ports.specs.Faults.{HasRisen}
 use Rattle.pcfs_ports.specs.Observable.{with_back, ReadsToEnd, TakesFirst, HoldsSome}
 use Rattle.line_text.specs.Lines.{lines_of}
 use Rattle.line_framer.specs.Feeding.{AreShort}
-use Rattle.access_history.specs.declared.event.Event.{Event}
+use Rattle.journal_records.specs.declared.event.Event.{Event}
 use Rattle.access_history.specs.Headline.{Headline}
 use Rattle.line_wire.specs.declared.reply.LineReply.{LineReply}
 use Rattle.line_wire.specs.declared.reply.LineReply.TheVariants as replies

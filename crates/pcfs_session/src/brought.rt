@@ -4,8 +4,8 @@ ghost use Rattle.std.specs.Prelude.{IfOk};
 ghost use Rattle.access_history.specs.Replay.{replay};
 ghost use Rattle.pcfs_session.specs.Brought.{IsBroughtBy, AreProcapsAdded};
 
-use access_history::Procaps;
 use bl_syntax::NoMemory;
+use journal_records::Procaps;
 use line_words::ProcapWord;
 use op_gate::Gate;
 use procap::Procap;

@@ -5,9 +5,10 @@ ghost use Rattle.std.specs.Prelude.{◌≡◌, ◌≤◌, ◌↔◌, None, lengt
 use crate::brought::add_procaps;
 use crate::line_replies::{reply_of_checkpoint, reply_of_store, unproved, unread};
 use crate::signing::{signature_of, withdrawal_of};
-use access_history::{Procaps, StepReply, StepRequest};
+use access_history::{StepReply, StepRequest};
 use bl_syntax::{Bytes, Goal, NoMemory, Numbers, Principal, Statement};
 use file_world::Op;
+use journal_records::Procaps;
 use line_forms::{Command, read_line};
 use line_wire::LineReply;
 use line_words::ProcapWords;

@@ -4,9 +4,9 @@ use Rattle.std.specs.Prelude.{Option, is_some, Result, Ok, Err}
 use Rattle.journal_core.specs.declared.area.AreaFault.{AreaFault}
 use Rattle.journal_core.specs.declared.area.AreaFault.TheVariants as faults_of_area
 use Rattle.journal_core.specs.AreaView.{AreaView}
-use Rattle.access_history.specs.declared.event.Event.{Event}
+use Rattle.journal_records.specs.declared.event.Event.{Event}
 use Rattle.access_history.specs.History.{authority_with}
-use Rattle.access_history.specs.Passes.{event_pass}
+use Rattle.journal_records.specs.Passes.{event_pass}
 use Rattle.access_history.specs.Replay.{replay}
 use Rattle.journal_records.specs.EventSpelling.{event_spelling}
 use Rattle.op_gate.specs.declared.damage.AdmitFault.{AdmitFault}

@@ -10,7 +10,7 @@ use Rattle.journal_core.specs.Area.{area_limit, area_bytes, StandsForBody, IsGen
 use Rattle.journal_core.specs.Rest.{Rests, IsOldOrShutOrNew}
 use Rattle.journal_core.proofs.AreaLemmas.{closed_written}
 use Rattle.journal_core.proofs.RestsLemmas.{some_same}
-use Rattle.access_history.specs.declared.event.Event.{Event}
+use Rattle.journal_records.specs.declared.event.Event.{Event}
 use Rattle.access_history.specs.Base.{BaseView}
 use Rattle.access_history.specs.Replay.{replay}
 use Rattle.checkpoint_image.specs.ImageSpelling.{image_spelling}

@@ -4,7 +4,7 @@ use Rattle.std.specs.Prelude.{Option, ℤ}
 use Rattle.std.proofs.lemmas.List.{append-nil, take_all, drop_all, length-drop, drop-drop, take-append-le, drop-append-le, take-append-drop}
 use Rattle.journal_core.specs.Area.{area_bytes, records, record_bytes}
 use Rattle.journal_core.proofs.RecordLemmas.{area_split, record_length}
-use Rattle.access_history.specs.declared.event.Event.{Event}
+use Rattle.journal_records.specs.declared.event.Event.{Event}
 use Rattle.access_history.specs.declared.request.StepRequest.{StepRequest}
 use Rattle.access_history.specs.declared.reply.StepReply.{StepReply}
 use Rattle.access_history.specs.Base.{BaseView}

@@ -13,7 +13,7 @@ use Rattle.journal_core.proofs.AreaLemmas.{closed_written}
 use Rattle.journal_core.proofs.RestsLemmas.{some_same}
 use Rattle.policy_statement.specs.Ring.{KeyView}
 use Rattle.op_gate.specs.Decision.{GateView}
-use Rattle.access_history.specs.declared.event.Event.{Event}
+use Rattle.journal_records.specs.declared.event.Event.{Event}
 use Rattle.access_history.specs.Base.{BaseView}
 use Rattle.access_history.specs.Replay.{fresh}
 use Rattle.pcfs_store.specs.Image.{fresh_image, IsImageOf}

@@ -6,7 +6,7 @@ use Rattle.journal_core.specs.declared.area.AreaFault.{AreaFault}
 use Rattle.journal_core.specs.declared.area.AreaFault.TheVariants as faults_of_area
 use Rattle.journal_core.specs.AreaView.{AreaView}
 use Rattle.access_history.specs.Base.{BaseView}
-use Rattle.access_history.specs.declared.event.Event.{Event}
+use Rattle.journal_records.specs.declared.event.Event.{Event}
 use Rattle.access_history.specs.Replay.{replay}
 use Rattle.access_history.specs.History.{HistoryView, authority_of, state_of}
 use Rattle.access_history.specs.Lawful.{IsLawful}

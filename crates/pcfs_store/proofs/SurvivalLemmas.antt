@@ -9,10 +9,10 @@ use Rattle.journal_core.specs.Area.{area_limit, area_bytes, base_bytes, record_b
 use Rattle.journal_core.proofs.RecordLemmas.{base_generation, base_within, records_push}
 use Rattle.journal_core.proofs.ReadingLemmas.{base_begins, opens}
 use Rattle.journal_core.proofs.RestsLemmas.{some_same}
-use Rattle.access_history.specs.declared.event.Event.{Event}
+use Rattle.journal_records.specs.declared.event.Event.{Event}
 use Rattle.access_history.specs.Base.{BaseView}
 use Rattle.bl_syntax.proofs.GrantLemmas.{AllByRecursion-push}
-use Rattle.access_history.specs.Passes.{erase}
+use Rattle.journal_records.specs.Passes.{erase}
 use Rattle.journal_records.specs.EventSpelling.{event_spelling, IsSpellableEvent}
 use Rattle.journal_records.proofs.EventLemmas.{erased_spellable, same_spelling}
 use Rattle.access_history.specs.Replay.{replay}

@@ -7,7 +7,7 @@ use Rattle.journal_core.specs.declared.area.AreaFault.TheVariants.{Disk as DiskF
 use Rattle.journal_core.specs.Area.{area_limit, record_bytes, StandsForBody}
 use Rattle.journal_core.specs.AreaView.{AreaView}
 use Rattle.journal_core.specs.Rest.{Rests, IsWithOrWithout}
-use Rattle.access_history.specs.declared.event.Event.{Event}
+use Rattle.journal_records.specs.declared.event.Event.{Event}
 use Rattle.access_history.specs.Replay.{replay}
 use Rattle.journal_records.specs.EventSpelling.{event_spelling, IsSpellableEvent}
 use Rattle.op_gate.specs.Decision.{GateView}

@@ -2,7 +2,7 @@
 use Rattle.std.specs.Prelude.{◌≡◌, ℕ, List, Option, Some, None, Bool, true, false, nat_lt, length, ◌<◌}
 use Rattle.std.specs.Option.{option_map}
 use Rattle.journal_core.specs.Area.{area_bytes, generation_of}
-use Rattle.access_history.specs.declared.event.Event.{Event}
+use Rattle.journal_records.specs.declared.event.Event.{Event}
 use Rattle.access_history.specs.Base.{BaseView}
 use Rattle.pcfs_store.specs.StoredHistory.{payloads_of, StandsFor, Resumes}
 

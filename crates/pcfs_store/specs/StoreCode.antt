@@ -2,9 +2,9 @@
 use Rattle.std.specs.Prelude.{ℕ, Bool, List, Option, refl}
 use Rattle.std.specs.Coded.{Coded, code_by, coded×, coded_ℕ, coded_bool, coded_list, coded_option}
 use Rattle.policy_statement.specs.Ring.{KeyView}
-use Rattle.access_history.specs.declared.event.Event.{Event}
+use Rattle.journal_records.specs.declared.event.Event.{Event}
 use Rattle.access_history.specs.Base.{BaseView}
-use Rattle.access_history.specs.contracts.event.Event as event
+use Rattle.journal_records.specs.contracts.event.Event as event
 use Rattle.access_history.specs.BaseCode.{base_code}
 use Rattle.access_history.specs.HistoryCode.{key_code}
 use Rattle.pcfs_store.specs.declared.checkpoints.Checkpoint.{Checkpoint}

@@ -1,36 +1,22 @@
 //! How the event that a gate decided is kept: on the disk first, and then in the history.
 
-ghost use Rattle.std.specs.Prelude.{◌≡◌, ◌≢◌, ◌+◌, ◌≤◌, Some, IfOk, IfErr, IfSome, IsSome, length};
+ghost use Rattle.std.specs.Prelude.{◌≡◌, ◌≢◌, ◌+◌, ◌≤◌, ◌++◌, Some, IfOk, IfErr, IfSome, IsSome, OnOk, OnErr, length};
 ghost use Rattle.journal_core.specs.Area.{area_limit};
-ghost use Rattle.journal_records.specs.EventSpelling.{event_spelling, IsSpellableEvent, HasFittingFields};
-ghost use Rattle.access_history.specs.Passes.{event_pass};
+ghost use Rattle.journal_records.specs.EventSpelling.{event_spelling, IsSpellableEvent};
 ghost use Rattle.pcfs_store.specs.Keeping.{AppendsEvent, KeepsPending};
 ghost use Rattle.pcfs_store.specs.Admitting.{unprepared};
 
 use crate::reply::Admitted;
-use access_history::Event;
-use bl_syntax::Bytes;
 use bl_syntax::limits::{MOST_AREA_BYTES, MOST_EVENTS};
+use bl_syntax::{Bytes, NoMemory};
 use journal_core::{Area, AreaFault, Framed, frame_after_four};
-use journal_records::write_event;
+use journal_records::EventRecord;
 use op_gate::{AdmitFault, Gate};
 use pcfs_ports::Disk;
 use std::alloc::Global;
 
 /// How many bytes are taken at once for a record; a longer one grows from there.
 const COMMON_SIZE: usize = 256;
-
-/// The pass in whose turn an event was kept.
-pub fn pass_of(event: &Event) -> u64
-    ensures { result ≡ event_pass event.now }
-{
-    match event {
-        Event::Registered { pass, .. } => *pass,
-        Event::Withdrawn { pass, .. } => *pass,
-        Event::Issued { pass, .. } => *pass,
-        Event::Acted { pass, .. } => *pass,
-    }
-}
 
 /// What is reported of an event that was not prepared.
 pub fn unprepared(fault: AdmitFault) -> Admitted
@@ -52,9 +38,17 @@ fn room_of(alloc: Global) -> Result<Bytes, AreaFault>
     Ok(Bytes::from_vec(bytes))
 }
 
+// Adds the payload of an event's record, or nothing.
+fn add_payload(event: &EventRecord, out: &mut Bytes) -> Result<(), NoMemory>
+    ensures ok { OnOk result (out.new ≡ out.old ++ event_spelling event.now) }
+    ensures spelled { OnOk result (IsSpellableEvent event.now) }
+    ensures err { OnErr result (out.new ≡ out.old) }
+{
+    out.extend(event.payload())
+}
+
 // The record of an event, with its length and the next closed gate, in one piece of memory. `AreaFull` is returned only if no area has room for it.
-fn record_of(alloc: Global, event: &Event) -> Result<Framed, AreaFault>
-    requires { HasFittingFields event.now }
+fn record_of(alloc: Global, event: &EventRecord) -> Result<Framed, AreaFault>
     ensures ok { IfOk result (λ framed. framed ≡ event_spelling event.now) }
     ensures spelled { IfOk result (λ _. IsSpellableEvent event.now) }
     ensures not_disk { result ≢ Err AreaFault.Disk }
@@ -62,7 +56,7 @@ fn record_of(alloc: Global, event: &Event) -> Result<Framed, AreaFault>
         area_limit ≤ length (event_spelling event.now) }
 {
     let mut bytes = room_of(alloc)?;
-    if write_event(event, &mut bytes).is_err() {
+    if add_payload(event, &mut bytes).is_err() {
         return Err(AreaFault::NoMemory);
     }
     if MOST_AREA_BYTES + 4 <= bytes.len() as u64 {
@@ -75,8 +69,11 @@ fn record_of(alloc: Global, event: &Event) -> Result<Framed, AreaFault>
 }
 
 // Adds the record of an event to the area, or nothing.
-fn append_event<D: Disk>(alloc: Global, area: &mut Area<D>, event: &Event) -> Result<(), AreaFault>
-    requires { HasFittingFields event.now }
+fn append_event<D: Disk>(
+    alloc: Global,
+    area: &mut Area<D>,
+    event: &EventRecord,
+) -> Result<(), AreaFault>
     ensures { AppendsEvent D.clock D.left_since D.image D.faults area.old event.now result area.new }
 {
     match record_of(alloc, event) {

@@ -7,14 +7,15 @@ ghost use Rattle.pcfs_store.specs.Image.{IsImageOf};
 ghost use Rattle.pcfs_store.specs.StoredHistory.{payloads_of, AreSpellable};
 
 use crate::checkpoints::{Checkpoint, move_area};
-use crate::keeping::{keep_pending, pass_of, unprepared};
+use crate::keeping::{keep_pending, unprepared};
 use crate::opened::{Opened, opened_with};
 use crate::reply::{Admitted, CheckpointReply, StoreReply};
-use access_history::{Event, StepRequest};
+use access_history::StepRequest;
 use bl_syntax::limits::MOST_EVENTS;
 use bl_syntax::{Bytes, NoMemory};
 use checkpoint::state_image;
 use journal_core::{Area, AreaFault};
+use journal_records::Event;
 use op_gate::{Decision, Gate};
 use pcfs_ports::Disk;
 use std::alloc::Global;
@@ -247,7 +248,7 @@ impl<D: Disk> Store<D> {
         if self.stop.is_some() {
             return Admitted::Stopped;
         }
-        let of_event = pass_of(&event);
+        let of_event = event.pass();
         match self.gate.prepare(alloc, event) {
             Ok(()) => match keep_pending(alloc, &mut self.active, &mut self.gate) {
                 Ok(()) => Admitted::Kept,

@@ -4,7 +4,7 @@ use Rattle.std.specs.Prelude.{Result, IfOk}
 use Rattle.access_history.specs.Authority.{Authority}
 use Rattle.access_history.specs.Base.{BaseView}
 use Rattle.access_history.specs.History.{authority_with}
-use Rattle.access_history.specs.declared.event.Event.{Event}
+use Rattle.journal_records.specs.declared.event.Event.{Event}
 use Rattle.pcfs_audit.specs.Report.{IsReport}
 use Rattle.pcfs_audit.specs.ReportText.{report_text}
 use Rattle.pcfs_audit.specs.declared.report.Report.{Report}

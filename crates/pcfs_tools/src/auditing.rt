@@ -11,6 +11,7 @@ ghost use Rattle.pcfs_tools.specs.LastLine.{Wrote, WroteNothing};
 use crate::answering::{DONE, OUT_OF_MEMORY, write_last_line};
 use access_history::History;
 use bl_syntax::{Bytes, NoMemory};
+use journal_records::events_of;
 use pcfs_audit::{Report, audit, audit_pieces, write_report};
 use pcfs_ports::Sink;
 use pcfs_secrets::Secrets;
@@ -33,7 +34,8 @@ fn report_on<R: Threads + Sync>(
 {
     history.lemma_is_lawful();
     let base = history.base();
-    let events = history.events();
+    let decoded = events_of(alloc, history.events())?;
+    let events = decoded.as_slice();
     let key = secrets.seal_key.as_slice();
     match pieces {
         None => audit(alloc, base, events, key, &secrets.ring),

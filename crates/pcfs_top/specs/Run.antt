@@ -8,7 +8,7 @@ use Rattle.pcfs_ports.specs.Observable.{with_back, HoldsSome}
 use Rattle.journal_core.specs.Area.{IsShut, Closed, area_bytes, area_limit, generation_of}
 use Rattle.access_history.specs.Base.{BaseView}
 use Rattle.access_history.specs.Replay.{replay}
-use Rattle.access_history.specs.declared.event.Event.{Event}
+use Rattle.journal_records.specs.declared.event.Event.{Event}
 use Rattle.op_gate.specs.declared.damage.Damage.{Damage}
 use Rattle.checkpoint_image.specs.ImageSpelling.{image_spelling}
 use Rattle.pcfs_store.specs.Image.{fresh_image}

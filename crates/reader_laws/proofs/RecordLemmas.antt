@@ -17,7 +17,7 @@ use Rattle.record_parts.specs.Fields.{u32_at, u64_at, node, node_at, free_name_a
 use Rattle.record_parts.specs.Parts.{of_proof, as_part, many_at, list_at, sized_proof_at}
 use Rattle.record_parts.specs.OperationReading.{named_node_at, range_at, piece_at, renamed_at, valued_at, read_words_at, write_words_at, truncate_words_at, rename_words_at, setattr_words_at, chown_words_at, attribute_words_at, name_words_at, words_at, operation_at}
 use Rattle.record_parts.specs.RecordReading.{registered_at, withdrawn_at, proved_at, issued_at, admitted_at, done_at, acted_at}
-use Rattle.access_history.specs.declared.event.Event.TheVariants.{Registered, Withdrawn, Issued, Acted}
+use Rattle.journal_records.specs.declared.event.Event.TheVariants.{Registered, Withdrawn, Issued, Acted}
 use Rattle.journal_records.specs.EventReading.{event_at}
 use Rattle.reader_laws.proofs.ExtendedLemmas.{Extended, behind, ReadsOn, IsSteady, done, cut, faults, either_way, one_then, made, taken}
 use Rattle.reader_laws.proofs.FieldLemmas.{numbers, names, texts}

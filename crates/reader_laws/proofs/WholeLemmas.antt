@@ -5,8 +5,8 @@ use Rattle.bl_syntax.specs.declared.codec_fault.CodecFault.TheVariants.{Short, N
 use Rattle.bl_syntax.specs.Reading.{reading}
 use Rattle.procap.specs.Procap.{procap_spelling, IsSpellableProcap, procap_at, whole_procap}
 use Rattle.procap.proofs.ProcapLemmas.{procap_codec}
-use Rattle.access_history.specs.declared.event.Event.{Event}
-use Rattle.access_history.specs.Passes.{erase}
+use Rattle.journal_records.specs.declared.event.Event.{Event}
+use Rattle.journal_records.specs.Passes.{erase}
 use Rattle.access_history.specs.Base.{BaseView}
 use Rattle.access_history.proofs.PassLemmas.{erase_twice}
 use Rattle.journal_records.specs.EventSpelling.{event_spelling, IsSpellableEvent, IsReadEvent}

@@ -1,11 +1,11 @@
-//! Events: the payloads of the first file's three and of a withdrawal, every cut of them, and each fault at its place.
+//! Events: the payloads of the first file's three and of a withdrawal, every cut of them, each fault at its place, and the
+//! records of events.
 
 use crate::operations::OPERATIONS;
 use crate::rows::{bytes_of, is_end, word_and_rest};
 use crate::texts::{put_number, put_operation, put_word};
-use access_history::Event;
 use bl_syntax::{Bytes, CodecFault, Grant, NoMemory, Numbers, Statement};
-use journal_records::{read_event, write_event};
+use journal_records::{Event, EventRecord, events_of, read_event, write_event};
 use proof_term::ProofTree;
 use std::alloc::Global;
 use std::test::Fail;
@@ -271,5 +271,56 @@ fn each_operation_ends_where_its_words_end(rt: HostRuntime) -> Result<(), Fail> 
         let (word, _text) = word_and_rest(row)?;
         assert!(rt; is_extended_row(rt.alloc(), word)?, "{row}");
     }
+    Ok(())
+}
+
+// Whether the bytes are the payload of the record of the event that they spell, which the record gives back.
+fn is_kept(alloc: Global, text: &str, bytes: &[u8]) -> bool {
+    match read_event(alloc, bytes) {
+        Ok(event) => match EventRecord::of(alloc, &event) {
+            Ok(kept) => match kept.event(alloc) {
+                Ok(again) => kept.payload() == bytes && has_text(alloc, &again, text),
+                Err(_) => false,
+            },
+            Err(_) => false,
+        },
+        Err(_) => false,
+    }
+}
+
+// The record of the withdrawal of the second statement, in a turn of that pass.
+fn withdrawal_of(alloc: Global, pass: u64) -> Result<EventRecord, NoMemory> {
+    let mut signature = Bytes::new(alloc);
+    signature.push(0xab)?;
+    EventRecord::of(
+        alloc,
+        &Event::Withdrawn {
+            pass,
+            number: 2,
+            signature,
+        },
+    )
+}
+
+// Whether all records together give back their events, each with its pass.
+fn are_given_back(alloc: Global) -> Result<bool, NoMemory> {
+    let records = [withdrawal_of(alloc, 7)?, withdrawal_of(alloc, 0)?];
+    let events = events_of(alloc, &records)?;
+    let events = events.as_slice();
+    Ok(
+        events.len() == 2
+            && has_text(alloc, &events[0], "withdrawn 7 2 1")
+            && has_text(alloc, &events[1], "withdrawn 0 2 1"),
+    )
+}
+
+#[test]
+fn records_give_back_their_events(rt: HostRuntime) -> Result<(), Fail> {
+    for row in FIRST_FILE.lines() {
+        let (word, text) = word_and_rest(row)?;
+        let bytes = bytes_of(rt.alloc(), word)?;
+        assert!(rt; is_kept(rt.alloc(), text, bytes.as_slice()), "{row}");
+    }
+    assert!(rt; are_given_back(rt.alloc())?, "two records");
     Ok(())
 }

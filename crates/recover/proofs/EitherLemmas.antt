@@ -9,12 +9,12 @@ use Rattle.policy_statement.specs.Registered.{RegisteredView}
 use Rattle.journal_core.specs.Area.{IsArea, IsFront, IsShut, IsSomeArea, BreaksAfter, IsBroken}
 use Rattle.journal_core.proofs.ReadingLemmas.{area_front}
 use Rattle.journal_core.proofs.TotalLemmas.{one_of_three}
-use Rattle.access_history.specs.declared.event.Event.{Event}
-use Rattle.access_history.specs.declared.event.Event.TheVariants.{Registered, Withdrawn, Issued, Acted}
+use Rattle.journal_records.specs.declared.event.Event.{Event}
+use Rattle.journal_records.specs.declared.event.Event.TheVariants.{Registered, Withdrawn, Issued, Acted}
 use Rattle.access_history.specs.Authority.{Authority, sayings}
 use Rattle.access_history.specs.Base.{BaseView}
 use Rattle.access_history.specs.Lawful.{IsLawful, IsLawfulBase, no_event, one_more}
-use Rattle.access_history.specs.Passes.{erase}
+use Rattle.journal_records.specs.Passes.{erase}
 use Rattle.access_history.specs.Replay.{replay}
 use Rattle.access_history.proofs.LawfulLemmas.{IsLawfulBase-lawful}
 use Rattle.access_history.proofs.PassLemmas.{erase_twice}

@@ -3,12 +3,12 @@ use Rattle.std.proofs.Common.{◌≡◌, ◌+◌, ◌⊎◌, ℕ, List, [], ◌�
 use Rattle.std.specs.List.{AllByRecursion}
 use Rattle.journal_core.specs.Area.{area_bytes, IsFront, IsShut}
 use Rattle.journal_core.proofs.ReadingLemmas.{one_area, one_front, front_has_base, area_front, opens}
-use Rattle.access_history.specs.declared.event.Event.{Event}
+use Rattle.journal_records.specs.declared.event.Event.{Event}
 use Rattle.access_history.specs.Authority.{Authority}
 use Rattle.access_history.specs.Base.{BaseView}
 use Rattle.access_history.specs.Lawful.{IsLawful, IsLawfulBase}
 use Rattle.access_history.specs.Replay.{replay}
-use Rattle.access_history.specs.Passes.{erase}
+use Rattle.journal_records.specs.Passes.{erase}
 use Rattle.journal_records.specs.EventSpelling.{event_spelling, IsReadEvent}
 use Rattle.journal_records.proofs.EventLemmas.{apart}
 use Rattle.op_gate.specs.declared.damage.Damage.{Damage}

@@ -10,7 +10,7 @@ use Rattle.journal_core.specs.Area.{area_bytes, generation_of, IsArea, IsBroken,
 use Rattle.journal_core.specs.declared.scan.ScanFault.{ScanFault}
 use Rattle.journal_core.specs.declared.scan.ScanFault.TheVariants as scans
 use Rattle.journal_core.proofs.RestsLemmas.{if_told, at_told, some_same}
-use Rattle.access_history.specs.declared.event.Event.{Event}
+use Rattle.journal_records.specs.declared.event.Event.{Event}
 use Rattle.access_history.specs.Authority.{Authority}
 use Rattle.access_history.specs.History.{authority_with}
 use Rattle.journal_records.specs.EventSpelling.{IsReadEvent}

@@ -4,7 +4,7 @@ use Rattle.std.specs.List.{AllByRecursion}
 use Rattle.std.proofs.lemmas.List.{take-take}
 use Rattle.journal_core.specs.Area.{area_bytes, IsArea}
 use Rattle.journal_core.proofs.ReadingLemmas.{one_area}
-use Rattle.access_history.specs.declared.event.Event.{Event}
+use Rattle.journal_records.specs.declared.event.Event.{Event}
 use Rattle.access_history.specs.Authority.{Authority}
 use Rattle.access_history.specs.Base.{BaseView}
 use Rattle.access_history.specs.Lawful.{IsLawful}
@@ -15,7 +15,7 @@ use Rattle.pcfs_store.specs.Newest.{newest, Survives, SurvivesClosed}
 use Rattle.pcfs_store.specs.StoredHistory.{payloads_of, Resumes, StandsFor}
 use Rattle.recover.specs.AreaDamage.{IsDamagedArea}
 use Rattle.recover.specs.Opening.{IsNewestClosed, IsNewestDamaged, IsNewestHistory}
-use Rattle.access_history.specs.Passes.{erase}
+use Rattle.journal_records.specs.Passes.{erase}
 use Rattle.access_history.proofs.PassLemmas.{erase_twice}
 use Rattle.recover.proofs.FollowingLemmas.{back_lawful, erased_history, front_lawful}
 use Rattle.recover.proofs.LawLemmas.{lawful_area, one_history}

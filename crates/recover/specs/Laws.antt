@@ -1,13 +1,13 @@
 -- Laws of areas and damage: bytes stand for one history, and an open area has one first damage, or
 -- none if it stands for a lawful history.
 use Rattle.std.specs.Prelude.{◌≡◌, ℕ, List, None, map}
-use Rattle.access_history.specs.declared.event.Event.{Event}
+use Rattle.journal_records.specs.declared.event.Event.{Event}
 use Rattle.access_history.specs.Authority.{Authority}
 use Rattle.access_history.specs.Base.{BaseView}
 use Rattle.access_history.specs.Lawful.{IsLawful}
 use Rattle.journal_core.specs.Area.{IsShut}
 use Rattle.op_gate.specs.declared.damage.Damage.{Damage}
-use Rattle.access_history.specs.Passes.{erase}
+use Rattle.journal_records.specs.Passes.{erase}
 use Rattle.pcfs_store.specs.Newest.{newest, SurvivesClosed}
 use Rattle.pcfs_store.specs.StoredHistory.{StandsFor, Resumes}
 use Rattle.recover.specs.AreaDamage.{IsDamagedArea}

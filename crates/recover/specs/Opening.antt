@@ -7,7 +7,7 @@ use Rattle.policy_statement.specs.Ring.{KeyView}
 use Rattle.journal_core.specs.Area.{area_bytes, IsBroken, IsGeneration, IsShut}
 use Rattle.journal_core.specs.declared.scan.ScanFault.{ScanFault}
 use Rattle.journal_core.specs.declared.scan.ScanFault.TheVariants as scans
-use Rattle.access_history.specs.declared.event.Event.{Event}
+use Rattle.journal_records.specs.declared.event.Event.{Event}
 use Rattle.access_history.specs.Authority.{Authority}
 use Rattle.access_history.specs.Base.{BaseView}
 use Rattle.access_history.specs.History.{authority_with}

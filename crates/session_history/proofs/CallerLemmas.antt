@@ -7,8 +7,8 @@ use Rattle.std.proofs.lemmas.Slice.Eq.{bytes_eq-Decides}
 use Rattle.policy_statement.specs.Messages.{login_message}
 use Rattle.policy_statement.specs.Ring.{KeyView, is_accepted}
 use Rattle.proof_verifier.specs.CheckedView.{checked_view}
-use Rattle.access_history.specs.declared.event.Event.{Event}
-use Rattle.access_history.specs.declared.event.Event.TheVariants.{Registered, Issued, Withdrawn, Acted}
+use Rattle.journal_records.specs.declared.event.Event.{Event}
+use Rattle.journal_records.specs.declared.event.Event.TheVariants.{Registered, Issued, Withdrawn, Acted}
 use Rattle.access_history.specs.declared.request.StepRequest.{StepRequest}
 use Rattle.access_history.specs.declared.request.StepRequest.TheVariants as steps
 use Rattle.access_history.specs.declared.reply.StepReply.{StepReply}

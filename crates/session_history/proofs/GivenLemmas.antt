@@ -1,7 +1,7 @@
 -- The entries that a session is given are of its own pass.
 use Rattle.std.proofs.Common.{◌≡◌, ℕ, List, [], ◌∷◌, ◌++◌, Option, Some, None, refl}
 use Rattle.std.specs.Prelude.{ℤ}
-use Rattle.access_history.specs.declared.event.Event.{Event}
+use Rattle.journal_records.specs.declared.event.Event.{Event}
 use Rattle.access_history.specs.declared.request.StepRequest.{StepRequest}
 use Rattle.access_history.specs.declared.reply.StepReply.{StepReply}
 use Rattle.access_history.specs.Authority.{Authority}
@@ -12,7 +12,7 @@ use Rattle.line_wire.specs.declared.reply.LineReply.{LineReply}
 use Rattle.pcfs_store.specs.Entries.{Root, StoreEntry, happened, state_of_entries}
 use Rattle.session_history.specs.declared.request.TurnRequest.{TurnRequest}
 use Rattle.session_history.specs.declared.reply.TurnReply.{TurnReply}
-use Rattle.access_history.specs.Passes.{event_pass}
+use Rattle.journal_records.specs.Passes.{event_pass}
 use Rattle.session_history.specs.Passes.{entry_pass, AllOfPass}
 use Rattle.session_history.specs.Turn.{StorePass, authority_of_root, AnswersTurn, steps, makes, cites, cites_none, logs_in, rejects, Turn, was_stopped, answered, full, kept, failed}
 use Rattle.session_history.specs.Turn as turns

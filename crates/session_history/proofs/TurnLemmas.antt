@@ -6,7 +6,7 @@ use Rattle.policy_statement.specs.Messages.{login_message}
 use Rattle.policy_statement.specs.Ring.{is_accepted}
 use Rattle.journal_core.specs.Area.{area_limit}
 use Rattle.journal_records.specs.EventSpelling.{event_spelling}
-use Rattle.access_history.specs.declared.event.Event.{Event}
+use Rattle.journal_records.specs.declared.event.Event.{Event}
 use Rattle.access_history.specs.declared.reply.StepReply.TheVariants.{Rejected, Absent}
 use Rattle.access_history.specs.declared.reply.Rejection.TheVariants.{BadSignature}
 use Rattle.access_history.specs.Books.{book_of}

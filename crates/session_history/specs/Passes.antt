@@ -2,7 +2,7 @@
 -- own).
 use Rattle.std.specs.Prelude.{◌≡◌, ℕ, List, [], ◌∷◌, Bool, true, false}
 use Rattle.std.specs.List.{AllByRecursion}
-use Rattle.access_history.specs.Passes.{event_pass}
+use Rattle.journal_records.specs.Passes.{event_pass}
 use Rattle.pcfs_store.specs.Entries.{StoreEntry, happened, checkpointed, stopped}
 
 -- the number of the pass in whose turn the entry was added

@@ -4,7 +4,9 @@ use Rattle.std.specs.Prelude.{ℤ, ◌≢◌}
 use Rattle.std.proofs.lemmas.List.{length-map}
 use mathlib.Core.List.{IsPrefix}
 use Rattle.tree_lock.specs.Seen.{PassView}
+use Rattle.tree_lock.specs.Closing.{IsMadeAfter}
 use Rattle.tree_lock.proofs.EntryLemmas.{prefix_refl, prefix_trans}
+use Rattle.tree_lock.proofs.SeenLemmas.{later_has_seen}
 use Rattle.line_wire.specs.declared.reply.LineReply.{LineReply}
 use Rattle.line_wire.specs.declared.reply.LineReply.TheVariants as replies
 use Rattle.pcfs_store.specs.Entries.{StoreEntry}
@@ -19,7 +21,7 @@ use Rattle.session_lines.proofs.DoneLemmas.{shorter}
 
 module _ {D : Type 0} where
   -- so many entries were seen
-  told_few : (told old : PassView (LockEntry D)) (opening : StoreView D) (entries : List StoreEntry) → told.seen ≡ lock_history opening entries → IsPrefix told.seen old.seen → length entries ≤ entries_seen old
+  pub told_few : (told old : PassView (LockEntry D)) (opening : StoreView D) (entries : List StoreEntry) → told.seen ≡ lock_history opening entries → IsPrefix told.seen old.seen → length entries ≤ entries_seen old
   told_few told old opening entries seen earlier =
       let long : length told.seen ≡ length (lock_history opening entries) = ap length seen in
       let same : length (numbered {D = D} entries) ≡ length entries = length-map entries numbered_entry in
@@ -44,3 +46,9 @@ module _ {D : Type 0} where
         to = at.to;
         placed = at.placed opening entries (subst (λ (l : List (ℕ × LockEntry D)). IsPrefix new.seen l) here (prefix_refl new.seen));
       }
+
+  -- a pass that was made after another had left has seen as much
+  pub line_after_left : (gives : List StoreEntry → ℤ → Type 0) (told made old new : PassView (LockEntry D)) (opening : StoreView D) (task : LineTask) (reply : LineReply) → (h : HasHistory opening told) → IsMadeAfter told made → IsPrefix made.seen old.seen → NeedsTurns task →
+      reply ≢ replies.NoMemory → (d : HasDone gives task old new reply) → IsPlacedAfter gives opening h.entries task old new reply d.given
+  line_after_left gives told made old new opening task reply h later more needs some d =
+      line_after_told gives told old new opening task reply h (prefix_trans told.seen made.seen old.seen (later_has_seen told made later) more) needs some d

@@ -8,9 +8,10 @@ ghost use Rattle.line_words.specs.declared.procap_word.ProcapWord.TheVariants as
 ghost use Rattle.line_forms.specs.Said.{IsWrittenOut, IsOfSession, IsOfUser, IsWithin, IsOperationAsked, IsSaidByUser, IsLineWithin};
 ghost use Rattle.session_history.specs.Tasks.{IsUserTask, IsReadTask, IsTaskOf, IsTaskFormed};
 
-use access_history::{Procaps, StepRequest};
+use access_history::StepRequest;
 use bl_syntax::{Bytes, NoMemory, Principal, Statement};
 use file_world::Op;
+use journal_records::Procaps;
 use line_forms::{Command, Line, LineFault, Mode, read_line_in};
 use line_wire::{GuestLine, LineReply, read_guest_line};
 use line_words::{ProcapWord, ProcapWords};

@@ -2,6 +2,7 @@
 -- command, for somebody who calls in their own name and may see what is granted to them; and a
 -- session is placed in what its pass has seen.
 use Rattle.std.specs.Prelude.{◌≡◌, ◌≢◌, ℕ, ℤ, ◌*◌, ◌-◌, ◌≤◌, List, ◌++◌, length, take, drop, IsTrue, Some, Ok, Err}
+use mathlib.Core.List.{IsPrefix}
 use Rattle.bl_syntax.specs.declared.grant.Goal.{Goal}
 use Rattle.bl_syntax.specs.Grant.{GrantView}
 use Rattle.proof_term.specs.Proof.{ProofView}
@@ -22,6 +23,7 @@ use Rattle.line_forms.specs.Modes.{is_admin}
 use Rattle.line_wire.specs.declared.reply.LineReply.{LineReply}
 use Rattle.line_wire.specs.declared.reply.LineReply.TheVariants as replies
 use Rattle.tree_lock.specs.Seen.{PassView}
+use Rattle.tree_lock.specs.Closing.{IsMadeAfter}
 use Rattle.pcfs_store.specs.Entries.{StoreEntry}
 use Rattle.pcfs_store.specs.StoreView.{StoreView}
 use Rattle.session_history.specs.declared.request.TurnRequest.TheVariants.{Step, Checkpoint}
@@ -33,7 +35,7 @@ use Rattle.session_history.specs.Placed.{LinesPlaced}
 use Rattle.shared_store.specs.declared.entry.LockEntry.{LockEntry}
 use Rattle.shared_store.specs.LockHistory.{numbered, lock_history}
 use Rattle.shared_store.specs.Turning.{pass_at}
-use Rattle.shared_store.specs.Asking.{entries_seen, HasHistory, HasSeenFault}
+use Rattle.shared_store.specs.Asking.{entries_seen, HasHistory, InEachHistory, HasSeenFault}
 use Rattle.pcfs_session.specs.ScriptContext.{ScriptContext}
 use Rattle.pcfs_session.specs.LineAnswer.{replied, requested, checkpoint, ComesTo}
 use Rattle.session_service.specs.Said.{SaysStopped}
@@ -103,6 +105,18 @@ SessionsArePlaced D faults gives = (nonce : List ℕ) (opening : StoreView D)
     (old new : PassView (LockEntry D)) (lines : List (List ℕ)) (answers : List LineReply) →
     HasHistory opening old → Speaks faults gives nonce old new lines answers →
     IsPlacedSession faults gives nonce opening old new lines answers
+
+-- A session of a pass that was made after another had left. In each history that begins with what
+-- the session's pass has seen at the end, the entries come first that the other had seen when
+-- something was told under it, and the replies are placed after them.
+abbrev pub LaterSessionsArePlacedAfter : (D : Type 0) → (D → ℕ) → (List StoreEntry → ℤ → Type 0) → Type 0
+LaterSessionsArePlacedAfter D faults gives = (nonce : List ℕ) (opening : StoreView D)
+    (told old new : PassView (LockEntry D)) (lines : List (List ℕ)) (answers : List LineReply) →
+    (h : HasHistory opening told) → IsMadeAfter told old →
+    (s : Speaks faults gives nonce old new lines answers) →
+    (length h.entries ≤ entries_seen old) ×
+    InEachHistory new (λ root entries. (root ≡ opening) × IsPrefix h.entries entries ×
+    LinesPlaced gives (pass_at opening old.number) entries (guest_with nonce) (entries_seen old) lines answers s.end s.to s.given)
 
 -- a session has no more entries than lines, so none if none is said
 abbrev pub EachEntryHasALine : SessionSources → Type 0

@@ -17,7 +17,7 @@ use Rattle.shared_store.specs.declared.entry.LockEntry.{LockEntry}
 use Rattle.shared_store.specs.LockHistory.{numbered, lock_history}
 use Rattle.shared_store.specs.Turning.{pass_at}
 
--- what sessions take from the ports: which moments the clock gives after how many events; and which
+-- what sessions take from the ports: which moments the clock gives over which entries; and which
 -- lines the connection of a number may say, under which nonce
 pub record SessionSources : Type 1 where
   pub gives : List StoreEntry → ℤ → Type 0
@@ -54,7 +54,7 @@ pub record MaySay {I : Type 0} (left : I → Option (List ℕ))
   pub accepted : IsInputOf inputs number (left input)
   pub first : AreFirstLines (left input) lines
 
--- The clock gives these moments after so many events. Lines are said by inputs of one type, of which `left` is what they
+-- The clock gives these moments over these entries. Lines are said by inputs of one type, of which `left` is what they
 -- tell: those of the connection of a number are the first lines of its input as it was accepted,
 -- under the nonce of that number. If the listener does
 -- not tell its connections, they are those of any input, at any moment of it; and if it is not told
@@ -68,7 +68,7 @@ sources_of gives left inputs nonces = record { gives = gives; may_say = MaySay l
 -- place in the history with its reply, after the first `from` entries, and
 -- places do not go back; and the entries are exactly those that were added in the turns of these
 -- lines, in this order. So each is what one of the lines asks for, at a moment that the clock
--- gives after as many events as stand before it, also, of the mark of a disk that failed, the
+-- gives over the entries that stand before it, also, of the mark of a disk that failed, the
 -- event that was being kept; and one of the lines logged in whoever it is by. `from` is some place.
 pub record AreOfSession (sources : SessionSources) (p : StorePass) (history own : List StoreEntry) : Type 0 where
   pub nonce : List ℕ

@@ -1,6 +1,6 @@
 //! Laws of sessions. The functions do nothing: each contract is a law.
 
-ghost use Rattle.session_service.specs.Laws.{TurnsAskWhatCommandsComeTo, ProofsAskWhatCommandsComeTo, FaultsAreWhatCommandsComeTo, AbsencesAreWhatCommandsComeTo, CheckpointsAreWhatCommandsComeTo, SessionsArePlaced, EachEntryHasALine, SessionsHaveTwoNonces};
+ghost use Rattle.session_service.specs.Laws.{TurnsAskWhatCommandsComeTo, ProofsAskWhatCommandsComeTo, FaultsAreWhatCommandsComeTo, AbsencesAreWhatCommandsComeTo, CheckpointsAreWhatCommandsComeTo, SessionsArePlaced, LaterSessionsArePlacedAfter, EachEntryHasALine, SessionsHaveTwoNonces};
 ghost use Rattle.std.specs.Prelude.{ℕ, List, Option};
 ghost use Rattle.session_service.specs.Sessions.{sources_of};
 
@@ -21,6 +21,13 @@ pub fn lines_ask_what_commands_come_to()
 /// What a session's pass has seen at the end is a history, if it was one at first, and the session's replies are placed in it.
 pub fn sessions_are_placed<D: Disk, C: TurnClock>(clock: &C)
     ensures { SessionsArePlaced D D.faults (C.gives clock.now) }
+{
+    let _ = clock;
+}
+
+/// The replies of a session whose pass was made after another had left are placed after all that the other had seen.
+pub fn later_sessions_are_placed_after<D: Disk, C: TurnClock>(clock: &C)
+    ensures { LaterSessionsArePlacedAfter D D.faults (C.gives clock.now) }
 {
     let _ = clock;
 }

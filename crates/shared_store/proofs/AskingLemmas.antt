@@ -5,8 +5,10 @@ use Rattle.std.specs.Prelude.{ℤ}
 use mathlib.Core.List.{IsPrefix}
 use Rattle.tree_lock.specs.Entries.{Appends}
 use Rattle.tree_lock.specs.Seen.{PassView}
+use Rattle.tree_lock.specs.Closing.{IsMadeAfter}
 use Rattle.tree_lock.specs.Turned.{Turned}
 use Rattle.tree_lock.proofs.EntryLemmas.{prefix_refl, prefix_trans}
+use Rattle.tree_lock.proofs.SeenLemmas.{later_has_seen}
 use Rattle.tree_lock.proofs.TurnLemmas.{seen_grew}
 use Rattle.pcfs_store.specs.Entries.{StoreEntry, entries_of}
 use Rattle.pcfs_store.specs.StoreView.{StoreView}
@@ -28,7 +30,7 @@ use Rattle.shared_store.proofs.TurningLemmas.{stop_of, turn_shown}
 
 module _ {D : Type 0} where
   -- the entries after a turn are those before, and then the given ones under the number of the pass
-  grown : (faults : D → ℕ) (gives : List StoreEntry → ℤ → Type 0) (request : TurnRequest) (before after : OpenedView D) (pass : ℕ) (reply : TurnReply) (t : HasTurned faults gives request before pass after reply) → lock_entries after ≡ lock_history before.opening (entries_of before.store ++ t.given)
+  pub grown : (faults : D → ℕ) (gives : List StoreEntry → ℤ → Type 0) (request : TurnRequest) (before after : OpenedView D) (pass : ℕ) (reply : TurnReply) (t : HasTurned faults gives request before pass after reply) → lock_entries after ≡ lock_history before.opening (entries_of before.store ++ t.given)
   grown faults gives request before after pass reply t = ap (λ (o : StoreView D). lock_history o (entries_of after.store)) t.opening_stays ∙ ap (lock_history before.opening) t.grows
 
   pub appends : (faults : D → ℕ) (gives : List StoreEntry → ℤ → Type 0) (request : TurnRequest) (before after : OpenedView D) (pass : ℕ) (reply : TurnReply) → HasTurned faults gives request before pass after reply → Appends pass (lock_entries before) (lock_entries after)
@@ -48,26 +50,30 @@ module _ {D : Type 0} where
     Done before pass after reply = TakesTurn faults gives request before pass after reply
 
     -- so many entries after the root, of which the first were seen
-    few_seen : (seen : List (ℕ × LockEntry D)) (opening : StoreView D) (entries : List StoreEntry) → IsPrefix seen (lock_history opening entries) → length seen - 1 ≤ length entries
+    pub few_seen : (seen : List (ℕ × LockEntry D)) (opening : StoreView D) (entries : List StoreEntry) → IsPrefix seen (lock_history opening entries) → length seen - 1 ≤ length entries
     few_seen seen opening entries begins =
         let long : length (seen ++ begins.0) ≡ length (lock_history opening entries) = ap length begins.1 in
         let same : length (numbered {D = D} entries) ≡ length entries = length-map entries numbered_entry in
         omega (arith, long, same, length-append seen begins.0)
 
-    all_seen : (seen : List (ℕ × LockEntry D)) (opening : StoreView D) (entries given : List StoreEntry) → seen ≡ lock_history opening (entries ++ given) → length seen - 1 ≡ length entries + length given
+    pub all_seen : (seen : List (ℕ × LockEntry D)) (opening : StoreView D) (entries given : List StoreEntry) → seen ≡ lock_history opening (entries ++ given) → length seen - 1 ≡ length entries + length given
     all_seen seen opening entries given is =
         let long : length seen ≡ length (lock_history opening (entries ++ given)) = ap length is in
         let same : length (numbered {D = D} (entries ++ given)) ≡ length (entries ++ given) = length-map (entries ++ given) numbered_entry in
         omega (arith, long, same, length-append entries given)
 
     -- what has been seen of a store is of the same one later
-    same_store : (old new : PassView (LockEntry D)) (opening first : StoreView D) (entries : List StoreEntry) → IsPrefix old.seen new.seen → new.seen ≡ lock_history first entries → HasHistory opening old → HasHistory opening new
+    pub same_store : (old new : PassView (LockEntry D)) (opening first : StoreView D) (entries : List StoreEntry) → IsPrefix old.seen new.seen → new.seen ≡ lock_history first entries → HasHistory opening old → HasHistory opening new
     same_store old new opening first entries grew seen h =
         let longer = subst (λ (l : List (ℕ × LockEntry D)). IsPrefix (lock_history opening h.entries) l) seen (subst (λ (l : List (ℕ × LockEntry D)). IsPrefix l new.seen) h.seen_is grew) in
         let same : opening ≡ first = opened_alike opening first h.entries entries longer in
         record { entries = entries; seen_is = seen ∙ ap (λ (o : StoreView D). lock_history o entries) (sym same) }
 
-    pub asked : (old new : PassView (LockEntry D)) (reply : TurnReply) → Turned lock_entries Done old new reply → HasAsked gives request old new reply
+    -- what the pass has seen after a turn
+    pub grown_seen : (old new : PassView (LockEntry D)) (reply : TurnReply) → (t : Turned lock_entries Done old new reply) → new.seen ≡ lock_history t.before.opening (entries_of t.before.store ++ t.worked.turned.given)
+    grown_seen old new reply t = t.seen ∙ grown faults gives request t.before t.after old.number reply t.worked.turned
+
+    unfoldable pub asked : (old new : PassView (LockEntry D)) (reply : TurnReply) → Turned lock_entries Done old new reply → HasAsked gives request old new reply
     asked old new reply t =
         let w = t.worked.turned in
         let first : StoreView D = t.before.opening in
@@ -131,3 +137,9 @@ module _ {D : Type 0} where
       let whole : IsPrefix told.seen (lock_history a.root a.found) = prefix_trans told.seen old.seen (lock_history a.root a.found) earlier a.found_seen in
       let begins : IsPrefix (lock_history opening h.entries) (lock_history a.root a.found) = subst (λ (l : List (ℕ × LockEntry D)). IsPrefix l (lock_history a.root a.found)) h.seen_is whole in
       (opened_alike opening a.root h.entries a.found begins, (bare begins.0, sym (entries_after opening a.root h.entries a.found begins)))
+
+  -- a pass that was made after another had left has seen as much
+  pub later_found : (gives : List StoreEntry → ℤ → Type 0) (told made old new : PassView (LockEntry D)) (opening : StoreView D) (request : TurnRequest) (reply : TurnReply) → (h : HasHistory opening told) → IsMadeAfter told made → IsPrefix made.seen old.seen → (a : HasAsked gives request old new reply) →
+      (opening ≡ a.root) × IsPrefix h.entries a.found
+  later_found gives told made old new opening request reply h later more a =
+      told_found gives told old new opening request reply h (prefix_trans told.seen made.seen old.seen (later_has_seen told made later) more) a

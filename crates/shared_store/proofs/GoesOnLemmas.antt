@@ -14,7 +14,7 @@ use Rattle.access_history.specs.WellFormed.{IsWellFormed}
 use Rattle.access_history.proofs.LawfulLemmas.{IsLawfulBase-lawful}
 use Rattle.access_history.proofs.MayFollowLemmas.{MayFollow-answered}
 use Rattle.access_history.proofs.ReplayLemmas.{count-replay}
-use Rattle.access_history.specs.declared.event.Event.{Event}
+use Rattle.journal_records.specs.declared.event.Event.{Event}
 use Rattle.access_history.specs.declared.request.StepRequest.{StepRequest}
 use Rattle.access_history.specs.declared.reply.StepReply.{StepReply}
 use Rattle.pcfs_store.specs.declared.reply.StoreReply.{StoreReply}

@@ -13,7 +13,7 @@ use Rattle.tree_lock.proofs.EntryLemmas.{of_number-here, of_number-else}
 use Rattle.tree_lock.proofs.MergeLemmas.{closed_merges}
 use Rattle.pcfs_store.specs.Entries.{StoreEntry, happened, checkpointed, stopped, entries_of}
 use Rattle.pcfs_store.specs.StoreView.{StoreView}
-use Rattle.access_history.specs.Passes.{event_pass}
+use Rattle.journal_records.specs.Passes.{event_pass}
 use Rattle.session_history.specs.Passes.{AllOfPass}
 use Rattle.shared_store.specs.declared.entry.LockEntry.{LockEntry}
 use Rattle.shared_store.specs.declared.entry.LockEntry.TheVariants.{Opened, Happened, Checkpointed, Stopped}

@@ -2,7 +2,7 @@
 use Rattle.std.specs.Prelude.{◌≡◌, ◌⊎◌, ℕ, ◌+◌, ◌≤◌, length, List, [], ◌∷◌, ◌++◌, Option, Some, None, is_some}
 use mathlib.Core.List.{IsPrefix}
 use Rattle.pcfs_ports.specs.Faults.{HasRisen}
-use Rattle.access_history.specs.declared.event.Event.{Event}
+use Rattle.journal_records.specs.declared.event.Event.{Event}
 use Rattle.access_history.specs.Lawful.{IsLawful}
 use Rattle.pcfs_store.specs.StoreView.{StoreView, authority_of_store, first_disk, second_disk}
 use Rattle.pcfs_store.specs.Checkpoints.{place_after}

@@ -2,7 +2,7 @@
 use Rattle.std.specs.Prelude.{◌≡◌, ℤ, List}
 use mathlib.Core.List.{IsPrefix}
 use Rattle.tree_lock.specs.Seen.{PassView, DoormanView}
-use Rattle.tree_lock.specs.Closing.{IsClosed}
+use Rattle.tree_lock.specs.Closing.{IsClosed, IsMadeAfter}
 use Rattle.pcfs_store.specs.Entries.{StoreEntry, entries_of}
 use Rattle.pcfs_store.specs.StoreView.{StoreView}
 use Rattle.session_history.specs.declared.request.TurnRequest.{TurnRequest}
@@ -26,5 +26,13 @@ ClosedAreMerged D = (first last : OpenedView D) (door : DoormanView (LockEntry D
 abbrev pub TurnsFindWhatWasTold : Type 0 → (List StoreEntry → ℤ → Type 0) → Type 0
 TurnsFindWhatWasTold D gives = (told old new : PassView (LockEntry D)) (opening : StoreView D) (request : TurnRequest) (reply : TurnReply) →
     (h : HasHistory opening told) → IsPrefix told.seen old.seen →
+    (a : HasAsked gives request old new reply) →
+    (opening ≡ a.root) × IsPrefix h.entries a.found
+
+-- So does a turn of a pass that was made after the other had left: it finds the same store with all
+-- these entries, however much was said since.
+abbrev pub LaterPassesFindWhatWasTold : Type 0 → (List StoreEntry → ℤ → Type 0) → Type 0
+LaterPassesFindWhatWasTold D gives = (told made old new : PassView (LockEntry D)) (opening : StoreView D) (request : TurnRequest) (reply : TurnReply) →
+    (h : HasHistory opening told) → IsMadeAfter told made → IsPrefix made.seen old.seen →
     (a : HasAsked gives request old new reply) →
     (opening ≡ a.root) × IsPrefix h.entries a.found

@@ -5,6 +5,7 @@ pub mod GoesOn
 pub mod LockHistory
 pub mod Turning
 pub mod Asking
+pub mod Looking
 pub mod Merged
 pub mod Laws
 pub mod Growing

@@ -1,6 +1,6 @@
 //! What the history of a shared store is made of. No value of this type is made.
 
-use access_history::Event;
+use journal_records::Event;
 use pcfs_ports::Disk;
 use pcfs_store::Store;
 

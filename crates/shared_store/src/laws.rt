@@ -1,6 +1,6 @@
 //! Laws of shared stores. The functions do nothing: each contract is a law.
 
-ghost use Rattle.shared_store.specs.Laws.{ClosedAreMerged, TurnsFindWhatWasTold};
+ghost use Rattle.shared_store.specs.Laws.{ClosedAreMerged, TurnsFindWhatWasTold, LaterPassesFindWhatWasTold};
 ghost use Rattle.shared_store.specs.Growing.{StepsGrow, CheckpointsGrow};
 
 use pcfs_ports::Disk;
@@ -16,6 +16,14 @@ pub fn closed_stores_are_merges<D: Disk>()
 /// as much before.
 pub fn turns_find_what_was_told<D: Disk, C: TurnClock>(clock: &C)
     ensures { TurnsFindWhatWasTold D (C.gives clock.now) }
+{
+    let _ = clock;
+}
+
+/// A turn of a pass that was made after another had left finds all entries that the other had seen when something was told
+/// under it.
+pub fn later_passes_find_what_was_told<D: Disk, C: TurnClock>(clock: &C)
+    ensures { LaterPassesFindWhatWasTold D (C.gives clock.now) }
 {
     let _ = clock;
 }

@@ -9,11 +9,13 @@ mod asking;
 mod entry;
 mod formed;
 pub mod laws;
+mod looking;
 mod opened;
 mod turn;
 
 pub use asking::ask;
 pub use entry::LockEntry;
 pub use formed::FormedRequest;
+pub use looking::{LookTurn, look};
 pub use opened::OpenedStore;
 pub use turn::StoreTurn;

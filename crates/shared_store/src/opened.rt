@@ -6,9 +6,12 @@ ghost use Rattle.bl_syntax.specs.TimeOrder.{IsMoment};
 ghost use Rattle.access_history.specs.WellFormed.{IsWellFormed};
 ghost use Rattle.pcfs_store.specs.Entries.{entries_of};
 ghost use Rattle.session_history.specs.Turn.{Turn};
+ghost use Rattle.access_history.specs.Replay.{replay};
+ghost use Rattle.shared_store.specs.Looking.{names_directory};
 ghost use Rattle.shared_store.specs.Turning.{turn_reply, checkpoint_reply, pass_at, HasTurned};
 
 use crate::formed::FormedRequest;
+use crate::looking::node_named;
 use access_history::{Rejection, StepReply, StepRequest};
 use bl_syntax::{Bytes, Numbers, Principal};
 use op_gate::Citation;
@@ -107,6 +110,19 @@ impl<D: Disk> OpenedStore<D> {
         ensures { result.now ≡ self.now.store }
     {
         &self.store
+    }
+
+    /// Whether the node that a reply names, if it names one, is a directory.
+    pub(crate) fn names_directory(&self, reply: &TurnReply) -> bool
+        ensures { result ≡ names_directory (replay self.now.store.base self.now.store.events) reply.now }
+    {
+        match node_named(reply) {
+            None => false,
+            Some(node) => {
+                let world = self.store.gate().history().world();
+                world.tree().is_directory(node)
+            }
+        }
     }
 
     // Has the step decided and kept.

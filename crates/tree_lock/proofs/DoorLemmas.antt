@@ -5,6 +5,8 @@ use Rattle.std.specs.Prelude.{Some}
 use Rattle.std.specs.List.{AllByRecursion, IsDistinct}
 use mathlib.Core.Option.{Option, some, none, some-injective, some-ne-none}
 use mathlib.Core.List.{IsPrefix}
+use mathlib.Core.Logic.{dite}
+use native.Mathlib.Decide.{ℕ_discrete}
 use lib.ListN.{get_elem?}
 use Rattle.atomic_table.specs.Table.{State, Me, step, keeps, opening, Allows, Splits, Joins, Final, Seen}
 use Rattle.atomic_table.proofs.Lists.{at_longer, set_here, set_else, set_again}
@@ -14,7 +16,7 @@ use Rattle.tree_lock.specs.Entries.{of_number, AllOfNumber}
 use Rattle.tree_lock.specs.Seen.{Retired, AreNumbers, AreOwn, PassView}
 use Rattle.tree_lock.specs.Seats.{doorman_view}
 use Rattle.tree_lock.specs.Knowledge.{tickets_at, is_holding, tickets_out, opening_view, spent_view, after_making, made_by, after_retiring, after_look}
-use Rattle.tree_lock.specs.Rule.{IsAtStage, IsKnown, Fits, IsSpent, IsDoorman, IsHome, IsAway, Kept}
+use Rattle.tree_lock.specs.Rule.{IsAtStage, IsKnown, Fits, IsSpent, IsDoorman, HasSeenAll, IsLongest, IsHome, IsAway, Kept}
 use Rattle.tree_lock.specs.Steps.{look_step, Looks}
 use Rattle.tree_lock.specs.Closing.{TakesIn, IsClosed}
 use Rattle.atomic_table.specs.Seated.{TableId}
@@ -22,6 +24,7 @@ use Rattle.tree_lock.proofs.EntryLemmas.{of_number-all, of_number-none, prefix_r
 use Rattle.tree_lock.proofs.NumberLemmas.{retired-le, each_made}
 use Rattle.tree_lock.proofs.SeatLemmas.{at_default, each_set, each_snoc, at_within, length-set, length-snoc, tickets_out-set, tickets_out-snoc}
 use Rattle.tree_lock.proofs.StepLemmas.{each_weaker, known_out, is_known, true_is_not_false, spent_set}
+use Rattle.tree_lock.proofs.SeenLemmas.{between, seen_set}
 
 module _ {E : Type 0} where
   idle_of : (history : List (ℕ × E)) (i : ℕ) (v : Knowledge E) (b : Bool) → b ≡ false → IsKnown history i v b → v.stage ≡ Idle
@@ -54,6 +57,7 @@ module _ {V E : Type 0} (entries : V → List (ℕ × E)) where
         doorman = record { here = refl; out = refl; idle = refl; made = refl; bound = omega arith; numbers = record { distinct = tt; within = tt }; own = tt; spent = tt };
         none_above = λ n above. of_number-none n 0 history (λ e. omega arith) all;
         each = each_snoc F [] door (λ j u e. absurd (some-ne-none u (sym e))) record { seen = prefix_refl history; told = prefix_nil history; known = (refl, own); stage = tt };
+        longest = inl record { seat = 0; view = door; here = refl; out = refl; all = refl };
         slot = inl record { value = value; here = refl; is = refl; free = each_snoc free [] door (λ j u e. absurd (some-ne-none u (sym e))) refl };
       }
 
@@ -127,6 +131,10 @@ module _ {V E : Type 0} (entries : V → List (ℕ × E)) where
         none_above = λ n above. r.none_above n (let le : length (views ++ right ∷ []) ≤ n = above in omega arith);
         each = each_snoc F views right (each_set F s.views 0 left (λ j u _ e. r.each j u e) record { seen = fits.seen; told = fits.told; known = fits.known; stage = fits.stage })
             record { seen = fits.seen; told = prefix_nil r.history; known = (here, none); stage = tt };
+        longest = ⊎_elim
+            (λ (a : HasSeenAll r.history s.views). let b = seen_set r.history s.views 0 v left at refl refl a in inl record { seat = b.seat; view = b.view; here = at_longer views (right ∷ []) b.seat b.view b.here; out = b.out; all = b.all })
+            (λ (told : r.door.told ≡ r.history). inr (ap (λ (u : Knowledge E). u.told) (sym (door_is s r v at)) ∙ told))
+            r.longest;
         slot = ⊎_elim
             (λ (home : IsHome entries r.history views s.homes). inl record { value = home.value; here = home.here; is = home.is; free = each_snoc free views right home.free refl })
             (λ (away : IsAway views). inr record { holder = away.holder; view = away.view; here = at_longer views (right ∷ []) away.holder away.view away.here; holding = away.holding })
@@ -143,10 +151,28 @@ module _ {V E : Type 0} (entries : V → List (ℕ × E)) where
         apart_from_spent views i w xs at out spent.1,
       )
 
+  -- who had seen the whole history has, or was the pass that is taken in, of which the doorman is told it
+  after_retiring_longest : (s : Table) (r : Kept entries s) (v : Knowledge E) (other : ℕ) (w : Knowledge E) → IsPrefix v.told v.seen → get_elem? s.views 0 ≡ some v → other ≢ 0 → get_elem? s.views other ≡ some w
+      → IsLongest r.history (set (set s.views 0 (after_retiring v w)) other spent_view) (after_retiring v w)
+  after_retiring_longest s r v other w earlier at ne at_w =
+      let d = doorman_at s r v at in
+      let both : Knowledge E = after_retiring v w in
+      let mid : List (Knowledge E) = set s.views 0 both in
+      let has : HasSeenAll r.history s.views → IsLongest r.history (set mid other spent_view) both = λ a.
+      let b = seen_set r.history s.views 0 v both at refl refl a in
+      dite (ℕ_discrete b.seat other)
+      (λ here. let same : b.view ≡ w = some-injective b.view w (sym b.here ∙ ap (λ j. get_elem? mid j) here ∙ set_else s.views 0 other both ne ∙ at_w) in inr (ap (λ (u : Knowledge E). u.seen) (sym same) ∙ b.all))
+      (λ apart. inl record { seat = b.seat; view = b.view; here = set_else mid other b.seat spent_view apart ∙ b.here; out = b.out; all = b.all }) in
+      ⊎_elim has
+      (λ (told : r.door.told ≡ r.history).
+      let told_v : v.told ≡ r.history = ap (λ (u : Knowledge E). u.told) (sym (door_is s r v at)) ∙ told in
+      has record { seat = 0; view = v; here = at; out = d.out; all = between v.told v.seen r.history earlier (r.each 0 v at).seen told_v })
+      r.longest
+
   -- a pass is taken in
-  pub retires_keeps : (v : Knowledge E) (other : ℕ) (w : Knowledge E) → w.out ≡ true → 1 ≤ w.number → w.stage ≡ Idle → Joins (Kept entries) 0 v other w (after_retiring v w) spent_view
+  pub retires_keeps : (v : Knowledge E) (other : ℕ) (w : Knowledge E) → IsPrefix v.told v.seen → w.out ≡ true → 1 ≤ w.number → w.stage ≡ Idle → Joins (Kept entries) 0 v other w (after_retiring v w) spent_view
   unfolding IsDistinct
-  retires_keeps v other w out number idle s r at ne at_other =
+  retires_keeps v other w earlier out number idle s r at ne at_other =
       let both : Knowledge E = after_retiring v w in
       let gone : Knowledge E = spent_view in
       let d = doorman_at s r v at in
@@ -198,6 +224,7 @@ module _ {V E : Type 0} (entries : V → List (ℕ × E)) where
         each = each_set F mid other gone
             (λ j u _ e. each_set F s.views 0 both (λ k x _ h. r.each k x h) record { seen = fits.seen; told = fits_w.seen; known = fits.known; stage = fits.stage } j u e)
             record { seen = prefix_nil r.history; told = prefix_nil r.history; known = refl; stage = tt };
+        longest = after_retiring_longest s r v other w earlier at ne at_w;
         slot = slot_stays s r other w gone at_w (ap is_holding idle) refl mid s.homes slot_mid at_other;
       }
 
@@ -243,6 +270,7 @@ module _ {V E : Type 0} (entries : V → List (ℕ × E)) where
           none_above = λ n above. r.none_above n (let le : length views ≤ n = above in omega arith);
           each = each_set (Fits r.history r.served r.drawn r.seat_of) s.views 0 w (λ j u _ e. r.each j u e)
               record { seen = prefix_refl r.history; told = fits.told; known = let k = known_out r.history 0 v v.out d.out fits.known in is_known r.history 0 w w.out d.out k.0 k.1; stage = subst (IsAtStage r.history r.served r.drawn r.seat_of 0 r.history) (sym d.idle) tt };
+          longest = inl record { seat = 0; view = w; here = set_here s.views 0 w (at_within s.views 0 v at); out = d.out; all = refl };
           slot = slot_stays s r 0 v w at (ap is_holding d.idle) (ap is_holding d.idle) s.views s.homes r.slot at;
         },
         (
@@ -274,11 +302,26 @@ module _ {V E : Type 0} (entries : V → List (ℕ × E)) where
       let idle : u.stage ≡ Idle = idle_of r.history away.holder u u.out (sym (ap (λ (x : Knowledge E). x.out) same) ∙ spent.spent) (r.each away.holder u away.here).known in
       true_is_not_false (sym away.holding ∙ ap is_holding idle)
 
+  -- the doorman has seen the whole history where all were retired
+  door_has_seen : (s : Table) (r : Kept entries s) (v : Knowledge E) → get_elem? s.views 0 ≡ some v → IsPrefix v.told v.seen → length v.retired ≡ v.made → v.seen ≡ r.history
+  door_has_seen s r v at earlier all =
+      let d = doorman_at s r v at in
+      let made : v.made + 1 ≡ length s.views = d.made in ⊎_elim
+      (λ (a : HasSeenAll r.history s.views).
+      dite (ℕ_discrete a.seat 0)
+      (λ here. ap (λ (u : Knowledge E). u.seen) (sym (some-injective a.view v (sym a.here ∙ ap (λ j. get_elem? s.views j) here ∙ at))) ∙ a.all)
+      (λ ne.
+      let within : a.seat < length s.views = at_within s.views a.seat a.view a.here in
+      let spent : IsSpent s.views a.seat = each_made (IsSpent s.views) v.made v.retired a.seat d.numbers all d.spent (omega arith) (omega arith) in
+      absurd (true_is_not_false (sym a.out ∙ ap (λ (u : Knowledge E). u.out) (some-injective a.view spent.view (sym a.here ∙ spent.here)) ∙ spent.spent))))
+      (λ (told : r.door.told ≡ r.history). between v.told v.seen r.history earlier (r.each 0 v at).seen (ap (λ (u : Knowledge E). u.told) (sym (door_is s r v at)) ∙ told))
+      r.longest
+
   -- a table whose passes were all retired has the value, with the history for its entries
-  pub closes : (v : Knowledge E) (words : List ℕ) (slots : List (std.Option V)) → length v.retired ≡ v.made → Final (Seen (Kept entries) 0 v) words slots
+  pub closes : (v : Knowledge E) (words : List ℕ) (slots : List (std.Option V)) → IsPrefix v.told v.seen → length v.retired ≡ v.made → Final (Seen (Kept entries) 0 v) words slots
       → (value : V) × (get_elem? slots 0 ≡ some (Some value)) × IsPrefix v.seen (entries value) × AreNumbers v.made v.retired × AreOwn (entries value) v.retired × (of_number 0 (entries value) ≡ v.own)
-      × ((n : ℕ) → v.made + 1 ≤ n → of_number n (entries value) ≡ [])
-  closes v words slots all final =
+      × ((n : ℕ) → v.made + 1 ≤ n → of_number n (entries value) ≡ []) × (entries value ≡ v.seen)
+  closes v words slots earlier all final =
       let s : Table = final.0 in
       let r = final.1.0 in
       let at = final.1.1 in
@@ -294,17 +337,18 @@ module _ {V E : Type 0} (entries : V → List (ℕ × E)) where
         subst (λ h. AreOwn h v.retired) is d.own,
         ap (of_number 0) (sym is) ∙ (known_out r.history 0 v v.out d.out fits.known).1,
         λ n above. ap (of_number n) (sym is) ∙ r.none_above n (let le : v.made + 1 ≤ n = above in omega arith),
+        sym is ∙ sym (door_has_seen s r v at earlier all),
       )
 
   -- what a closed lock gives
-  pub closed_is : (v : Knowledge E) (lock : TableId) (out : ℕ) (words : List ℕ) (slots : List (std.Option V)) (value : V) → length v.retired ≡ v.made → IsPrefix v.own v.seen → Final (Seen (Kept entries) 0 v) words slots
+  pub closed_is : (v : Knowledge E) (lock : TableId) (out : ℕ) (words : List ℕ) (slots : List (std.Option V)) (value : V) → length v.retired ≡ v.made → IsPrefix v.own v.seen → IsPrefix v.told v.seen → Final (Seen (Kept entries) 0 v) words slots
       → get_elem? slots 0 ≡ some (Some value) → IsClosed (doorman_view v lock out) (entries value)
-  closed_is v lock out words slots value all opened final at =
-      let told = closes v words slots all final in
+  closed_is v lock out words slots value all opened earlier final at =
+      let told = closes v words slots earlier all final in
       let options : ◌≡◌ {A = std.Option V} (Some told.0) (Some value) = some-injective (Some told.0) (Some value) (sym told.1 ∙ at) in
       let same : told.0 ≡ value = cc in
       let P : V → Type 0 = λ x. IsClosed (doorman_view v lock out) (entries x) in
-      subst P same record { all = all; knows = record { opened = prefix_trans v.own v.seen (entries told.0) opened told.2; seen = told.2; numbers = told.3; own = told.4; opening = told.5; none_above = told.6 } }
+      subst P same record { all = all; knows = record { opened = prefix_trans v.own v.seen (entries told.0) opened told.2; seen = told.2; numbers = told.3; own = told.4; opening = told.5; none_above = told.6 }; whole = told.7 }
 
 module _ {E : Type 0} where
   -- what the doorman's look comes to, after a pass was taken in

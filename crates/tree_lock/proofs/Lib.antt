@@ -1,5 +1,6 @@
 pub mod EntryLemmas
 pub mod SeatLemmas
+pub mod SeenLemmas
 pub mod StepLemmas
 pub mod TurnLemmas
 pub mod NumberLemmas

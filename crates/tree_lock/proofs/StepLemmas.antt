@@ -16,11 +16,12 @@ use Rattle.tree_lock.specs.declared.view.Stage.{Stage}
 use Rattle.tree_lock.specs.declared.view.Stage.TheVariants.{Idle, Waiting, Holding}
 use Rattle.tree_lock.specs.Entries.{of_number, AllOfNumber, Appends}
 use Rattle.tree_lock.specs.Seen.{Retired, AreOwn}
-use Rattle.tree_lock.specs.Knowledge.{tickets_at, is_holding, tickets_out, at_stage, holding, after_turn}
+use Rattle.tree_lock.specs.Knowledge.{tickets_at, is_holding, tickets_out, at_stage, holding, after_work}
 use Rattle.tree_lock.specs.Rule.{IsOut, IsAtStage, IsKnown, Fits, IsSpent, IsDoorman, IsHome, IsAway, Kept}
-use Rattle.tree_lock.specs.Steps.{draw_step, wait_step, serve_step, Takes}
+use Rattle.tree_lock.specs.Steps.{draw_step, wait_step, tell_step, serve_step, Takes}
 use Rattle.tree_lock.proofs.EntryLemmas.{of_number-others, prefix_refl, prefix_more}
 use Rattle.tree_lock.proofs.SeatLemmas.{at_default, each_set, at_within, length-set, tickets_out-set, tickets_out-le}
+use Rattle.tree_lock.proofs.SeenLemmas.{longest_set}
 
 pub each_weaker : {X : Type 0} (P Q : X → Type 0) (xs : List X) → ((x : X) → P x → Q x) → AllByRecursion P xs → AllByRecursion Q xs
 each_weaker P Q [] weaker all = tt
@@ -157,6 +158,7 @@ module _ {V E : Type 0} (entries : V → List (ℕ × E)) where
                 known = let k = known_out r.history id v v.out out fits.known in is_known r.history id w w.out out k.0 k.1;
                 stage = record { wait_step = omega arith; exists = omega arith; here = ap (λ b. cond b id (r.seat_of r.drawn)) (eq-eqb r.drawn r.drawn refl) };
               };
+          longest = longest_set r.history s.views r.door id v w at refl refl r.longest;
           slot = slot_stays s r id v w at (ap is_holding idle) refl;
         },
         (r.drawn, r.drawn_is, refl),
@@ -193,6 +195,7 @@ module _ {V E : Type 0} (entries : V → List (ℕ × E)) where
           doorman = r.doorman;
           none_above = r.none_above;
           each = r.each;
+          longest = r.longest;
           slot = r.slot;
         },
         refl,
@@ -259,6 +262,7 @@ module _ {V E : Type 0} (entries : V → List (ℕ × E)) where
             known = is_known r.history id w w.out out known.0 known.1;
             stage = (sym now, o, home.is);
           };
+          longest = inl record { seat = id; view = w; here = set_here s.views id w (at_within s.views id v at); out = out; all = home.is };
           slot = inr record { holder = id; view = w; here = set_here s.views id w (at_within s.views id v at); holding = refl };
         },
         told_at me t found (w, (0, Some home.value) ∷ me.1) waiting
@@ -275,12 +279,11 @@ module _ {V E : Type 0} (entries : V → List (ℕ × E)) where
       let ne : id ≢ x.0 = λ e. true_is_not_false (sym out ∙ ap (λ (u : Knowledge E). u.out) (some-injective v gone.view (sym at ∙ ap (λ j. get_elem? views j) e ∙ gone.here)) ∙ gone.spent) in
       (of_number-others x.0 id history added ne all ∙ own.0, own_more history added views id v xs at out all spent.1 own.1)
 
-  -- the value is given back, and the next ticket served
-  gives_keeps : (slots id : ℕ) (v : Knowledge E) (t : ℕ) (value : V) (held : List (ℕ × std.Option V)) → held ≡ (0, Some value) ∷ [] → v.out ≡ true → 1 ≤ v.number → v.stage ≡ Holding t
-      → Appends v.number v.seen (entries value) → Allows (Kept entries) slots id (v, (0, Some value) ∷ []) 16 (λ n. (n + 1) % 2 ^ 64) (serve_step entries (step slots 16 1 0 none) (v, (0, Some value) ∷ []))
-  gives_keeps slots id v t value held held_is out number holding_is appends s r _ at _ =
+  -- what was appended is told, and the value is still out
+  told_keeps : (slots id : ℕ) (v : Knowledge E) (t : ℕ) (value : V) → v.out ≡ true → 1 ≤ v.number → v.stage ≡ Holding t
+      → Appends v.number v.seen (entries value) → Allows (Kept entries) slots id (v, (0, Some value) ∷ []) 16 (λ n. n) (tell_step entries (step slots 16 0 0 none) (v, (0, Some value) ∷ []))
+  told_keeps slots id v t value out number holding_is appends s r _ at _ =
       let found : ℕ = get_or s.words 16 0 in
-      let next : ℕ = (found + 1) % 2 ^ 64 in
       let added : List (ℕ × E) = appends.added in
       let fits = r.each id v at in
       let known = known_out r.history id v v.out out fits.known in
@@ -289,40 +292,34 @@ module _ {V E : Type 0} (entries : V → List (ℕ × E)) where
       let history : List (ℕ × E) = r.history ++ added in
       let is : entries value ≡ history = appends.is ∙ ap (λ l. l ++ added) holds.1 in
       let all : AllOfNumber id added = subst (λ n. AllOfNumber n added) known.0 appends.of_number in
-      let w : Knowledge E = after_turn v (entries value) (of_number v.number (entries value)) in
+      let w : Knowledge E = after_work v (entries value) (of_number v.number (entries value)) in
       let wide : 32 < length s.words = r.wide in
+      let words : set s.words 16 found ≡ s.words = set_again s.words 16 found (at_default s.words 16 0 (omega arith)) in
       let apart = apart_from_door s r id v at out number in
       let within : id < length s.views = at_within s.views id v at in
-      let count : tickets_out (set s.views id w) + tickets_at v.stage ≡ tickets_out s.views + 0 = tickets_out-set s.views id v w at in
-      let one : tickets_at v.stage ≡ 1 = ap tickets_at holding_is in
+      let count : tickets_out (set s.views id w) + tickets_at v.stage ≡ tickets_out s.views + tickets_at v.stage = tickets_out-set s.views id v w at in
       let before : r.served + tickets_out s.views ≡ r.drawn = r.counted in
-      let slots_is : length s.homes ≡ 1 = r.slots in
-      let not_mine : (j t : ℕ) → j ≢ id → IsOut r.served r.drawn r.seat_of j t → IsOut (r.served + 1) r.drawn r.seat_of j t = λ j t ne o.
-      let wait_step : r.served ≤ t = o.wait_step in
-      let other : r.served ≢ t = λ e. ne (sym o.here ∙ ap r.seat_of (sym e) ∙ here) in
-      record { wait_step = omega arith; exists = o.exists; here = o.here } in
-      let stage_stays : (j : ℕ) (seen : List (ℕ × E)) → j ≢ id → (stage : Stage) → IsAtStage r.history r.served r.drawn r.seat_of j seen stage → IsAtStage history (r.served + 1) r.drawn r.seat_of j seen stage = λ j seen ne.
-      elim [ Idle ↦ λ _. tt | Waiting t ↦ λ o. not_mine j t ne o | Holding t ↦ λ h. absurd (ne (sym h.1.here ∙ ap r.seat_of h.0 ∙ here)) ] in
-      let free : (j : ℕ) (u : Knowledge E) → j ≢ id → get_elem? s.views j ≡ some u → (b : Bool) → is_holding u.stage ≡ b → b ≡ false = λ j u ne e.
-      elim [ true ↦ λ h. absurd (ne (sym (holds_of r.history r.served r.drawn r.seat_of j u.seen u.stage h (r.each j u e).stage).0 ∙ here)) | false ↦ λ h. refl ] in (
+      let mine : IsAtStage r.history r.served r.drawn r.seat_of id v.seen (Holding t) = subst (IsAtStage r.history r.served r.drawn r.seat_of id v.seen) holding_is fits.stage in
+      let stage_stays : (j : ℕ) (seen : List (ℕ × E)) → j ≢ id → (stage : Stage) → IsAtStage r.history r.served r.drawn r.seat_of j seen stage → IsAtStage history r.served r.drawn r.seat_of j seen stage = λ j seen ne.
+      elim [ Idle ↦ λ _. tt | Waiting t ↦ λ o. o | Holding t ↦ λ h. absurd (ne (sym h.1.here ∙ ap r.seat_of h.0 ∙ here)) ] in (
         w,
-        gives,
+        keeps,
         tt,
-        record {
+        subst (λ (words : List ℕ). Kept entries record { words = words; homes = s.homes; views = set s.views id w }) (sym words) record {
           history = history;
-          served = r.served + 1;
+          served = r.served;
           drawn = r.drawn;
           seat_of = r.seat_of;
           door = r.door;
-          wide = subst (λ n. 32 < n) (sym (length-set s.words 16 next)) wide;
-          slots = length-set s.homes 0 (some (Some value)) ∙ slots_is;
-          drawn_is = get_or-set_other s.words 16 0 next 0 (λ e. omega arith) ∙ r.drawn_is;
-          served_is = get_or-set_same s.words 16 next 0 (omega arith) ∙ ap (λ n. (n + 1) % 2 ^ 64) r.served_is ∙ mod-add-mod r.served (2 ^ 64) 1;
+          wide = wide;
+          slots = r.slots;
+          drawn_is = r.drawn_is;
+          served_is = r.served_is;
           counted = omega arith;
           doorman = doorman_stays r.history history s.views r.door id v w r.doorman apart at out (own_more r.history added s.views id v r.door.retired at out all r.doorman.spent r.doorman.own);
           none_above = λ n above.
               let above' : length s.views ≤ n = subst (λ m. m ≤ n) (length-set s.views id w) above in of_number-others n id r.history added (λ e. omega arith) all ∙ r.none_above n above';
-          each = each_set (Fits history (r.served + 1) r.drawn r.seat_of) s.views id w
+          each = each_set (Fits history r.served r.drawn r.seat_of) s.views id w
               (λ j u ne e. let f = r.each j u e in record {
                 seen = prefix_more u.seen r.history added f.seen;
                 told = prefix_more u.told r.history added f.told;
@@ -333,8 +330,60 @@ module _ {V E : Type 0} (entries : V → List (ℕ × E)) where
                 seen = subst (λ l. IsPrefix l history) (sym is) (prefix_refl history);
                 told = prefix_more v.told r.history added fits.told;
                 known = is_known history id w w.out out known.0 (ap (of_number id) (sym is) ∙ ap (λ n. of_number n (entries value)) (sym known.0));
-                stage = tt;
+                stage = subst (IsAtStage history r.served r.drawn r.seat_of id (entries value)) (sym holding_is) (mine.0, mine.1, is);
               };
+          longest = inl record { seat = id; view = w; here = set_here s.views id w within; out = out; all = is };
+          slot = inr record { holder = id; view = w; here = set_here s.views id w within; holding = ap is_holding holding_is };
+        },
+        refl,
+      )
+
+  -- the value is given back, and the next ticket served
+  gives_keeps : (slots id : ℕ) (v : Knowledge E) (t : ℕ) (value : V) → v.out ≡ true → 1 ≤ v.number → v.stage ≡ Holding t
+      → v.seen ≡ entries value → Allows (Kept entries) slots id (v, (0, Some value) ∷ []) 16 (λ n. (n + 1) % 2 ^ 64) (serve_step (step slots 16 1 0 none) (v, (0, Some value) ∷ []))
+  gives_keeps slots id v t value out number holding_is told s r _ at _ =
+      let found : ℕ = get_or s.words 16 0 in
+      let next : ℕ = (found + 1) % 2 ^ 64 in
+      let fits = r.each id v at in
+      let known = known_out r.history id v v.out out fits.known in
+      let holds = holds_of r.history r.served r.drawn r.seat_of id v.seen v.stage (ap is_holding holding_is) fits.stage in
+      let here : r.seat_of r.served ≡ id = holds.0 in
+      let is : entries value ≡ r.history = sym told ∙ holds.1 in
+      let w : Knowledge E = at_stage v Idle in
+      let wide : 32 < length s.words = r.wide in
+      let apart = apart_from_door s r id v at out number in
+      let count : tickets_out (set s.views id w) + tickets_at v.stage ≡ tickets_out s.views + 0 = tickets_out-set s.views id v w at in
+      let one : tickets_at v.stage ≡ 1 = ap tickets_at holding_is in
+      let before : r.served + tickets_out s.views ≡ r.drawn = r.counted in
+      let slots_is : length s.homes ≡ 1 = r.slots in
+      let not_mine : (j t : ℕ) → j ≢ id → IsOut r.served r.drawn r.seat_of j t → IsOut (r.served + 1) r.drawn r.seat_of j t = λ j t ne o.
+      let wait_step : r.served ≤ t = o.wait_step in
+      let other : r.served ≢ t = λ e. ne (sym o.here ∙ ap r.seat_of (sym e) ∙ here) in
+      record { wait_step = omega arith; exists = o.exists; here = o.here } in
+      let stage_stays : (j : ℕ) (seen : List (ℕ × E)) → j ≢ id → (stage : Stage) → IsAtStage r.history r.served r.drawn r.seat_of j seen stage → IsAtStage r.history (r.served + 1) r.drawn r.seat_of j seen stage = λ j seen ne.
+      elim [ Idle ↦ λ _. tt | Waiting t ↦ λ o. not_mine j t ne o | Holding t ↦ λ h. absurd (ne (sym h.1.here ∙ ap r.seat_of h.0 ∙ here)) ] in
+      let free : (j : ℕ) (u : Knowledge E) → j ≢ id → get_elem? s.views j ≡ some u → (b : Bool) → is_holding u.stage ≡ b → b ≡ false = λ j u ne e.
+      elim [ true ↦ λ h. absurd (ne (sym (holds_of r.history r.served r.drawn r.seat_of j u.seen u.stage h (r.each j u e).stage).0 ∙ here)) | false ↦ λ h. refl ] in (
+        w,
+        gives,
+        tt,
+        record {
+          history = r.history;
+          served = r.served + 1;
+          drawn = r.drawn;
+          seat_of = r.seat_of;
+          door = r.door;
+          wide = subst (λ n. 32 < n) (sym (length-set s.words 16 next)) wide;
+          slots = length-set s.homes 0 (some (Some value)) ∙ slots_is;
+          drawn_is = get_or-set_other s.words 16 0 next 0 (λ e. omega arith) ∙ r.drawn_is;
+          served_is = get_or-set_same s.words 16 next 0 (omega arith) ∙ ap (λ n. (n + 1) % 2 ^ 64) r.served_is ∙ mod-add-mod r.served (2 ^ 64) 1;
+          counted = omega arith;
+          doorman = doorman_stays r.history r.history s.views r.door id v w r.doorman apart at out r.doorman.own;
+          none_above = λ n above. r.none_above n (subst (λ m. m ≤ n) (length-set s.views id w) above);
+          each = each_set (Fits r.history (r.served + 1) r.drawn r.seat_of) s.views id w
+              (λ j u ne e. let f = r.each j u e in record { seen = f.seen; told = f.told; known = f.known; stage = stage_stays j u.seen ne u.stage f.stage })
+              record { seen = fits.seen; told = fits.told; known = is_known r.history id w w.out out known.0 known.1; stage = tt };
+          longest = longest_set r.history s.views r.door id v w at refl refl r.longest;
           slot = inl record {
             value = value;
             here = set_here s.homes 0 (some (Some value)) (omega arith);
@@ -345,9 +394,17 @@ module _ {V E : Type 0} (entries : V → List (ℕ × E)) where
         refl,
       )
 
-  pub serves_keeps : (slots id : ℕ) (me : Me (std.Option V) (Knowledge E)) (t : ℕ) (value : V) → me.1 ≡ (0, Some value) ∷ [] → me.0.out ≡ true → 1 ≤ me.0.number → me.0.stage ≡ Holding t
-      → Appends me.0.number me.0.seen (entries value) → Allows (Kept entries) slots id me 16 (λ n. (n + 1) % 2 ^ 64) (serve_step entries (step slots 16 1 0 none) me)
-  serves_keeps slots id me t value is out number holding_is appends =
-      let P : Me (std.Option V) (Knowledge E) → Type 0 = λ m. Allows (Kept entries) slots id m 16 (λ n. (n + 1) % 2 ^ 64) (serve_step entries (step slots 16 1 0 none) m) in
+  -- the same of a seat that has this value
+  pub tells_keeps : (slots id : ℕ) (me : Me (std.Option V) (Knowledge E)) (t : ℕ) (value : V) → me.1 ≡ (0, Some value) ∷ [] → me.0.out ≡ true → 1 ≤ me.0.number → me.0.stage ≡ Holding t
+      → Appends me.0.number me.0.seen (entries value) → Allows (Kept entries) slots id me 16 (λ n. n) (tell_step entries (step slots 16 0 0 none) me)
+  tells_keeps slots id me t value is out number holding_is appends =
+      let P : Me (std.Option V) (Knowledge E) → Type 0 = λ m. Allows (Kept entries) slots id m 16 (λ n. n) (tell_step entries (step slots 16 0 0 none) m) in
       let same : ◌≡◌ {A = Me (std.Option V) (Knowledge E)} (me.0, (0, Some value) ∷ []) me = λ k. (me.0, sym is k) in
-      subst P same (gives_keeps slots id me.0 t value me.1 is out number holding_is appends)
+      subst P same (told_keeps slots id me.0 t value out number holding_is appends)
+
+  pub serves_keeps : (slots id : ℕ) (me : Me (std.Option V) (Knowledge E)) (t : ℕ) (value : V) → me.1 ≡ (0, Some value) ∷ [] → me.0.out ≡ true → 1 ≤ me.0.number → me.0.stage ≡ Holding t
+      → me.0.seen ≡ entries value → Allows (Kept entries) slots id me 16 (λ n. (n + 1) % 2 ^ 64) (serve_step (step slots 16 1 0 none) me)
+  serves_keeps slots id me t value is out number holding_is told =
+      let P : Me (std.Option V) (Knowledge E) → Type 0 = λ m. Allows (Kept entries) slots id m 16 (λ n. (n + 1) % 2 ^ 64) (serve_step (step slots 16 1 0 none) m) in
+      let same : ◌≡◌ {A = Me (std.Option V) (Knowledge E)} (me.0, (0, Some value) ∷ []) me = λ k. (me.0, sym is k) in
+      subst P same (gives_keeps slots id me.0 t value out number holding_is told)

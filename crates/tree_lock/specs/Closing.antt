@@ -28,13 +28,23 @@ module _ {E : Type 0} where
     pub told : IsPrefix pass.seen new.seen
     pub knows : Knows new new.seen
 
-  -- The history of a lock whose passes were all taken in
+  -- The history of a lock whose passes were all taken in: the doorman has seen it whole.
   pub record IsClosed (door : DoormanView E) (history : List (ℕ × E)) : Type 0 where
     pub all : length door.retired ≡ door.made
     pub knows : Knows door history
+    pub whole : history ≡ door.seen
+
+  -- A pass was made after another had left: the doorman took the other in, and had seen no less when
+  -- the pass was made.
+  pub record IsMadeAfter (left later : PassView E) : Type 0 where
+    pub before : DoormanView E
+    pub after : DoormanView E
+    pub door : DoormanView E
+    pub taken : TakesIn left before after
+    pub more : IsPrefix after.seen door.seen
+    pub made : later.seen ≡ door.seen
 
 -- What a pass had seen when it was taken in, each pass has seen that is made later.
 abbrev pub LaterPassesHaveSeen : Type 0 → Type 0
-LaterPassesHaveSeen E = (left later : PassView E) (before after door : DoormanView E) →
-    TakesIn left before after → IsPrefix after.seen door.seen → later.seen ≡ door.seen →
+LaterPassesHaveSeen E = (left later : PassView E) → IsMadeAfter left later →
     IsPrefix left.seen later.seen

@@ -50,9 +50,9 @@ module _ {E : Type 0} where
   abbrev pub holding : Knowledge E → ℕ → List (ℕ × E) → Knowledge E
   holding v t entries = record v { stage = Holding t; seen = entries }
 
-  -- a pass whose turn is over
-  abbrev pub after_turn : Knowledge E → List (ℕ × E) → List (ℕ × E) → Knowledge E
-  after_turn v seen own = record v { stage = Idle; seen = seen; own = own }
+  -- a pass that told what its job appended
+  abbrev pub after_work : Knowledge E → List (ℕ × E) → List (ℕ × E) → Knowledge E
+  after_work v seen own = record v { seen = seen; own = own }
 
   abbrev pub after_look : Knowledge E → List (ℕ × E) → Knowledge E
   after_look v seen = record v { seen = seen }

@@ -3,6 +3,8 @@
 -- 64. Of the words from 32 on, by which passes wake each other, the rule says nothing.
 -- The one slot has the value, or is out with the pass that holds it. The seat of a pass is its
 -- number, and that of the doorman is 0.
+-- The history has what a pass appended from the step on by which the pass tells it, while it still
+-- has the value; the step that serves the next ticket puts the value back, and adds nothing.
 use Rattle.std.specs.Prelude.{◌≡◌, ℕ, ◌+◌, ◌^◌, ◌%◌, ◌<◌, ◌≤◌, List, [], length, Bool, true, false, slice_index, ◌⊎◌, Some}
 use Rattle.std.specs.List.{AllByRecursion}
 use Rattle.std.specs.Prelude as std
@@ -58,6 +60,19 @@ module _ {E : Type 0} where
     pub own : AreOwn history door.retired
     pub spent : AllByRecursion (λ (r : Retired E). IsSpent views r.0) door.retired
 
+  -- a seat that has not been retired has seen the whole history
+  pub record HasSeenAll (history : List (ℕ × E)) (views : List (Knowledge E)) : Type 0 where
+    pub seat : ℕ
+    pub view : Knowledge E
+    pub here : get_elem? views seat ≡ some view
+    pub out : view.out ≡ true
+    pub all : view.seen ≡ history
+
+  -- The history is the longest that anybody has seen: somebody has seen it whole, or the doorman was
+  -- told it by the pass that was retired last.
+  abbrev pub IsLongest : List (ℕ × E) → List (Knowledge E) → Knowledge E → Type 0
+  IsLongest history views door = HasSeenAll history views ⊎ (door.told ≡ history)
+
   -- a pass holds the value
   pub record IsAway (views : List (Knowledge E)) : Type 0 where
     pub holder : ℕ
@@ -88,4 +103,5 @@ module _ {V E : Type 0} (entries : V → List (ℕ × E)) where
     pub none_above : (n : ℕ) → length s.views ≤ n → of_number n history ≡ []
     pub each : (i : ℕ) (v : Knowledge E) → get_elem? s.views i ≡ some v →
         Fits history served drawn seat_of i v
+    pub longest : IsLongest history s.views door
     pub slot : IsHome history s.views s.homes ⊎ IsAway s.views

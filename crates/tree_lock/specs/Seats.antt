@@ -1,10 +1,10 @@
 -- Seats at the lock's table, between the steps of a turn. This project's own.
-use Rattle.std.specs.Prelude.{◌≡◌, ℕ, ◌≤◌, ◌%◌, ◌^◌, List, [], ◌∷◌, Option, Some, true}
+use Rattle.std.specs.Prelude.{◌≡◌, ℕ, ◌+◌, ◌≤◌, ◌%◌, ◌^◌, List, [], ◌∷◌, length, Option, Some, true}
+use mathlib.Core.List.{IsPrefix}
 use Rattle.atomic_table.specs.Seated.{TableId}
 use Rattle.atomic_table.specs.declared.shared.Seat.{Seat}
 use Rattle.tree_lock.specs.declared.view.Knowledge.{Knowledge}
 use Rattle.tree_lock.specs.declared.view.Stage.TheVariants.{Idle, Waiting, Holding}
-use Rattle.tree_lock.specs.Entries.{Appends}
 use Rattle.tree_lock.specs.Seen.{PassView, DoormanView}
 
 -- the table has the lock's words, and its slot
@@ -26,6 +26,11 @@ module _ {V E : Type 0} where
     own = seat.me.0.own;
     turns = turns;
   }
+
+  -- the doorman's seat, which made so many passes, of which so many are out
+  abbrev pub IsDoormanSeat : Seat (Option V) (Knowledge E) → ℕ → ℕ → Type 0
+  IsDoormanSeat seat made out = (seat.id ≡ 0) × (seat.me.1 ≡ []) × (made ≡ seat.me.0.made) × (out + length seat.me.0.retired ≡ made) ×
+      IsPrefix seat.me.0.own seat.me.0.seen × IsPrefix seat.me.0.told seat.me.0.seen
 
   -- the seat of a pass at this table
   pub record IsPassAt (table : TableId) (seat : Seat (Option V) (Knowledge E)) : Type 0 where
@@ -49,9 +54,8 @@ module _ {V E : Type 0} where
     pub is : ticket ≡ full % 2 ^ 64
 
   -- it holds this value
-  pub record IsHolding (entries : V → List (ℕ × E)) (table : TableId) (seat : Seat (Option V) (Knowledge E)) (value : V) : Type 0 where
+  pub record IsHolding (table : TableId) (seat : Seat (Option V) (Knowledge E)) (value : V) : Type 0 where
     pub at : IsPassAt table seat
     pub held : seat.me.1 ≡ (0, Some value) ∷ []
     pub full : ℕ
     pub stage : seat.me.0.stage ≡ Holding full
-    pub appends : Appends seat.me.0.number seat.me.0.seen (entries value)

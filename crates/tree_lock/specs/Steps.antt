@@ -3,10 +3,10 @@ use Rattle.std.specs.Prelude.{◌≡◌, ◌≢◌, ℕ, ◌+◌, ◌%◌, ◌^�
 use mathlib.Core.List.{IsPrefix}
 use Rattle.atomic_table.specs.Table.{Me, Step, rest}
 use Rattle.tree_lock.specs.declared.view.Knowledge.{Knowledge}
-use Rattle.tree_lock.specs.declared.view.Stage.TheVariants.{Waiting}
+use Rattle.tree_lock.specs.declared.view.Stage.TheVariants.{Idle, Waiting}
 use Rattle.tree_lock.specs.Entries.{of_number}
 use Rattle.tree_lock.specs.Seen.{AreNumbers, AreOwn}
-use Rattle.tree_lock.specs.Knowledge.{at_stage, holding, after_turn, after_look}
+use Rattle.tree_lock.specs.Knowledge.{at_stage, holding, after_work, after_look}
 
 abbrev SeatState : Type 0 → Type 0 → Type 0
 SeatState V E = Me (Option V) (Knowledge E)
@@ -36,6 +36,10 @@ module _ {V E : Type 0} where
   abbrev pub signal_step : Step (Option V) → SeatState V E → ℕ → SeatState V E → Type 0
   signal_step step before found after = after ≡ before
 
+  -- the value was given back
+  abbrev pub serve_step : Step (Option V) → SeatState V E → ℕ → SeatState V E → Type 0
+  serve_step step before found after = after ≡ (at_stage before.0 Idle, rest before.1)
+
   abbrev pub look_step : Step (Option V) → SeatState V E → ℕ → SeatState V E → Type 0
   look_step step before found after = Looks before.0 after.0 × (after.1 ≡ before.1)
 
@@ -60,6 +64,6 @@ module _ {V E : Type 0} (entries : V → List (ℕ × E)) where
       entries_of None = []
       entries_of (Some value) = entries value
 
-  -- the value was given back, and its entries are the history
-  abbrev pub serve_step : Step (Option V) → SeatState V E → ℕ → SeatState V E → Type 0
-  serve_step step before found after = after ≡ (after_turn before.0 (entries_held before.1) (of_number before.0.number (entries_held before.1)), rest before.1)
+  -- the entries of the value that is held are the history from now on
+  abbrev pub tell_step : Step (Option V) → SeatState V E → ℕ → SeatState V E → Type 0
+  tell_step step before found after = after ≡ (after_work before.0 (entries_held before.1) (of_number before.0.number (entries_held before.1)), before.1)

@@ -30,17 +30,15 @@ pub struct Doorman<V: Recorded> {
 }
 
 impl<V: Recorded> Model for Doorman<V> {
-    ghost use Rattle.std.specs.Prelude.{◌≡◌, [], ◌+◌, length};
-    ghost use mathlib.Core.List.{IsPrefix};
     ghost use Rattle.tree_lock.specs.Seen.{DoormanView};
 
     ghost Value = { DoormanView V.Entry };
 
-    ghost use Rattle.tree_lock.specs.Seats.{doorman_view};
+    ghost use Rattle.tree_lock.specs.Seats.{IsDoormanSeat, doorman_view};
 
     ghost view = { λ d. doorman_view d.seat.me.0 d.seat.table_id d.out };
 
-    ghost invariant = { λ d. (d.seat.id ≡ 0) × (d.seat.me.1 ≡ []) × (d.made ≡ d.seat.me.0.made) × (d.out + length d.seat.me.0.retired ≡ d.made) × IsPrefix d.seat.me.0.own d.seat.me.0.seen };
+    ghost invariant = { λ d. IsDoormanSeat d.seat d.made d.out };
 }
 
 impl<V: Recorded> Doorman<V> {
@@ -53,6 +51,7 @@ impl<V: Recorded> Doorman<V> {
         ensures view { doorman_view result.me.0 result.table_id self.out ≡ self }
         ensures counted { self.out + length self.retired ≡ self.made }
         ensures opened { IsPrefix self.opening self.seen }
+        ensures told { IsPrefix result.me.0.told result.me.0.seen }
     {
         let Doorman {
             seat,

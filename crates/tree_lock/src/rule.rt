@@ -95,13 +95,22 @@ impl<V: Recorded> Play<Option<V>, Knowledge<V::Entry>> for WaitStep {
     ghost then = { wait_step V.entries };
 }
 
+/// A pass tells what its job appended.
+pub struct TellStep;
+
+impl<V: Recorded> Play<Option<V>, Knowledge<V::Entry>> for TellStep {
+    ghost use Rattle.tree_lock.specs.Steps.{tell_step};
+
+    ghost then = { tell_step V.entries };
+}
+
 /// A pass ends its turn.
 pub struct ServeStep;
 
-impl<V: Recorded> Play<Option<V>, Knowledge<V::Entry>> for ServeStep {
+impl<V, E> Play<Option<V>, Knowledge<E>> for ServeStep {
     ghost use Rattle.tree_lock.specs.Steps.{serve_step};
 
-    ghost then = { serve_step V.entries };
+    ghost then = { serve_step };
 }
 
 /// A pass says that it sleeps, or calls one that does.

@@ -1,7 +1,8 @@
 //! A turn: a ticket is drawn, waited for, and served after the job's work.
 ghost use Rattle.std.specs.Prelude.{◌≡◌, ℕ, [], ◌∷◌, Some};
 ghost use Rattle.tree_lock.specs.Entries.{of_number, Appends};
-ghost use Rattle.tree_lock.specs.Knowledge.{after_turn};
+ghost use Rattle.tree_lock.specs.Knowledge.{after_work, at_stage};
+ghost use Rattle.tree_lock.specs.declared.view.Stage.TheVariants.{Idle};
 ghost use Rattle.tree_lock.specs.Seen.{one_more};
 ghost use Rattle.tree_lock.specs.Seats.{seat_view, IsPassAt, IsIdle, IsWaiting, IsHolding};
 ghost use Rattle.tree_lock.specs.Steps.{Takes};
@@ -9,7 +10,7 @@ ghost use Rattle.tree_lock.specs.Turned.{Turned};
 
 use crate::parts::{Pass, TreeLock};
 use crate::recorded::{Job, Recorded};
-use crate::rule::{DrawStep, LockSeat, LockShared, SERVED, ServeStep, TICKETS, WaitStep};
+use crate::rule::{DrawStep, LockSeat, LockShared, SERVED, ServeStep, TICKETS, TellStep, WaitStep};
 use crate::waiting::{approach, call_next, rest};
 use std::sync::Wait;
 
@@ -42,6 +43,7 @@ fn turn_at<V: Recorded, J: Job<V>, R: Wait>(
     let ticket = draw(shared, seat);
     wait_turn(rt, shared, seat, ticket);
     let out = work_at(shared, seat, number, job);
+    tell(shared, seat);
     serve(shared, seat);
     call_next(shared, seat);
     out
@@ -98,12 +100,21 @@ fn work_at<V: Recorded, J: Job<V>>(
     job.work(value, number)
 }
 
+// Tells what the job appended: it is in the history from now on, while the pass still has the value.
+fn tell<V: Recorded>(shared: &LockShared<V>, seat: &mut LockSeat<V>)
+    requires { (value : V) × IsHolding shared.now.table_id seat.old value × Appends seat.old.me.0.number seat.old.me.0.seen (V.entries value) }
+    ensures { (value : V) × IsHolding shared.now.table_id seat.new value × (seat.new.me.0.seen ≡ V.entries value)
+        × (seat.old.me.1 ≡ (0, Some value) ∷ [])
+        × (seat.new.me.0 ≡ after_work seat.old.me.0 (V.entries value) (of_number seat.old.me.0.number (V.entries value))) }
+{
+    shared.load::<TellStep>(seat, SERVED);
+}
+
 // Gives the value back, and serves the next ticket.
 fn serve<V: Recorded>(shared: &LockShared<V>, seat: &mut LockSeat<V>)
-    requires { (value : V) × IsHolding V.entries shared.now.table_id seat.old value }
+    requires { (value : V) × IsHolding shared.now.table_id seat.old value × (seat.old.me.0.seen ≡ V.entries value) }
     ensures idle { IsIdle shared.now.table_id seat.new }
-    ensures view { (value : V) → seat.old.me.1 ≡ (0, Some value) ∷ [] →
-        seat.new.me.0 ≡ after_turn seat.old.me.0 (V.entries value) (of_number seat.old.me.0.number (V.entries value)) }
+    ensures view { seat.new.me.0 ≡ at_stage seat.old.me.0 Idle }
 {
     shared.fetch_add::<ServeStep>(seat, SERVED, 1);
 }

@@ -1,6 +1,6 @@
 -- The later events of a lawful history fit messages.
 use Rattle.std.proofs.Common.{ap, ◌-◌, ◌∙◌, drop, List}
-use Rattle.access_history.specs.declared.event.Event.{Event}
+use Rattle.journal_records.specs.declared.event.Event.{Event}
 use Rattle.export_run.proofs.ExportLemmas.{fit_after}
 use Rattle.export_run.proofs.exporting.write_events.Goals as goal
 

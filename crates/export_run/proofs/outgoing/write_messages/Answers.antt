@@ -1,7 +1,7 @@
 -- Each event adds its message; at last what was collected is written.
 use Rattle.std.proofs.Common.{◌≡◌, ◌≤◌, ◌∙◌, ◌+◌, List, ◌∷◌, ◌++◌, [], length, ap, sym, subst, take, arith, rules}
 use Rattle.std.proofs.lemmas.List.{take_all, take_more}
-use Rattle.access_history.specs.declared.event.Event.{Event}
+use Rattle.journal_records.specs.declared.event.Event.{Event}
 use Rattle.event_messages.specs.Messages.{Message}
 use Rattle.pcfs_session.specs.declared.outbox.SendFault.TheVariants.{Write}
 use Rattle.pcfs_session.proofs.StoredLemmas.{HasRisen-earlier}

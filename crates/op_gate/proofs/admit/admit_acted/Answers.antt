@@ -5,7 +5,7 @@ use Rattle.std.specs.Int.{w64}
 use mir.Val.{to_z, of_z}
 use Rattle.std.proofs.lemmas.Int.{to_z-of_z}
 use Rattle.procap.specs.declared.procap.Procap.{Procap}
-use Rattle.access_history.specs.declared.event.Event.TheVariants.{Acted}
+use Rattle.journal_records.specs.declared.event.Event.TheVariants.{Acted}
 use Rattle.access_history.specs.History.{authority_of, state_of}
 use Rattle.op_gate.specs.Admits.{IsTimely}
 use Rattle.op_gate.specs.Damage.{IsDamagedBy}

@@ -4,7 +4,7 @@ use Rattle.std.proofs.Common.{sym, subst}
 use Rattle.policy_statement.specs.Messages.{statement_message}
 use Rattle.policy_statement.specs.Registry.{MayRegister}
 use Rattle.policy_statement.specs.Ring.{is_accepted}
-use Rattle.access_history.specs.declared.event.Event.TheVariants.{Registered}
+use Rattle.journal_records.specs.declared.event.Event.TheVariants.{Registered}
 use Rattle.access_history.specs.History.{state_of}
 use Rattle.op_gate.specs.declared.damage.AdmitFault.{AdmitFault}
 use Rattle.op_gate.specs.Admits.{GivesPending}

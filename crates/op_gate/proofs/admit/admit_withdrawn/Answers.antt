@@ -3,7 +3,7 @@ use Rattle.std.specs.Prelude.{Ok, Err}
 use Rattle.std.proofs.Common.{sym, subst}
 use Rattle.policy_statement.specs.Ring.{is_accepted}
 use Rattle.policy_statement.specs.Withdrawal.{MayWithdraw}
-use Rattle.access_history.specs.declared.event.Event.TheVariants.{Withdrawn}
+use Rattle.journal_records.specs.declared.event.Event.TheVariants.{Withdrawn}
 use Rattle.access_history.specs.History.{state_of}
 use Rattle.op_gate.specs.declared.damage.AdmitFault.{AdmitFault}
 use Rattle.op_gate.specs.Admits.{GivesPending}

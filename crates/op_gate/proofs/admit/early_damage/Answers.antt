@@ -3,7 +3,7 @@ use Rattle.std.proofs.Common.{subst, sym, arith}
 use Rattle.std.specs.Int.{w64}
 use Rattle.std.proofs.lemmas.Int.{ints, to_z-of_z}
 use Rattle.bl_syntax.specs.TimeOrder.{IsMoment}
-use Rattle.access_history.specs.declared.event.Event.TheVariants.{Acted}
+use Rattle.journal_records.specs.declared.event.Event.TheVariants.{Acted}
 use Rattle.access_history.specs.History.{authority_of, state_of}
 use Rattle.op_gate.proofs.AdmitLemmas.{damaged_shape, damaged_falls, damaged_not_admitted}
 use Rattle.op_gate.proofs.CheckLemmas.{is_so, is_not_so}

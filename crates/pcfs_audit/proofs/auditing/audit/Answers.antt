@@ -1,6 +1,6 @@
 -- The report is that of the dossier.
 use Rattle.std.proofs.Common.{List, subst, sym, ◌∙◌, ℕ}
-use Rattle.access_history.specs.declared.event.Event.{Event}
+use Rattle.journal_records.specs.declared.event.Event.{Event}
 use Rattle.access_history.specs.Base.{BaseView}
 use Rattle.rayon.proofs.ListFacts.{IfOk-then}
 use Rattle.pcfs_audit.specs.declared.credentials.Credentials.{Credentials}

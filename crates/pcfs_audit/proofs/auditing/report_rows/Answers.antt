@@ -2,7 +2,7 @@
 use Rattle.std.proofs.Common.{Bool, List, [], arith, length, refl, subst, take, true, ◌++◌, ◌∷◌}
 use Rattle.std.proofs.lemmas.List.{take_all}
 use Rattle.std.proofs.lemmas.Option.{slice_get_read}
-use Rattle.access_history.specs.declared.event.Event.{Event}
+use Rattle.journal_records.specs.declared.event.Event.{Event}
 use Rattle.access_history.specs.Replay.{replay}
 use Rattle.pcfs_audit.specs.Following.{Audits}
 use Rattle.pcfs_audit.specs.Papers.{counts_in}

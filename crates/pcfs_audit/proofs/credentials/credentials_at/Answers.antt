@@ -1,7 +1,7 @@
 -- What the papers tell of the state before the event.
 use Rattle.std.proofs.Common.{ap, arith, get_or, length, subst, sym, take, ◌∙◌}
 use Rattle.std.proofs.lemmas.Option.{same_Some}
-use Rattle.access_history.specs.declared.event.Event.{Event}
+use Rattle.journal_records.specs.declared.event.Event.{Event}
 use Rattle.access_history.specs.Replay.{replay}
 use Rattle.rayon.proofs.ListFacts.{IfOk-then}
 use Rattle.pcfs_audit.specs.Credentials.{HasCredentials}

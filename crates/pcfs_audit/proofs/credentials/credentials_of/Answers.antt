@@ -5,7 +5,7 @@ use Rattle.std.specs.List.{AllByRecursion}
 use Rattle.policy_statement.specs.Messages.{statement_message}
 use Rattle.procap.specs.Genuine.{IsGenuine}
 use Rattle.procap.specs.declared.procap.Procap.{Procap}
-use Rattle.access_history.specs.declared.event.Event.{Event}
+use Rattle.journal_records.specs.declared.event.Event.{Event}
 use Rattle.access_history.specs.Authority.{CanRegister}
 use Rattle.access_history.specs.Citing.{MayBeIssued}
 use Rattle.pcfs_audit.specs.Credentials.{HasCredentials, IsOfIssues}

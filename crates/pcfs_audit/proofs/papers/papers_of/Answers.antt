@@ -1,7 +1,7 @@
 -- Each event adds its papers.
 use Rattle.std.proofs.Common.{◌≡◌, ◌∙◌, ◌+◌, List, ◌∷◌, ◌++◌, [], ap, sym, subst, take, arith}
 use Rattle.std.proofs.lemmas.List.{take_all, take_more}
-use Rattle.access_history.specs.declared.event.Event.{Event}
+use Rattle.journal_records.specs.declared.event.Event.{Event}
 use Rattle.pcfs_audit.specs.Papers.{ArePapers}
 use Rattle.pcfs_audit.proofs.papers.papers_of.Goals as goal
 

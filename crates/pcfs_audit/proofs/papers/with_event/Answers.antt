@@ -4,7 +4,7 @@ use Rattle.std.specs.List.{AllByRecursion}
 use Rattle.std.proofs.lemmas.Bool.{false≢true}
 use Rattle.std.proofs.lemmas.List.{append-nil}
 use Rattle.bl_syntax.proofs.GrantLemmas.{AllByRecursion-push}
-use Rattle.access_history.specs.declared.event.Event.{Event}
+use Rattle.journal_records.specs.declared.event.Event.{Event}
 use Rattle.pcfs_audit.specs.declared.papers.Before.{Before}
 use Rattle.pcfs_audit.specs.Ends.{NeverEnds, ends_with}
 use Rattle.pcfs_audit.specs.Papers.{shown}

@@ -7,6 +7,6 @@ use Rattle.pcfs_store.proofs.keeping.record_of.Goals as goal
 
 pub returns-in-Ok-clause-ok : goal.returns-in-Ok-clause-ok
 returns-in-Ok-clause-ok c =
-    let written : c.write_event.new.out ≡ c.in_ok-bytes.bytes ++ event_spelling c.args.event.now =
-    on_no_err (c.write_event.new.out ≡ c.in_ok-bytes.bytes ++ event_spelling c.args.event.now) c.write_event.result (sym c.is_err.ensures.value ∙ c.if-is_err.false) c.write_event.ensures.ok in
+    let written : c.add_payload.new.out ≡ c.in_ok-bytes.bytes ++ event_spelling c.args.event.now =
+    on_no_err (c.add_payload.new.out ≡ c.in_ok-bytes.bytes ++ event_spelling c.args.event.now) c.add_payload.result (sym c.is_err.ensures.value ∙ c.if-is_err.false) c.add_payload.ensures.ok in
     c.in-Ok.ensures ∙ ap (drop 4) written ∙ drop_at c.in_ok-bytes.bytes (event_spelling c.args.event.now) 4 c.in_ok-bytes.ensures.ok

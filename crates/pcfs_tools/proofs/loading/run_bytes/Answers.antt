@@ -2,7 +2,7 @@
 use Rattle.std.proofs.Common.{List, ap, ap₂, refl, ◌∙◌, Some}
 use Rattle.access_history.specs.Base.{BaseView}
 use Rattle.access_history.specs.Replay.{replay}
-use Rattle.access_history.specs.declared.event.Event.{Event}
+use Rattle.journal_records.specs.declared.event.Event.{Event}
 use Rattle.op_gate.specs.Decision.{GateView}
 use Rattle.pcfs_ports.specs.MemorySource.{MemorySourceView}
 use Rattle.pcfs_tools.proofs.LoadLemmas.{IsRunThrough-done}

@@ -17,5 +17,5 @@ add_to_state-requires-clause-standings c = c.self.invariant.standings
 
 pub invariant_of-self : goal.invariant_of-self
 invariant_of-self c =
-    IsKeeping-kept c.self.inside _ _ c.args.event c.apply_event-event.result c.args.addition c.self.invariant c.self.view_is c.requires.lawful c.requires.counted c.requires.addition c.apply_event-event.ensures.event refl refl refl
+    IsKeeping-kept c.self.inside _ _ c.args.event c.args.kept c.args.addition c.self.invariant c.self.view_is c.requires.lawful c.requires.counted c.requires.addition c.requires.kept refl refl refl
     c.apply_event-event.ensures.world c.apply_event-event.ensures.moment c.add_to_state.ensures.statements c.add_to_state.ensures.issues (pushed _ _ _ _ _ c.push.ensures.items c.unwrap.ensures) refl c.add_to_state.ensures.standings

@@ -5,8 +5,8 @@ use Rattle.std.specs.Int.{w64}
 use mir.Val.{to_z, of_z}
 use Rattle.std.proofs.lemmas.Int.{to_z-of_z}
 use Rattle.procap.specs.declared.procap.Procap.{Procap}
-use Rattle.access_history.specs.declared.event.Event.TheVariants.{Acted}
-use Rattle.access_history.specs.declared.event.Event.{Event}
+use Rattle.journal_records.specs.declared.event.Event.TheVariants.{Acted}
+use Rattle.journal_records.specs.declared.event.Event.{Event}
 use Rattle.rayon.proofs.ListFacts.{IfOk-then}
 use Rattle.pcfs_audit.specs.Credentials.{HasCredentials}
 use Rattle.pcfs_audit.specs.Following.{Follows}

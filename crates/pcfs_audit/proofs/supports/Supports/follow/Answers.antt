@@ -1,6 +1,6 @@
 -- An issue is counted; nothing else makes one.
 use Rattle.std.proofs.Common.{arith, refl, subst, sym}
-use Rattle.access_history.specs.declared.event.Event.{Event}
+use Rattle.journal_records.specs.declared.event.Event.{Event}
 use Rattle.access_history.specs.Replay.{next_state}
 use Rattle.pcfs_audit.specs.Supports.{FollowIssues}
 use Rattle.pcfs_audit.proofs.PapersLemmas.{counted}

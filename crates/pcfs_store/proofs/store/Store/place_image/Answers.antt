@@ -1,7 +1,7 @@
 -- Each end of the placing of an image says its clauses.
 use Rattle.std.proofs.Common.{◌+◌, List, length, refl, ◌∙◌, ap}
 use Rattle.std.specs.Prelude.{not}
-use Rattle.access_history.specs.declared.event.Event.{Event}
+use Rattle.journal_records.specs.declared.event.Event.{Event}
 use Rattle.pcfs_store.proofs.PlacingLemmas.{made_keeps, made_end, full_end, unplaced_end, failed_end}
 use Rattle.pcfs_store.proofs.store.Store.place_image.Goals as goal
 

@@ -42,7 +42,7 @@ returns-in-Err-Disk g c =
     failed_end g.D.Disk.clock g.D.Disk.left_since g.D.Disk.image g.D.Disk.faults c.self.inside.active c.self.inside.other c.self.inside.second_active c.self.inside.generation c.self.inside.opened.value c.self.inside.gate c.self.inside.checkpoints.items c.self.inside.stop c.self.invariant
     c.args.self.now c.self.view_is c.args.event
     (sym c.is_some.ensures ∙ c.if-is_some.false) c.prepare.new.self c.prepare.ensures.key c.prepare.ensures.ring c.prepare.ensures.base c.prepare.ensures.events
-    c.in-Ok.ensures.answer c.in-Ok.ensures.pending c.keep_pending.new.area c.keep_pending.new.gate (λ disk t u b le left. g.met.D.Disk.since_earlier disk t u b le left) c.pass_of-of_event.result c.pass_of-of_event.ensures c.in-Err-Disk.field-0 c.in-Err-Disk.field-0-is c.in-Err-Disk.ensures
+    c.in-Ok.ensures.answer c.in-Ok.ensures.pending c.keep_pending.new.area c.keep_pending.new.gate (λ disk t u b le left. g.met.D.Disk.since_earlier disk t u b le left) c.pass-of_event.result c.pass-of_event.ensures c.in-Err-Disk.field-0 c.in-Err-Disk.field-0-is c.in-Err-Disk.ensures
 
 pub returns-in-Err : goal.returns-in-Err
 returns-in-Err g c =

@@ -17,7 +17,7 @@ unreachable-requires g c =
     let all : length c.args.door.retired ≡ c.args.door.made = omega arith in
     let all_here : length v.retired ≡ v.made = subst (λ d. length d.retired ≡ d.made) (sym c.into_seat.ensures.view) all in
     let final = subst (λ (id : ℕ). Final (Seen (Kept g.V.Recorded.entries) id v) (slots_items closed.words) (slots_items closed.slots)) c.into_seat.ensures.seat.0 c.close_with-closed.ensures.values.2 in
-    let told = closes g.V.Recorded.entries v _ _ all_here final in
+    let told = closes g.V.Recorded.entries v _ _ c.into_seat.ensures.told all_here final in
     let none : None ≡ Some told.0 = sym c.in_default.is ∙ some-injective _ _ (sym c.take.ensures.value ∙ told.1) in
     cc
 
@@ -32,4 +32,4 @@ returns g c =
     let opened : IsPrefix v.own v.seen = subst (λ d. IsPrefix d.opening d.seen) (sym c.into_seat.ensures.view) c.into_seat.ensures.opened in
     let final = subst (λ (id : ℕ). Final (Seen (Kept g.V.Recorded.entries) id v) (slots_items closed.words) (slots_items closed.slots)) c.into_seat.ensures.seat.0 c.close_with-closed.ensures.values.2 in
     subst (λ d. IsClosed d (g.V.Recorded.entries c.in-Some.value)) c.into_seat.ensures.view
-    (closed_is g.V.Recorded.entries v c.into_seat.result.table_id c.args.door.out _ _ c.in-Some.value all_here opened final (c.take.ensures.value ∙ ap some c.in-Some.is))
+    (closed_is g.V.Recorded.entries v c.into_seat.result.table_id c.args.door.out _ _ c.in-Some.value all_here opened c.into_seat.ensures.told final (c.take.ensures.value ∙ ap some c.in-Some.is))

@@ -20,7 +20,7 @@ join_seat-requires g c =
       ap (λ d. d.lock) c.into_seat.ensures.view ∙ c.requires.pass ∙ sym c.self.view_is,
       p.0,
       search rules,
-      subst (λ (id : ℕ). Joins (Kept g.V.Recorded.entries) id v c.into_seat.result.id w (after_retiring v w) spent_view) (sym c.door.invariant.0) (retires_keeps _ v _ w p.2 p.3 p.1),
+      subst (λ (id : ℕ). Joins (Kept g.V.Recorded.entries) id v c.into_seat.result.id w (after_retiring v w) spent_view) (sym c.door.invariant.0) (retires_keeps _ v _ w c.door.invariant.5 p.2 p.3 p.1),
     )
 
 pub load-requires : goal.load-requires
@@ -60,4 +60,5 @@ invariant_of-door g c =
       made ∙ sym (ap (λ u. u.made) look.is),
       ap (λ (l : ℕ). out - 1 + l) (ap (λ u. length u.retired) look.is) ∙ (omega arith),
       subst (λ u. IsPrefix u.own u.seen) (sym look.is) (prefix_trans v.own v.seen look.history c.door.invariant.4 look.seen),
+      subst (λ u. IsPrefix u.told u.seen) (sym look.is) look.told,
     )
