@@ -2,12 +2,12 @@
 # Times a mix of all operations through `pcfs script`: 16,000 nodes are made, and then 200,000 operations run, each under
 # procaps that the generator sealed, so that each needs a tag for each of its procaps. Beside it SQLite in memory does
 # the same work from Python: a table of nodes, one of attributes, one of events, and an HMAC for each procap. Both have
-# to write the same replies. The program is run over the same lines once more with each spoiled, for the memory that
-# events take beside the input, and once by a caller whom every procap denies, for what a line costs with one tag and no
-# effect. What a tag takes is the difference of lines that are denied by their third procap and by their first. Then, over
-# 4,096 statements and 16,384 issues, operations under an issue before the first withdrawal and after it, and withdrawals;
-# aims: 0.3 us more at most, and under a millisecond. Each time is the least of three. It makes its own input, ends by
-# itself and decides no test.
+# to write the same replies. The program is run over the same lines once more with each spoiled, for what a line of no form
+# costs, and once by a caller whom every procap denies, for what a line costs with one tag and no effect. What a tag takes
+# is the difference of lines that are denied by their third procap and by their first. Then, over 4,096 statements and
+# 16,384 issues, operations under an issue before the first withdrawal and after it, and withdrawals; aims: 0.3 us more at
+# most, and under a millisecond. Each time is the least of three. It makes its own input, ends by itself and decides no
+# test. What memory an event takes is measured by memory.sh.
 set -euo pipefail
 top=$(cd "$(dirname "$0")/.." && pwd)
 parts="$top/bench/script"

@@ -1,6 +1,5 @@
 """What script.sh measures, and its figures; the script says what is timed."""
 import os
-import resource
 import subprocess
 import sys
 import time
@@ -12,17 +11,17 @@ count, tags = len(lines), sum(2 if line.startswith(b"do unlink") else 3 if line.
 
 
 def run(text, target):
-    """Seconds and greatest memory of the program over the text."""
+    """Seconds of the program over the text."""
     with open(f"{work}/input", "wb") as out:
         out.write(text)
     with open(f"{work}/input", "rb") as source, open(f"{work}/{target}", "wb") as replies:
         begun = time.perf_counter()
         process = subprocess.Popen([program, "script"], stdin=source, stdout=replies, cwd=work)
-        _, status, usage = os.wait4(process.pid, 0)
+        status = process.wait()
         seconds = time.perf_counter() - begun
     if status:
         sys.exit(f"status {status}")
-    return seconds, usage.ru_maxrss * 1024
+    return seconds
 
 
 texts = {
@@ -42,16 +41,12 @@ for _ in range(3):
     peers.append([float(word) for word in told.stdout.split()])
 with open(f"{work}/mixed", "rb") as mine, open(f"{work}/peer", "rb") as theirs:
     same = mine.read() == theirs.read()
-seconds = {name: min(one[0] for one in several) for name, several in runs.items()}
-memory = {name: min(one[1] for one in several) for name, several in runs.items()}
+seconds = {name: min(several) for name, several in runs.items()}
 mixed = seconds["mixed"] - seconds["made"]
-peer, peer_event = min(one[1] for one in peers), max(one[2] for one in peers)
-event = (memory["mixed"] - memory["spoiled"]) / count
+peer = min(one[1] for one in peers)
 tag = (seconds["three"] - seconds["one"]) / 2 / three.count(b"\n")
 print(f"{count:,} operations over 16,000 nodes, {tags / count:.2f} procaps for each; {'the same replies' if same else 'OTHER REPLIES'} by both")
 print(f"pcfs: {count / mixed:,.0f} lines a second, {mixed / count * 1e6:.2f} us a line; {peer / mixed:.1f} times SQLite from Python: {count / peer:,.0f} lines a second, {peer / count * 1e6:.2f} us")
 print(f"  beside its tags of {tag * 1e6:.2f} us: {(mixed - tags * tag) / count * 1e6:.2f} us a line")
 print(f"  a line that is denied after its first tag takes {(seconds['denied'] - seconds['made']) / count * 1e6:.2f}, a line of no form {(seconds['spoiled'] - seconds['made']) / count * 1e6:.2f}")
-beside = f"SQLite takes {peer_event:,.0f}" if peer_event else "SQLite's grew by nothing that its greatest memory shows"
-print(f"pcfs: {event:,.0f} bytes of memory for an event beside its line; {beside}")
 print(f"making 16,000 nodes: {seconds['made']:.2f} s; SQLite {min(one[0] for one in peers):.2f} s")

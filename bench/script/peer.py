@@ -1,5 +1,5 @@
-"""Does the same work with SQLite in memory, and prints seconds for the nodes and for the mix, and bytes for an event."""
-import hmac, resource, sqlite3, sys, time
+"""Does the same work with SQLite in memory, and prints seconds for the nodes and for the mix."""
+import hmac, sqlite3, sys, time
 
 KEY, PERMISSIONS = b"\1\2", {"read": 1, "write": 2, "execute": 3, "identity": 4, "govern": 5}
 PERM = {"read": 1, "list": 1, "getattr": 1, "lookup": 3, "chown": 5}
@@ -110,16 +110,14 @@ def effect(operation, file, words, moved):
 
 def all_lines(path, out):
     begun = time.perf_counter()
-    count = 0
     with open(path) as lines:
         for line in lines:
             out.write(answer(line[:-1]) + "\n")
-            count += 1
     out.flush()
-    return time.perf_counter() - begun, count, resource.getrusage(resource.RUSAGE_SELF).ru_maxrss * 1024
+    return time.perf_counter() - begun
 
 
 with open(sys.argv[3], "w") as out:
-    made, _, before = all_lines(sys.argv[1], out)
-    mixed, count, after = all_lines(sys.argv[2], out)
-print(made, mixed, (after - before) / count)
+    made = all_lines(sys.argv[1], out)
+    mixed = all_lines(sys.argv[2], out)
+print(made, mixed)
