@@ -1,8 +1,9 @@
 //! Replies as values.
 
-ghost use Rattle.std.specs.Prelude.{IfSome, IsTrue, codes};
+ghost use Rattle.std.specs.Prelude.{IfSome, IsTrue, MatchOption, codes};
 ghost use Rattle.line_text.specs.Words.{has_first};
-ghost use Rattle.client_replies.specs.Replies.{HasOne, HasTwo, IsReply};
+ghost use Rattle.client_replies.specs.Replies.{HasIssue, HasOne, HasTwo, IsReply, IsReplyUnless};
+ghost use Rattle.client_replies.specs.Replies.{LacksBad, LacksOne, LacksPolicy, LacksStatement, LacksTwo, LacksWord};
 
 use bl_syntax::NodeId;
 use client_words::{counting_number, statement_number, whole_number};
@@ -43,7 +44,7 @@ pub enum Reply<'a> {
 // The two numbers after these words, with this text, which begins with a space, between them.
 fn two_after(line: &[u8], words: &[u8], between: &[u8]) -> Option<(u64, u64)>
     requires { IsTrue (has_first 32 between.now) }
-    ensures { IfSome result (λ both. HasTwo words.now between.now line.now both.0 both.1) }
+    ensures { MatchOption result (LacksTwo words.now between.now line.now) (λ both. HasTwo words.now between.now line.now both.0 both.1) }
 {
     let rest = rest_after(line, words)?;
     let (first_word, second_word) = word_before(rest, between)?;
@@ -54,7 +55,7 @@ fn two_after(line: &[u8], words: &[u8], between: &[u8]) -> Option<(u64, u64)>
 
 // The number after these words.
 fn one_after(line: &[u8], words: &[u8]) -> Option<u64>
-    ensures { IfSome result (λ number. HasOne words.now line.now number) }
+    ensures { MatchOption result (LacksOne words.now line.now) (HasOne words.now line.now) }
 {
     let rest = rest_after(line, words)?;
     let number = whole_number(rest)?;
@@ -63,7 +64,7 @@ fn one_after(line: &[u8], words: &[u8]) -> Option<u64>
 
 // The number of a statement after these words.
 fn statement_after(line: &[u8], words: &[u8]) -> Option<u32>
-    ensures { IfSome result (λ number. HasOne words.now line.now number) }
+    ensures { MatchOption result (LacksStatement words.now line.now) (HasOne words.now line.now) }
 {
     let rest = rest_after(line, words)?;
     let number = statement_number(rest)?;
@@ -72,7 +73,7 @@ fn statement_after(line: &[u8], words: &[u8]) -> Option<u32>
 
 // A reply of one word.
 fn one_word(line: &[u8]) -> Reply<'static>
-    ensures { IsReply line.now result }
+    ensures { IsReplyUnless (LacksWord line.now) line.now result }
 {
     if line == b"full".as_slice() {
         return Reply::Full;
@@ -94,7 +95,7 @@ fn one_word(line: &[u8]) -> Reply<'static>
 
 // A reply `bad ..`, or one of one word.
 fn bad(line: &[u8]) -> Reply<'static>
-    ensures { IsReply line.now result }
+    ensures { IsReplyUnless (LacksBad line.now) line.now result }
 {
     match two_after(line, b"bad 4 ", b" ") {
         Some((fault, place)) => return Reply::BadText(fault, place),
@@ -109,7 +110,7 @@ fn bad(line: &[u8]) -> Reply<'static>
 
 // A reply to a statement or a proof, or one that is left.
 fn about_policy(line: &[u8]) -> Reply<'static>
-    ensures { IsReply line.now result }
+    ensures { IsReplyUnless (LacksPolicy line.now) line.now result }
 {
     match statement_after(line, b"rejected 3 ") {
         Some(number) => return Reply::Known(number),
@@ -129,7 +130,7 @@ fn about_policy(line: &[u8]) -> Reply<'static>
     }
 }
 
-/// What a reply says.
+/// What a reply says; it is unknown only if it has no form that the server's replies have.
 pub fn reply_of(line: &[u8]) -> Reply<'_>
     ensures { IsReply line.now result }
 {
@@ -167,8 +168,11 @@ pub fn statement_of(done: &[u8]) -> Option<u32>
 }
 
 /// The number of an issue that stands after `ok`.
-pub fn issue_of(done: &[u8]) -> Option<u64> {
+pub fn issue_of(done: &[u8]) -> Option<u64>
+    ensures { IfSome result (HasIssue done.now) }
+{
     let rest = rest_after(done, b"issue ")?;
-    let (digits, _) = word_before(rest, b" time ")?;
-    counting_number(digits)
+    let (digits, _time) = word_before(rest, b" time ")?;
+    let number = counting_number(digits)?;
+    Some(number)
 }

@@ -1,5 +1,8 @@
 //! Paths: the node at which a path begins, and the names from there.
 
+ghost use Rattle.std.specs.Prelude.{◌≡◌, ◌≢◌, ◌∷◌, ◌++◌, ℕ, List, IfOk, IfSome, MatchOption};
+ghost use Rattle.client_words.specs.Places.{HasStart, IsPlace, words_between};
+
 use crate::names::Name;
 use crate::numerals::counting_number;
 use crate::quoting::put_quoted;
@@ -31,36 +34,70 @@ fn bad_path_words(alloc: Global, text: &str, why: &str) -> Result<String, AllocE
     Ok(words)
 }
 
-// The node at which a path begins, and what stands after it: nothing, or names that begin with a slash.
-fn start_of(text: &str) -> Option<(u64, &str)> {
-    match text.strip_prefix('#') {
-        Some(rest) => match rest.split_once('/') {
-            Some((digits, names)) => match counting_number(digits.as_bytes()) {
-                Some(number) => Some((number, names)),
-                None => None,
-            },
-            None => match counting_number(rest.as_bytes()) {
-                Some(number) => Some((number, "")),
-                None => None,
-            },
-        },
-        None => match text.strip_prefix('/') {
-            Some(names) => Some((ROOT, names)),
-            None => None,
-        },
+// What stands after a `#`, with which the text begins.
+fn after_sign(text: &str) -> Option<&str>
+    ensures { MatchOption result ((rest : List ℕ) → text.now ≢ 35 ∷ rest) (λ rest. text.now ≡ 35 ∷ rest.now) }
+{
+    text.strip_prefix('#')
+}
+
+// What stands after a slash, with which the text begins.
+fn after_slash(text: &str) -> Option<&str>
+    ensures { MatchOption result ((rest : List ℕ) → text.now ≢ 47 ∷ rest) (λ rest. text.now ≡ 47 ∷ rest.now) }
+{
+    text.strip_prefix('/')
+}
+
+// What stands before the first slash, and after it.
+fn at_slash(text: &str) -> Option<(&str, &str)>
+    ensures { IfSome result (λ parts. text.now ≡ parts.0.now ++ 47 ∷ parts.1.now) }
+{
+    text.split_once('/')
+}
+
+// The node whose number stands after the sign, and the names after it.
+#[tactic(auto, using(crate::proofs::PlaceLemmas::node_with_names, crate::proofs::PlaceLemmas::node_alone))]
+fn node_of(rest: &str) -> Option<(u64, &str)>
+    ensures { IfSome result (λ parts. HasStart (35 ∷ rest.now) parts.0 parts.1.now) }
+{
+    match at_slash(rest) {
+        Some((digits, names)) => {
+            let number = counting_number(digits.as_bytes())?;
+            Some((number, names))
+        }
+        None => {
+            let number = counting_number(rest.as_bytes())?;
+            Some((number, ""))
+        }
+    }
+}
+
+// The node at which a path begins, and the names from there.
+#[tactic(auto, using(crate::proofs::PlaceLemmas::root_with_names, crate::proofs::PlaceLemmas::node_of_text))]
+fn start_of(text: &str) -> Option<(u64, &str)>
+    ensures { IfSome result (λ parts. HasStart text.now parts.0 parts.1.now) }
+{
+    match after_sign(text) {
+        Some(rest) => node_of(rest),
+        None => {
+            let names = after_slash(text)?;
+            Some((ROOT, names))
+        }
     }
 }
 
 // The names between slashes; none if one of them is no name.
-fn names_of(alloc: Global, text: &str) -> Result<Option<Vec<Name>>, NoMemory> {
+#[tactic(auto, using(crate::proofs::PlaceLemmas::words_push))]
+fn names_of(alloc: Global, text: &str) -> Result<Option<Vec<Name>>, NoMemory>
+    ensures { IfOk result (λ found. IfSome found (λ names. names.items ≡ words_between text.now)) }
+{
     let mut names = Vec::new(alloc);
     for word in text.split('/') {
-        if word.is_empty() {
-            continue;
-        }
-        match Name::new(alloc, word)? {
-            Some(name) => names.push(name)?,
-            None => return Ok(None),
+        if !word.is_empty() {
+            match Name::new(alloc, word)? {
+                Some(name) => names.push(name)?,
+                None => return Ok(None),
+            }
         }
     }
     Ok(Some(names))
@@ -76,8 +113,11 @@ fn copied(alloc: Global, names: &[Name]) -> Result<Vec<Name>, NoMemory> {
 }
 
 impl Place {
-    /// The path of a text; or why it is none.
-    pub fn of(alloc: Global, text: &str) -> Result<Place, Stop> {
+    /// The path of a text: a slash or a node by its number, and the names between the slashes; or why it is none.
+    #[tactic(auto, using(crate::proofs::PlaceLemmas::place_of))]
+    pub fn of(alloc: Global, text: &str) -> Result<Place, Stop>
+        ensures { IfOk result (IsPlace text.now) }
+    {
         let (start, rest) = match start_of(text) {
             Some(parts) => parts,
             None => return Err(bad_path(

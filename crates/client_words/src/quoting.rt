@@ -1,5 +1,11 @@
 //! Texts of others in a message: quoted, on one line.
 
+ghost use Rattle.std.specs.Prelude.{◌≡◌, IfOk, IsTrue, map, not, string_bytes};
+ghost use Rattle.std.specs.Char.{is_control};
+ghost use Rattle.std.specs.List.{list_all};
+ghost use Rattle.std.specs.Str.{chars};
+ghost use Rattle.client_words.specs.PlainLetters.{plain_letter};
+
 use std::alloc::{AllocError, Global};
 
 fn put_plain(out: &mut String, letter: char, quote: char) -> Result<(), AllocError> {
@@ -39,11 +45,19 @@ pub fn put_quoted(out: &mut String, text: &str) -> Result<(), AllocError> {
     out.push(quote)
 }
 
+// The letter; a question mark in the place of a control character.
+fn plain_letter(letter: char) -> char
+    ensures { result ≡ plain_letter letter }
+{
+    if letter.is_control() { '?' } else { letter }
+}
+
 /// The text with a question mark in the place of each control character, so that it is one line.
-pub fn without_controls(alloc: Global, text: &str) -> Result<String, AllocError> {
-    let mut out = String::new(alloc);
-    for letter in text.chars() {
-        out.push(if letter.is_control() { '?' } else { letter })?;
-    }
-    Ok(out)
+pub fn without_controls(alloc: Global, text: &str) -> Result<String, AllocError>
+    ensures letters { IfOk result (λ plain. chars (string_bytes plain) ≡ map plain_letter (chars text.now)) }
+    ensures one_line { IfOk result (λ plain. IsTrue (list_all (λ letter. not (is_control letter)) (chars (string_bytes plain)))) }
+{
+    text.chars()
+        .map(|letter| plain_letter(letter))
+        .collect(alloc)
 }

@@ -79,7 +79,8 @@ pub record LookPlaced (gives : List StoreEntry → ℤ → Type 0) (p : StorePas
 
 module _ {D : Type 0} where
   -- the pass took such a turn, and so it is in each history that begins with what it has seen then
-  pub record HasLooked (gives : List StoreEntry → ℤ → Type 0) (request : TurnRequest) (old new : PassView (LockEntry D)) (reply : TurnReply) (kind : Bool) : Type 0 where
+  pub record HasLooked (gives : List StoreEntry → ℤ → Type 0) (request : TurnRequest) (old new : PassView (LockEntry D))
+      (reply : TurnReply) (kind : Bool) : Type 0 where
     pub asked : HasAsked gives request old new reply
     pub placed : InEachHistory new (λ opening entries. LookPlaced gives (pass_at opening old.number)
         entries (entries_seen old) request reply kind (entries_seen new) asked.given)

@@ -43,7 +43,7 @@ fn turn_at<V: Recorded, J: Job<V>, R: Wait>(
     let ticket = draw(shared, seat);
     wait_turn(rt, shared, seat, ticket);
     let out = work_at(shared, seat, number, job);
-    tell(shared, seat);
+    show_entries(shared, seat);
     serve(shared, seat);
     call_next(shared, seat);
     out
@@ -101,7 +101,7 @@ fn work_at<V: Recorded, J: Job<V>>(
 }
 
 // Tells what the job appended: it is in the history from now on, while the pass still has the value.
-fn tell<V: Recorded>(shared: &LockShared<V>, seat: &mut LockSeat<V>)
+fn show_entries<V: Recorded>(shared: &LockShared<V>, seat: &mut LockSeat<V>)
     requires { (value : V) × IsHolding shared.now.table_id seat.old value × Appends seat.old.me.0.number seat.old.me.0.seen (V.entries value) }
     ensures { (value : V) × IsHolding shared.now.table_id seat.new value × (seat.new.me.0.seen ≡ V.entries value)
         × (seat.old.me.1 ≡ (0, Some value) ∷ [])

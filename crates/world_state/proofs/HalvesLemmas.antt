@@ -1,6 +1,6 @@
 -- The halves of a world, and what an operation does to both.
-use Rattle.std.proofs.Common.{◌≡◌, ℕ, List, [], ◌∷◌, map, Option, None, Result, Ok, Err, refl, sym, ◌∙◌, ap, ap₂, subst}
-use Rattle.std.specs.Prelude.{IsTrue, OnErr}
+use Rattle.std.proofs.Common.{◌≡◌, ℕ, List, [], ◌∷◌, map, Option, Some, None, Result, Ok, Err, refl, sym, ◌∙◌, ap, ap₂, subst}
+use Rattle.std.specs.Prelude.{IsTrue, IsSome, OnErr, unwrap_or}
 use Rattle.bl_syntax.specs.Names.{is_principal_name}
 use Rattle.file_world.specs.declared.operation.Op.{Op}
 use Rattle.file_world.specs.declared.operation.Op.TheVariants.{Read, Write, Truncate, List as ListOf, Lookup, Create, Mkdir, Unlink, Rename, Getattr, Setattr, Delattr, Chown}
@@ -47,7 +47,7 @@ Halve-from world tree marks whole tree_is marks_are =
     (subst (λ (m : Marks). Halve world (tree_of world) m) (sym marks_are) (record { kept = AreHalves-of world whole; world_is = joined-halves world }))
 
 -- the operation is found again from its half's
-pub op_in-part_of : (op : Op) → op_in (part_of op) ≡ op
+op_in-part_of : (op : Op) → op_in (part_of op) ≡ Some op
 op_in-part_of (Read file offset len) = refl
 op_in-part_of (Write file offset bytes) = refl
 op_in-part_of (Truncate file len) = refl
@@ -61,6 +61,12 @@ op_in-part_of (Getattr node name) = refl
 op_in-part_of (Setattr node name value) = refl
 op_in-part_of (Delattr node name) = refl
 op_in-part_of (Chown node owner) = refl
+
+pub given_back : (op : Op) (part : Part) → part ≡ part_of op → IsSome (op_in part)
+given_back op part is = subst IsSome (sym (ap op_in is ∙ op_in-part_of op)) refl
+
+pub same_op : (op found : Op) (part : Part) → part ≡ part_of op → op_in part ≡ Some found → found ≡ op
+same_op op found part is gives = ap (λ (o : Option Op). unwrap_or o op) (sym gives ∙ ap op_in is ∙ op_in-part_of op)
 
 -- the marks of a world may be asked for what an operation does to them
 pub asked_of : HalvesKeepStep → (caller : List ℕ) (world : World) (op : Op) → IsWorld world → IsAskedOf caller (tree_of world) (marks_of world) (part_of op)

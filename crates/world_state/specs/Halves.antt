@@ -47,24 +47,24 @@ abbrev pub part_in : Half → Part
 part_in (Tree op) = tree_part op
 part_in (Meta op) = meta_part op
 
--- the operation of which this is the half's; the last three are no operation's
-abbrev pub op_in : Part → Op
-op_in (tree_part (on_tree.Read file offset len)) = Read file offset len
-op_in (tree_part (on_tree.Write file offset bytes)) = Write file offset bytes
-op_in (tree_part (on_tree.Truncate file len)) = Truncate file len
-op_in (tree_part (on_tree.List directory)) = ListOf directory
-op_in (tree_part (on_tree.Lookup directory name)) = Lookup directory name
-op_in (tree_part (on_tree.Create directory name)) = Create directory name
-op_in (tree_part (on_tree.Mkdir directory name)) = Mkdir directory name
-op_in (tree_part (on_tree.Unlink directory name)) = Unlink directory name
-op_in (tree_part (on_tree.Rename directory name target renamed)) = Rename directory name target renamed
-op_in (meta_part (on_meta.Get node name)) = Getattr node name
-op_in (meta_part (on_meta.Set node name value)) = Setattr node name value
-op_in (meta_part (on_meta.Remove node name)) = Delattr node name
-op_in (meta_part (on_meta.Chown node owner)) = Chown node owner
-op_in (meta_part (on_meta.Add node owner parent)) = ListOf node
-op_in (meta_part (on_meta.Drop node)) = ListOf node
-op_in (meta_part (on_meta.Move node parent)) = ListOf node
+-- the operation of which this is the half's; of the last three, which only follow the tree, there is none
+abbrev pub op_in : Part → Option Op
+op_in (tree_part (on_tree.Read file offset len)) = Some (Read file offset len)
+op_in (tree_part (on_tree.Write file offset bytes)) = Some (Write file offset bytes)
+op_in (tree_part (on_tree.Truncate file len)) = Some (Truncate file len)
+op_in (tree_part (on_tree.List directory)) = Some (ListOf directory)
+op_in (tree_part (on_tree.Lookup directory name)) = Some (Lookup directory name)
+op_in (tree_part (on_tree.Create directory name)) = Some (Create directory name)
+op_in (tree_part (on_tree.Mkdir directory name)) = Some (Mkdir directory name)
+op_in (tree_part (on_tree.Unlink directory name)) = Some (Unlink directory name)
+op_in (tree_part (on_tree.Rename directory name target renamed)) = Some (Rename directory name target renamed)
+op_in (meta_part (on_meta.Get node name)) = Some (Getattr node name)
+op_in (meta_part (on_meta.Set node name value)) = Some (Setattr node name value)
+op_in (meta_part (on_meta.Remove node name)) = Some (Delattr node name)
+op_in (meta_part (on_meta.Chown node owner)) = Some (Chown node owner)
+op_in (meta_part (on_meta.Add node owner parent)) = None
+op_in (meta_part (on_meta.Drop node)) = None
+op_in (meta_part (on_meta.Move node parent)) = None
 
 abbrev pub halves_refusal : FileTree → Marks → Part → Option Refusal
 halves_refusal tree marks (tree_part op) = tree_refusal tree op

@@ -1,6 +1,6 @@
 //! Which half of the world an operation falls to.
 
-ghost use Rattle.std.specs.Prelude.{◌≡◌};
+ghost use Rattle.std.specs.Prelude.{◌≡◌, IsSome, Some};
 ghost use Rattle.file_world.specs.Effect.{IsOperation, meta_part, part_of, tree_part};
 ghost use Rattle.world_state.specs.Halves.{part_in, op_in};
 
@@ -38,7 +38,7 @@ pub fn half_of(op: Op) -> Half
 
 // The operation again of which this is the tree's.
 fn op_of_tree(op: TreeOp) -> Op
-    ensures { result ≡ op_in (tree_part op) }
+    ensures { op_in (tree_part op) ≡ Some result }
 {
     match op {
         TreeOp::Read(file, offset, len) => Op::Read(file, offset, len),
@@ -58,22 +58,24 @@ fn op_of_tree(op: TreeOp) -> Op
 // The operation again of which this is that of owners and attributes. No operation is one of the last three, which
 // only follow the tree.
 fn op_of_meta(op: MetaOp) -> Op
-    ensures { result ≡ op_in (meta_part op) }
+    requires { IsSome (op_in (meta_part op)) }
+    ensures { op_in (meta_part op) ≡ Some result }
 {
     match op {
         MetaOp::Get(node, name) => Op::Getattr(node, name),
         MetaOp::Set(node, name, value) => Op::Setattr(node, name, value),
         MetaOp::Remove(node, name) => Op::Delattr(node, name),
         MetaOp::Chown(node, owner) => Op::Chown(node, owner),
-        MetaOp::Add(node, _owner, _parent) => Op::List(node),
-        MetaOp::Drop(node) => Op::List(node),
-        MetaOp::Move(node, _parent) => Op::List(node),
+        MetaOp::Add(_node, _owner, _parent) => unreachable!(),
+        MetaOp::Drop(_node) => unreachable!(),
+        MetaOp::Move(_node, _parent) => unreachable!(),
     }
 }
 
 /// The operation again of which this is the half's. Nothing is copied.
 pub fn op_of(half: Half) -> Op
-    ensures { result ≡ op_in (part_in half) }
+    requires { IsSome (op_in (part_in half)) }
+    ensures { op_in (part_in half) ≡ Some result }
 {
     match half {
         Half::Tree(op) => op_of_tree(op),

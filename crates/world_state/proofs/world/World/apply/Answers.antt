@@ -1,7 +1,6 @@
 -- Both halves after the operation are those of the world after it.
 use Rattle.std.proofs.Common.{ap, ◌∙◌}
-use Rattle.world_state.specs.Halves.{op_in}
-use Rattle.world_state.proofs.HalvesLemmas.{ready_shown, nothing_shown, applied, op_in-part_of}
+use Rattle.world_state.proofs.HalvesLemmas.{ready_shown, nothing_shown, applied, given_back, same_op}
 use Rattle.world_state.proofs.world.World.apply.Goals as goal
 
 pub apply-requires : goal.apply-requires
@@ -18,7 +17,10 @@ returns-clause-world c =
     c.apply.ensures.tree c.apply.ensures.meta).world_is
 
 pub returns-clause-op : goal.returns-clause-op
-returns-clause-op c = c.op_of.ensures ∙ ap op_in c.half_of-half.ensures ∙ op_in-part_of c.args.op
+returns-clause-op c = same_op c.args.op _ _ c.half_of-half.ensures c.op_of.ensures
+
+pub op_of-requires : goal.op_of-requires
+op_of-requires c = given_back c.args.op _ c.half_of-half.ensures
 
 pub returns-clause-ready : goal.returns-clause-ready
 returns-clause-ready c = nothing_shown c.apply.new.tree c.apply.new.meta c.apply.ensures.tree_ready c.apply.ensures.meta_ready

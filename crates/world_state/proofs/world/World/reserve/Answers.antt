@@ -1,8 +1,7 @@
 -- What the halves answer is the answer of the world.
 use Rattle.std.proofs.Common.{ap, ◌∙◌}
-use Rattle.world_state.specs.Halves.{op_in}
 use Rattle.world_state.specs.State.{WorldState}
-use Rattle.world_state.proofs.HalvesLemmas.{asked_shown, given_up_shown, halves_same, joined_same, reserved_shown, op_in-part_of}
+use Rattle.world_state.proofs.HalvesLemmas.{asked_shown, given_up_shown, halves_same, joined_same, reserved_shown, given_back, same_op}
 use Rattle.world_state.proofs.world.World.reserve.Goals as goal
 
 pub reserve-answer-requires : goal.reserve-answer-requires
@@ -15,7 +14,10 @@ pub returns-clause-same : goal.returns-clause-same
 returns-clause-same c = joined_same _ _ _ _ c.reserve-answer.ensures.tree c.reserve-answer.ensures.meta ∙ ap (λ (s : WorldState). s.world) c.self.view_is
 
 pub returns-clause-op : goal.returns-clause-op
-returns-clause-op c = c.op_of.ensures ∙ ap op_in c.half_of-half.ensures ∙ op_in-part_of c.args.op
+returns-clause-op c = same_op c.args.op _ _ c.half_of-half.ensures c.op_of.ensures
+
+pub op_of-requires : goal.op_of-requires
+op_of-requires c = given_back c.args.op _ c.half_of-half.ensures
 
 pub returns-clause-answer : goal.returns-clause-answer
 returns-clause-answer c =

@@ -1,0 +1,20 @@
+-- of connections and their messages
+pub mod CutLemmas
+pub mod EndsLemmas
+pub mod LimitLemmas
+pub mod PlacedLemmas
+pub mod SaidLemmas
+pub mod SpokenLemmas
+pub mod StillLemmas
+pub mod MarkLemmas
+pub mod MessageEndLemmas
+pub mod OneLemmas
+pub mod OneEndLemmas
+pub mod WordLemmas
+pub mod WrittenLemmas
+-- of requests and their turns
+pub mod ReplyLemmas
+pub mod ShortLemmas
+pub mod StepLemmas
+pub mod AnsweredLemmas
+pub mod WalkedLemmas

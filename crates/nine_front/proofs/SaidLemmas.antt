@@ -1,0 +1,114 @@
+-- Messages of a connection are answered one after the other.
+use Rattle.std.proofs.Common.{◌≡◌, ◌+◌, ◌⊎◌, ⊎_elim, inl, inr, ℕ, List, [], ◌∷◌, ◌++◌, length, refl, sym, subst, arith, append_assoc, append-nil, length-append}
+use Rattle.std.specs.Prelude.{ℤ}
+use mathlib.Core.List.{IsPrefix}
+use Rattle.tree_lock.specs.Seen.{PassView}
+use Rattle.tree_lock.proofs.EntryLemmas.{prefix_trans}
+use Rattle.pcfs_store.specs.Entries.{StoreEntry}
+use Rattle.session_history.specs.Turn.{StorePass}
+use Rattle.shared_store.specs.declared.entry.LockEntry.{LockEntry}
+use Rattle.shared_store.specs.LockHistory.{lock_history}
+use Rattle.shared_store.specs.Turning.{pass_at}
+use Rattle.shared_store.specs.Asking.{entries_seen, HasSeenFault}
+use Rattle.shared_store.proofs.AskingLemmas.{seen_later}
+use Rattle.session_lines.proofs.DoneLemmas.{stays, goes_further}
+use Rattle.session_lines.proofs.TurnCountLemmas.{no_turn, turns_then}
+use Rattle.nine_messages.specs.Requests.{MessageView}
+use Rattle.nine_messages.specs.Replies.{ReplyView}
+use Rattle.nine_fids.specs.declared.connection.Connection.{Connection}
+use Rattle.nine_fids.specs.States.{begun_with}
+use Rattle.nine_front.specs.Placed.{MessagesPlaced, no_message, one_more}
+use Rattle.nine_front.specs.Turns.{message_turns, messages_turns}
+use Rattle.nine_front.specs.Said.{IsStopped, SaysStopped, IsPlacedFrom, HasAnswered, AreSaidFrom, HasSaid, Speaks}
+
+-- ---- in a history
+
+module _ (gives : List StoreEntry → ℤ → Type 0) (p : StorePass) (history : List StoreEntry) (start : Connection) (from : ℕ) where
+  -- these messages, in so many turns
+  abbrev pub ArePlaced : List MessageView → List ReplyView → Connection → ℕ → List StoreEntry → ℕ → Type 0
+  ArePlaced messages replies end to given count = (all : MessagesPlaced gives p history start from messages replies end to given) × (length (messages_turns all) ≡ count)
+
+  -- the same messages, said otherwise
+  as_messages : (messages also : List MessageView) (replies others : List ReplyView) (end : Connection) (to : ℕ) (given added : List StoreEntry) (count : ℕ) → messages ≡ also → replies ≡ others → given ≡ added →
+      ArePlaced messages replies end to given count → ArePlaced also others end to added count
+  as_messages messages also replies others end to given added count one two three placed =
+      subst (λ (l : List MessageView). ArePlaced l others end to added count) one
+      (subst (λ (a : List ReplyView). ArePlaced messages a end to added count) two
+      (subst (λ (g : List StoreEntry). ArePlaced messages replies end to g count) three placed))
+
+  -- more messages after messages
+  pub ArePlaced-then : (messages : List MessageView) (replies : List ReplyView) (mid : Connection) (at : ℕ) (given : List StoreEntry) (count : ℕ) (others : List MessageView) (more : List ReplyView) (end : Connection) (to : ℕ) (added : List StoreEntry) → ArePlaced messages replies mid at given count →
+      (later : MessagesPlaced gives p history mid at others more end to added) → ArePlaced (messages ++ others) (replies ++ more) end to (given ++ added) (count + length (messages_turns later))
+  ArePlaced-then messages replies mid at given count _ _ _ _ _ first no_message =
+      as_messages messages (messages ++ []) replies (replies ++ []) mid at given (given ++ []) (count + 0) (sym (append-nil messages)) (sym (append-nil replies)) (sym (append-nil given)) (first.0, omega (arith, first.1))
+  ArePlaced-then messages replies mid at given count _ _ _ _ _ first (one_more others more s then_at added m reply after to last placed here) =
+      let both = ArePlaced-then messages replies mid at given count others more s then_at added first placed in
+      as_messages ((messages ++ others) ++ m ∷ []) (messages ++ (others ++ m ∷ [])) ((replies ++ more) ++ reply ∷ []) (replies ++ (more ++ reply ∷ [])) after to ((given ++ added) ++ last) (given ++ (added ++ last))
+      (count + length (messages_turns placed ++ message_turns here)) (append_assoc messages others (m ∷ [])) (append_assoc replies more (reply ∷ [])) (append_assoc given added last) (
+        one_more (messages ++ others) (replies ++ more) s then_at (given ++ added) m reply after to last both.0 here,
+        omega (arith, both.1, length-append (messages_turns both.0) (message_turns here), length-append (messages_turns placed) (message_turns here)),
+      )
+
+-- ---- that the store is stopped
+
+only_stopped : (reply : ReplyView) → SaysStopped (reply ∷ []) → IsStopped reply
+only_stopped reply (inl is) = is
+only_stopped reply (inr none) = absurd none
+
+either_stopped : (replies more : List ReplyView) → SaysStopped (replies ++ more) → SaysStopped replies ⊎ SaysStopped more
+either_stopped [] more says = inr says
+either_stopped (reply ∷ replies) more (inl is) = inl (inl is)
+either_stopped (reply ∷ replies) more (inr says) = ⊎_elim (λ (first : SaysStopped replies). inl (inr first)) (λ (other : SaysStopped more). inr other) (either_stopped replies more says)
+
+-- ---- under a pass
+
+module _ {D : Type 0} (faults : D → ℕ) (gives : List StoreEntry → ℤ → Type 0) where
+  pub HasSaid-none : (s : Connection) (pass : PassView (LockEntry D)) → HasSaid faults gives s pass pass [] [] s
+  HasSaid-none s pass =
+      record { given = []; goes_on = stays pass; count = 0; turns = no_turn 0 pass.turns; placed = λ from within. record { to = from; within = within; placed = λ opening entries begins. (no_message, refl) }; each = refl; stopped = λ says. absurd says }
+
+  said_message : (s : Connection) (m : MessageView) (old new : PassView (LockEntry D)) (after : Connection) (reply : ReplyView) (given : List StoreEntry) (count from : ℕ) → IsPlacedFrom faults gives s m.request old new reply after given count from →
+      AreSaidFrom faults gives s old new (m ∷ []) (reply ∷ []) after given count from
+  said_message s m old new after reply given count from at = record {
+    to = at.to;
+    within = at.within;
+    placed = λ opening entries begins.
+        let one = at.placed opening entries begins in
+        (one_more [] [] s from [] m reply after at.to given no_message one.0, one.1);
+  }
+
+  pub HasSaid-message : (s : Connection) (m : MessageView) (old new : PassView (LockEntry D)) (after : Connection) (reply : ReplyView) → HasAnswered faults gives s m.request old new reply after → HasSaid faults gives s old new (m ∷ []) (reply ∷ []) after
+  HasSaid-message s m old new after reply a =
+      record { given = a.given; goes_on = a.goes_on; count = a.count; turns = a.turns; placed = λ from within. said_message s m old new after reply a.given a.count from (a.placed from within); each = refl; stopped = λ says. a.stopped (only_stopped reply says) }
+
+  module _ (start mid end : Connection) (old between new : PassView (LockEntry D)) (messages others : List MessageView) (replies more : List ReplyView) where
+    said_then : (given added : List StoreEntry) (count further from : ℕ) → between.number ≡ old.number → IsPrefix between.seen new.seen → (a : AreSaidFrom faults gives start old between messages replies mid given count from) → AreSaidFrom faults gives mid between new others more end added further a.to →
+        AreSaidFrom faults gives start old new (messages ++ others) (replies ++ more) end (given ++ added) (count + further) from
+    said_then given added count further from same seen a b = record {
+      to = b.to;
+      within = b.within;
+      placed = λ opening entries begins.
+          let later =
+          subst (λ (n : ℕ). (all : MessagesPlaced gives (pass_at opening n) entries mid a.to others more end b.to added) × (length (messages_turns all) ≡ further)) same (b.placed opening entries begins) in
+          let all =
+          ArePlaced-then gives (pass_at opening old.number) entries start from messages replies mid a.to given count others more end b.to added
+          (a.placed opening entries (prefix_trans between.seen new.seen (lock_history opening entries) seen begins)) later.0 in
+          (all.0, omega (arith, all.1, later.1));
+    }
+
+    pub HasSaid-then : HasSaid faults gives start old between messages replies mid → HasSaid faults gives mid between new others more end → HasSaid faults gives start old new (messages ++ others) (replies ++ more) end
+    HasSaid-then one other = record {
+      given = one.given ++ other.given;
+      goes_on = goes_further old between new one.given other.given one.goes_on other.goes_on;
+      count = one.count + other.count;
+      turns = turns_then one.count other.count one.count other.count old.turns between.turns new.turns one.turns other.turns;
+      placed = λ from within. said_then one.given other.given one.count other.count from one.goes_on.number other.goes_on.seen (one.placed from within) (other.placed (one.placed from within).to (one.placed from within).within);
+      each = omega (arith, one.each, other.each, length-append messages others, length-append replies more);
+      stopped = λ says. ⊎_elim (λ (first : SaysStopped replies). seen_later faults between new other.goes_on.seen (one.stopped first)) other.stopped (either_stopped replies more says);
+    }
+
+  -- a connection that begins under the pass
+  pub Speaks-said : (nonce : List ℕ) (end : Connection) (old new : PassView (LockEntry D)) (messages : List MessageView) (replies : List ReplyView) → HasSaid faults gives (begun_with nonce) old new messages replies end → Speaks faults gives nonce old new messages replies
+  Speaks-said nonce end old new messages replies said =
+      let all = said.placed (entries_seen old) (omega arith) in
+      record { end = end; to = all.to; within = all.within; given = said.given; goes_on = said.goes_on; count = said.count; turns = said.turns; placed = all.placed; each = said.each; stopped = said.stopped }

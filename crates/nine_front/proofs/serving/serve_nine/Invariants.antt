@@ -1,0 +1,18 @@
+use Rattle.std.proofs.Common.{◌≡◌, ◌≤◌, ◌-◌, length}
+use Rattle.nine_front.proofs.EndsLemmas.{IsReading}
+use Rattle.nine_front.proofs.serving.serve_nine.Given as goal
+
+abbrev pub invariant-loop-taken : goal.invariant-loop-taken
+invariant-loop-taken g l = record {
+  reading : IsReading g.D.Disk.faults (g.C.TurnClock.gives l.clock) l.fn.nonce l.fn.pass (record { left = g.I.Source.left l.fn.input; read_faults = g.I.Source.faults l.fn.input; held = g.O.Sink.held l.fn.output; write_faults = g.O.Sink.faults l.fn.output }) l.pass l.connection l.framer (g.I.Source.left l.input) (g.O.Sink.held l.output) l.taken;
+  same_lock : l.pass.lock ≡ l.lock;
+  within : l.taken ≤ 1073741824;
+  room : length l.piece.items ≡ 65536;
+  read_steady : g.I.Source.faults l.input ≡ g.I.Source.faults l.fn.input;
+  write_steady : g.O.Sink.faults l.output ≡ g.O.Sink.faults l.fn.output;
+  read_never_falls : g.I.Source.faults l.fn.input ≤ g.I.Source.faults l.input;
+  write_never_falls : g.O.Sink.faults l.fn.output ≤ g.O.Sink.faults l.output;
+}
+
+abbrev pub decreases-loop-taken : goal.decreases-loop-taken
+decreases-loop-taken g l = 1073741824 - l.taken

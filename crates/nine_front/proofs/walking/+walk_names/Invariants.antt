@@ -1,0 +1,6 @@
+-- One name fewer is left.
+use Rattle.std.proofs.Common.{length}
+use Rattle.nine_front.proofs.walking.+walk_names.Given as goal
+
+abbrev pub decreases-walk_names : goal.decreases-walk_names
+decreases-walk_names g l = length l.names.now

@@ -1,0 +1,117 @@
+-- Laws of messages in a history: what is placed stays placed, what is given is the pass's own,
+-- places do not go back, and each request has an end, and asks one thing.
+use Rattle.std.specs.Prelude.{◌≡◌, ◌≢◌, ◌+◌, ◌≤◌, ℕ, ℤ, List, ◌++◌, length, take, true, false, Option}
+use Rattle.line_wire.specs.declared.reply.LineReply.TheVariants as lines
+use Rattle.line_wire.specs.ReplyText.{reply_text}
+use Rattle.pcfs_store.specs.Entries.{StoreEntry}
+use Rattle.session_history.specs.Passes.{AllOfPass, has_stop}
+use Rattle.session_history.specs.declared.request.TurnRequest.{TurnRequest}
+use Rattle.session_history.specs.declared.reply.TurnReply.{TurnReply}
+use Rattle.session_history.specs.Tasks.{IsNamed}
+use Rattle.session_history.specs.Turn.{StorePass}
+use Rattle.nine_messages.specs.Requests.{RequestView, MessageView}
+use Rattle.nine_messages.specs.Replies.{ReplyView, rerror}
+use Rattle.nine_fids.specs.declared.connection.Connection.{Connection}
+use Rattle.nine_fids.specs.declared.control.Control.{Control}
+use Rattle.nine_fids.specs.declared.step.Step.{Step}
+use Rattle.nine_fids.specs.States.{IsWithin}
+use Rattle.nine_fids.specs.Tests.{IsAskedBy}
+use Rattle.nine_front.specs.Asking.{bytes_of, IsTurnOf, IsReplyTo}
+use Rattle.nine_front.specs.Placed.{MessagePlaced, MessagesPlaced}
+use Rattle.nine_front.specs.Said.{IsStopped}
+use Rattle.nine_front.specs.Turns.{message_turns, HadMemory}
+
+-- messages stay in their places when the history grows at its end
+abbrev pub MessagesStayPlaced : (List StoreEntry → ℤ → Type 0) → Type 0
+MessagesStayPlaced gives = (p : StorePass) (history more : List StoreEntry) (start : Connection)
+    (from : ℕ) (messages : List MessageView) (replies : List ReplyView) (end : Connection) (to : ℕ)
+    (given : List StoreEntry) →
+    MessagesPlaced gives p history start from messages replies end to given →
+    MessagesPlaced gives p (history ++ more) start from messages replies end to given
+
+-- the entries that a connection is given were all added in turns of its own pass
+abbrev pub GivenAreOfPass : (List StoreEntry → ℤ → Type 0) → Type 0
+GivenAreOfPass gives = (p : StorePass) (history : List StoreEntry) (start : Connection) (from : ℕ)
+    (messages : List MessageView) (replies : List ReplyView) (end : Connection) (to : ℕ)
+    (given : List StoreEntry) →
+    MessagesPlaced gives p history start from messages replies end to given →
+    AllOfPass p.number given
+
+-- places do not go back, and stay within the history
+abbrev pub PlacesGoOn : (List StoreEntry → ℤ → Type 0) → Type 0
+PlacesGoOn gives = (p : StorePass) (history : List StoreEntry) (start : Connection) (from : ℕ)
+    (messages : List MessageView) (replies : List ReplyView) (end : Connection) (to : ℕ)
+    (given : List StoreEntry) →
+    from ≤ length history →
+    MessagesPlaced gives p history start from messages replies end to given →
+    (from ≤ to) × (to ≤ length history)
+
+-- each message has a reply
+abbrev pub MessagesAreAnswered : (List StoreEntry → ℤ → Type 0) → Type 0
+MessagesAreAnswered gives = (p : StorePass) (history : List StoreEntry) (start : Connection)
+    (from : ℕ) (messages : List MessageView) (replies : List ReplyView) (end : Connection) (to : ℕ)
+    (given : List StoreEntry) →
+    MessagesPlaced gives p history start from messages replies end to given →
+    length replies ≡ length messages
+
+-- a connection stays within its limits
+abbrev pub LimitsAreKept : (List StoreEntry → ℤ → Type 0) → Type 0
+LimitsAreKept gives = (p : StorePass) (history : List StoreEntry) (s : Connection) (from : ℕ)
+    (m : RequestView) (reply : ReplyView) (after : Connection) (to : ℕ) (given : List StoreEntry) →
+    IsWithin s → MessagePlaced gives p history from s m reply after to given → IsWithin after
+
+-- it is told that the store is stopped only if a mark is among the entries up to the place
+abbrev pub StoppedAfterStop : (List StoreEntry → ℤ → Type 0) → Type 0
+StoppedAfterStop gives = (p : StorePass) (history : List StoreEntry) (s : Connection) (from : ℕ)
+    (m : RequestView) (reply : ReplyView) (after : Connection) (to : ℕ) (given : List StoreEntry) →
+    IsStopped reply → MessagePlaced gives p history from s m reply after to given →
+    has_stop (take to history) ≡ true
+
+-- ---- one end, and some end
+
+-- a request asks one thing of the control file, or nothing: so what it comes to is one
+abbrev pub RequestsAskOneThing : Type 0
+RequestsAskOneThing = (s : Connection) (m : RequestView) (asked other : Option Control) →
+    IsAskedBy s m asked → IsAskedBy s m other → asked ≡ other
+
+-- a step that is done in one turn is one turn
+abbrev pub StepsAreOneTurn : Type 0
+StepsAreOneTurn = (s : Connection) (m : RequestView) (step : Step) (request other : TurnRequest) →
+    IsTurnOf s m step request → IsTurnOf s m step other → request ≡ other
+
+-- and what the turn replies is told in one way
+abbrev pub RepliesAreToldInOneWay : Type 0
+RepliesAreToldInOneWay = (count : ℕ) (replied : TurnReply) (reply other : ReplyView) →
+    IsReplyTo count replied reply → IsReplyTo count replied other → reply ≡ other
+
+-- At given turns a message has one end, if memory does not run out before one of them: what its
+-- turns reply, come to and add decides its reply, the state after it, and what it is given.
+abbrev pub MessagesHaveOneEnd : (List StoreEntry → ℤ → Type 0) → Type 0
+MessagesHaveOneEnd gives = (p : StorePass) (history : List StoreEntry) (from : ℕ) (s : Connection)
+    (m : RequestView) (reply other : ReplyView) (after next : Connection) (to last : ℕ)
+    (given more : List StoreEntry)
+    (one : MessagePlaced gives p history from s m reply after to given)
+    (two : MessagePlaced gives p history from s m other next last more) →
+    HadMemory one → HadMemory two → message_turns one ≡ message_turns two →
+    (reply ≡ other) × (after ≡ next) × (to ≡ last) × (given ≡ more)
+
+-- a reply that is neither that memory ran out nor that the store is stopped
+abbrev pub IsCalm : ReplyView → Type 0
+IsCalm reply = (reply ≢ rerror (reply_text lines.NoMemory)) × (reply ≢ rerror (reply_text lines.Stopped))
+
+-- a reply to the request and entries which place it after those before
+pub record HasMessageEnd (gives : List StoreEntry → ℤ → Type 0) (p : StorePass) (before : List StoreEntry) (s : Connection) (m : RequestView) : Type 0 where
+  pub reply : ReplyView
+  pub after : Connection
+  pub given : List StoreEntry
+  pub placed : MessagePlaced gives p (before ++ given) (length before) s m reply after (length before + length given) given
+  pub calm : IsCalm reply
+
+-- At a store that is not stopped each request has an end that is not disturbed, if the clock gives
+-- some moment after whatever entries, whoever is logged in has a principal's name, and no more bytes
+-- are written than fit a message.
+abbrev pub MessagesHaveAnEnd : (List StoreEntry → ℤ → Type 0) → Type 0
+MessagesHaveAnEnd gives = (p : StorePass) (s : Connection) (m : RequestView) (asked : Option Control)
+    (before : List StoreEntry) → ((found : List StoreEntry) → (clock : ℤ) × gives found clock) →
+    IsAskedBy s m asked → IsNamed s.caller → length (bytes_of m) ≤ 65536 → has_stop before ≡ false →
+    HasMessageEnd gives p before s m

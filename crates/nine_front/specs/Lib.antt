@@ -1,0 +1,12 @@
+pub mod Asking
+pub mod Ends
+pub mod Framing
+pub mod Laws
+pub mod Placed
+pub mod Said
+pub mod Spoken
+pub mod Taken
+pub mod Turns
+pub mod Views
+pub mod Short
+pub mod Walked

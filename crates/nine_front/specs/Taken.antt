@@ -1,0 +1,71 @@
+-- The messages of what was taken of an input, and what is written for them. If the input does not
+-- tell what it has, these are some messages (this project's own).
+use Rattle.std.specs.Prelude.{◌≡◌, ◌≤◌, ℕ, List, [], ◌∷◌, ◌++◌, length, Option}
+use Rattle.pcfs_ports.specs.Observable.{with_front, ReadsToEnd, TakesFirst, HoldsSome}
+use Rattle.nine_messages.specs.Requests.{MessageView}
+use Rattle.nine_messages.specs.Replies.{ReplyView, reply_spelling}
+use Rattle.nine_messages.specs.Cutting.{Cuts, IsOpen, IsBad}
+
+-- these messages were taken, of which the first may have 65,536 bytes, and then some rest, which a
+-- piece more than a message holds
+pub record AreTaken (left left_after : Option (List ℕ)) (messages : List MessageView) : Type 0 where
+  pub bytes : List ℕ
+  pub rest : List ℕ
+  pub agreed : ℕ
+  pub taken : left ≡ with_front bytes left_after
+  pub cut : Cuts 65536 bytes messages agreed rest
+  pub few : length rest ≤ 131072
+
+-- these messages were taken, and then less than a message
+pub record AreAllTaken (left left_after : Option (List ℕ)) (messages : List MessageView) : Type 0 where
+  pub bytes : List ℕ
+  pub rest : List ℕ
+  pub agreed : ℕ
+  pub taken : left ≡ with_front bytes left_after
+  pub cut : Cuts 65536 bytes messages agreed rest
+  pub is_open : IsOpen agreed rest
+
+-- these messages were taken, and what comes after them is no message, whatever else comes
+pub record IsCutAtBad (left left_after : Option (List ℕ)) (messages : List MessageView) : Type 0 where
+  pub bytes : List ℕ
+  pub rest : List ℕ
+  pub agreed : ℕ
+  pub taken : left ≡ with_front bytes left_after
+  pub cut : Cuts 65536 bytes messages agreed rest
+  pub is_bad : IsBad agreed rest
+
+-- the input was read to its end, and these are its messages
+pub record IsReadWhole (left left_after : Option (List ℕ)) (messages : List MessageView) : Type 0 where
+  pub bytes : List ℕ
+  pub agreed : ℕ
+  pub read : ReadsToEnd left left_after bytes
+  pub cut : Cuts 65536 bytes messages agreed []
+
+-- the input was read to its end, which is within the message after these
+pub record IsCutOff (left left_after : Option (List ℕ)) (messages : List MessageView) : Type 0 where
+  pub bytes : List ℕ
+  pub rest : List ℕ
+  pub agreed : ℕ
+  pub read : ReadsToEnd left left_after bytes
+  pub cut : Cuts 65536 bytes messages agreed rest
+  pub some : 1 ≤ length rest
+  pub is_open : IsOpen agreed rest
+
+-- ---- what is written
+
+-- the replies to messages, each with the tag of its message
+abbrev pub output_of : List MessageView → List ReplyView → List ℕ
+output_of [] replies = []
+output_of (m ∷ messages) [] = []
+output_of (m ∷ messages) (reply ∷ replies) = reply_spelling m.tag reply ++ output_of messages replies
+
+-- all of a list but its last element
+abbrev pub but_last : {A : Type 0} → List A → List A
+but_last [] = []
+but_last (x ∷ []) = []
+but_last (x ∷ (y ∷ ys)) = x ∷ but_last (y ∷ ys)
+
+-- beside what it held, the output holds all replies but the last, and of the last some first part
+pub record HoldsButLast (held held_after : Option (List ℕ)) (messages : List MessageView) (replies : List ReplyView) : Type 0 where
+  pub some : HoldsSome held held_after (output_of messages replies)
+  pub earlier : length (output_of messages (but_last replies)) ≤ some.count

@@ -1,0 +1,57 @@
+//! The files that a walk found.
+
+ghost use Rattle.std.specs.Prelude.{◌≡◌, ◌<◌, [], ◌∷◌, ◌++◌, length};
+
+use nine_fids::FidFile;
+use std::marker::Model;
+
+/// The greatest number of names of a walk.
+const MOST_NAMES: usize = 16;
+
+/// At most 16 files. Contracts see them in their order. It takes no memory.
+#[derive(Debug, Drop)]
+pub struct Found {
+    files: [FidFile; 16],
+    count: usize,
+}
+
+impl Model for Found {
+    ghost use Rattle.std.specs.Prelude.{◌≤◌, List, take};
+    ghost use Rattle.nine_fids.specs.declared.fid.FidFile.{FidFile};
+
+    ghost Value = { List FidFile };
+
+    ghost view = { λ f. take f.count f.files };
+
+    ghost invariant = { λ f. f.count ≤ 16 };
+}
+
+impl Found {
+    /// No files.
+    pub(crate) fn new() -> Found
+        ensures { result ≡ [] }
+    {
+        Found {
+            files: [FidFile::Control; 16],
+            count: 0,
+        }
+    }
+
+    /// Adds a file after the others.
+    pub(crate) fn push(&mut self, file: FidFile)
+        requires { length self.old < 16 }
+        ensures { self.new ≡ self.old ++ file ∷ [] }
+    {
+        if self.count < MOST_NAMES {
+            self.files[self.count] = file;
+            self.count += 1;
+        }
+    }
+
+    /// The files.
+    pub fn as_slice(&self) -> &[FidFile]
+        ensures { result.now ≡ self.now }
+    {
+        &self.files[..self.count]
+    }
+}

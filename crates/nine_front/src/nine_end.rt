@@ -1,0 +1,19 @@
+//! How a connection ends.
+
+/// How a connection ends.
+#[derive(Clone, Copy, Debug, PartialEq, Eq)]
+pub enum NineEnd {
+    /// The input was read to its end, and each message was answered.
+    Done,
+    /// What came is no message, or the input ended within one. The messages before it were answered, and nothing was read
+    /// after it.
+    BadMessage,
+    /// The input failed.
+    ReadFault,
+    /// The output failed, and may lack any of its end.
+    WriteFault,
+    /// Memory ran out.
+    NoMemory,
+    /// 1,073,741,824 bytes were taken, and the input had not ended.
+    InputTooLong,
+}
