@@ -17,4 +17,4 @@ memory=$(mktemp -d -p "${2:-/dev/shm}")
 trap 'rm -rf "$disk" "$memory"' EXIT
 
 cc -O2 -o "$memory/drive" "$parts/drive.c"
-PYTHONPATH="$top/client" PYTHONDONTWRITEBYTECODE=1 timeout 1200 python3 "$parts/figures.py" "$program" "$disk" "$memory"
+PYTHONPATH="$top/examples" PYTHONDONTWRITEBYTECODE=1 timeout 1200 python3 "$parts/figures.py" "$program" "$disk" "$memory"

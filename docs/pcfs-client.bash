@@ -1,9 +1,9 @@
 # Completion of the words of pcfs-client for bash: source it, or put it where bash-completion finds it, under the name pcfs-client.
 _pcfs_client() {
-    local word=${COMP_WORDS[COMP_CWORD]} before=${COMP_WORDS[COMP_CWORD - 1]} command='' at options='--help --home --key --prover --server --timeout'
+    local word=${COMP_WORDS[COMP_CWORD]} before=${COMP_WORDS[COMP_CWORD - 1]} command='' at options='--help --home --key --server --timeout'
     for ((at = 1; at < COMP_CWORD; at++)); do
         case ${COMP_WORDS[at]} in
-        --home | --key | --prover | --server | --timeout) at=$((at + 1)) ;;
+        --home | --key | --server | --timeout) at=$((at + 1)) ;;
         -*) ;;
         *)
             command=${COMP_WORDS[at]}
@@ -13,7 +13,7 @@ _pcfs_client() {
     done
     case $before in
     --home) COMPREPLY=($(compgen -d -- "$word")) && return ;;
-    --file | --key | --prover | --secrets | --signer | --statements) COMPREPLY=($(compgen -f -- "$word")) && return ;;
+    --file | --key | --secrets | --signer | --statements) COMPREPLY=($(compgen -f -- "$word")) && return ;;
     --at | --attr | --drop | --line | --server | --timeout | --until) return ;;
     esac
     case $command in

@@ -21,8 +21,8 @@ import secrets
 import sys
 from pathlib import Path
 
-sys.path.append(str(Path(__file__).resolve().parents[1] / "client"))
-from pcfs_client import Text, number_of, short  # noqa: E402
+sys.path.append(str(Path(__file__).resolve().parent))
+from pcfs_formats import Text, number_of, short  # noqa: E402
 
 
 # ---- the tree ------------------------------------------------------------------------------------------------------

@@ -2,9 +2,9 @@
 """Tries client/pcfs-client as users would: over a store that it serves itself, with connections that break off, with three users
 at once, and with all that can be wrong in words, files and servers.
 
-usage: client.py [PROGRAM PROVER [NAME..]], by default crates/pcfs/out/pcfs and crates/pcfs_prove/out/pcfs_prove; `plain` instead of
-either is the plain server of hostile/ or the plain prover. NAME is that of a test, as `breaks`. Prints a line for each test, and
-ends with 1 if one differs.
+usage: client.py [PROGRAM CLIENT [NAME..]], by default crates/pcfs/out/pcfs and crates/pcfs_client/out/pcfs_client; `plain` instead of
+the first is the plain server of hostile/. NAME is that of a test, as `breaks`. Prints a line for each test, and ends with 1 if one
+differs.
 """
 import hashlib
 import os
@@ -25,8 +25,6 @@ from pathlib import Path
 TESTS = Path(__file__).resolve().parent
 TOP = TESTS.parent
 CLIENT = TOP / "client" / "pcfs-client"
-sys.path[:0] = [str(TOP / "client")]
-from pcfs_client import commands, home, replies, stops, tree, words  # noqa: E402
 
 USERS = ["admin", "hr", "alice", "bob", "carol", "dave"]
 OWN = "admin says forall F:file. forall P:perm. owner(F,{0}) => may({0},F,P) from -inf to +inf"
@@ -55,8 +53,8 @@ def free_port():
 class World:
     """A store that is served, and the keys of its users."""
 
-    def __init__(self, programs, folder):
-        self.server, self.prover = programs
+    def __init__(self, server, folder):
+        self.server = server
         self.folder = Path(folder)
         self.port = free_port()
         lines = ["seal " + key_of("the seal"), *(f"key {name} {key_of(name)}" for name in USERS)]
@@ -65,7 +63,7 @@ class World:
             path = self.folder / f"{name}.key"
             path.write_text(key_of(name) + "\n")
             path.chmod(0o600)
-        environment = {**os.environ, "PYTHONDONTWRITEBYTECODE": "1", "PYTHONPATH": ":".join(str(TOP / part) for part in ("tests/hostile", "tests/model", "client"))}
+        environment = {**os.environ, "PYTHONDONTWRITEBYTECODE": "1", "PYTHONPATH": ":".join(str(TOP / part) for part in ("tests/hostile", "tests/model", "examples"))}
         self.quiet = {"cwd": folder, "env": environment, "stdin": subprocess.DEVNULL, "stdout": subprocess.DEVNULL, "stderr": subprocess.DEVNULL}
         subprocess.run([*self.server, "init"], **self.quiet, check=True)
         self.begin()
@@ -86,12 +84,11 @@ class World:
     def home(self, name):
         return self.folder / f"home of {name}"
 
-    def words(self, name, *given, prover=None):
-        prover = [] if given[0] in ("--help", "--version") else ["--prover", prover or self.prover]
-        return [str(CLIENT), "--home", str(self.home(name)), *prover, *given]
+    def words(self, name, *given):
+        return [str(CLIENT), "--home", str(self.home(name)), *given]
 
-    def run(self, name, *given, data=None, prover=None):
-        return subprocess.run(self.words(name, *given, prover=prover), input=data, capture_output=True, cwd=self.folder, timeout=120)
+    def run(self, name, *given, data=None):
+        return subprocess.run(self.words(name, *given), input=data, capture_output=True, cwd=self.folder, timeout=120)
 
     def does(self, name, *given, data=None):
         """What a command writes that is done."""
@@ -99,9 +96,9 @@ class World:
         want(f"{name}: {' '.join(given)}", ran.returncode == 0, f"status {ran.returncode} {ran.stderr.decode()}")
         return ran.stdout
 
-    def fails(self, status, pattern, name, *given, data=None, prover=None):
+    def fails(self, status, pattern, name, *given, data=None):
         """A command that ends with this status, and one line that the pattern finds."""
-        ran = self.run(name, *given, data=data, prover=prover)
+        ran = self.run(name, *given, data=data)
         told = ran.stderr.decode()
         found = ran.returncode == status and told.count("\n") == 1 and re.search(pattern, told)
         want(f"{name}: {' '.join(given)[:80]}", found, f"status {ran.returncode} {told!r} and not {status} {pattern!r}")
@@ -172,7 +169,7 @@ def first(world):
     want("prove", world.does("alice", "prove", "govern", "/d").decode().startswith("you may govern /d (#"))
     world.does("alice", "rm", "/d/e")
     world.fails(2, "/d: is a directory with names in it", "alice", "rm", "/d")
-    want("version", world.does("alice", "--version") == b"pcfs-client 0.1\n")
+    want("version", world.does("alice", "--version") == b"pcfs-client 0.2\n")
 
 
 def sizes(world):
@@ -211,6 +208,42 @@ def modes(world):
     world.fails(4, "the key is read from a file", "alice", "login", "alice", "--key", key_of("alice"))
     key.write_text(f"seal 00\nkey bob 01\nkey alice {key_of('alice')}\n")
     world.does("alice", "ls")
+
+
+def machine(world):
+    """What this machine gives otherwise than it mostly does: a closed input, no HOME, a folder that is none, a wrong login file."""
+    world.logs_in("alice", [ROOT.format("alice"), OWN.format("alice")])
+    world.does("alice", "put", "-", "/f", data=b"old")
+    ran = subprocess.run(world.words("alice", "put", "-", "/f"), preexec_fn=lambda: os.close(0), stdout=subprocess.PIPE, stderr=subprocess.PIPE, cwd=world.folder)
+    want("a closed input", ran.returncode == 4 and re.fullmatch(b"pcfs-client: input: .*\n", ran.stderr), ran)
+    want("the old file stays", world.does("alice", "cat", "/f") == b"old")
+    target = world.folder / "target"
+    target.write_bytes(b"before")
+    target.chmod(0o666)
+    ran = subprocess.run(world.words("alice", "get", "/f", "target"), preexec_fn=lambda: os.umask(0o077), cwd=world.folder)
+    want("get keeps the mode", ran.returncode == 0 and target.read_bytes() == b"old" and target.stat().st_mode & 0o777 == 0o666, ran)
+    bare = {name: value for name, value in os.environ.items() if name not in ("HOME", "XDG_CONFIG_HOME", "PCFS_CLIENT_HOME")}
+    ran = subprocess.run([str(CLIENT), "ls"], env=bare, capture_output=True, cwd=world.folder)
+    want("no HOME", ran.returncode == 4 and b"name the folder by --home" in ran.stderr and ran.stderr.count(b"\n") == 1, ran)
+    ran = subprocess.run([str(CLIENT), "--home", "target", "ls"], capture_output=True, cwd=world.folder)
+    want("a folder that is none", ran.returncode == 4 and ran.stderr == b"pcfs-client: target/login: Not a directory\n", ran)
+    login = world.home("alice") / "login"
+    login.write_text("x\n")
+    world.fails(5, "do anew: pcfs-client login", "alice", "ls")
+    world.logs_in("alice")
+    want("a new login", world.does("alice", "cat", "/f") == b"old")
+    odd = world.folder / "odd\nkey"
+    odd.write_text(key_of("alice") + "\n")
+    odd.chmod(0o600)
+    kept = login.read_text()
+    world.fails(4, "bytes that are no ASCII text", "alice", "login", "alice", "--key", odd.name)
+    want("the login stays", login.read_text() == kept)
+    for name in ("unfinished.0123456789abcdef", "procaps.new", "note.new"):
+        (world.home("alice") / name).write_text("")
+    world.does("alice", "procaps", "--clear")
+    world.does("alice", "put", "-", "/f", data=b"new")
+    left = {file.name for file in world.home("alice").iterdir()}
+    want("what was left is written over", left == {"lock", "login", "procaps", "statements", "unfinished.0123456789abcdef"}, left)
 
 
 def seconds(second):
@@ -450,7 +483,6 @@ def wrong(world):
     want("nothing is left", world.does("alice", "ls", "-a") == b"d\nf\n", world.does("alice", "ls", "-a"))
     world.fails(4, "nothing: No such file", "alice", "put", "nothing", "/g")
     world.fails(4, "nowhere/f: No such file", "alice", "get", "/f", "nowhere/f")
-    world.fails(4, "prover nobody: no such program", "alice", "ls", prover="nobody")
     world.fails(7, "no session with 127.0.0.1:1: Connection refused", "alice", "--server", "127.0.0.1:1", "ls")
     world.fails(8, "no login yet", "carol", "ls")
     world.fails(8, "does not accept the login of alice", "alice", "--key", "bob.key", "ls")
@@ -505,32 +537,77 @@ def talk(listener, said):
         pass
 
 
-def refusals(_world):
+class Scripted:
+    """A server that accepts each login, and gives these replies to the lines of each session, then none."""
+
+    def __init__(self, *told):
+        self.told = told
+        self.listener = socket.create_server(("127.0.0.1", 0))
+        self.address = f"127.0.0.1:{self.listener.getsockname()[1]}"
+        threading.Thread(target=self.serve, daemon=True).start()
+
+    def serve(self):
+        while True:
+            try:
+                connection, _ = self.listener.accept()
+            except OSError:
+                return
+            threading.Thread(target=self.talk, args=(connection,), daemon=True).start()
+
+    def talk(self, connection):
+        with connection, connection.makefile("rwb") as stream:
+            for reply in ("hello " + "0" * 32, "ok", *self.told):
+                if not reply.startswith("hello ") and not stream.readline():
+                    return
+                stream.write(reply.encode() + b"\n")
+                stream.flush()
+
+    def __enter__(self):
+        return self
+
+    def __exit__(self, *_):
+        self.listener.close()
+
+
+PROCAP = bytes.fromhex("470105616c696365000000000000000102020401000000006955b90006060401000000007c245eff000c4d58555da94165f60a8866bccd0bdaf27ae966c06d9e3b7336c1e901de59de")
+
+
+def replied(world, reply, *given, procap=PROCAP.hex()):
+    """How a command of alice's ends that brings a procap for #1, and gets this reply."""
+    home = world.home("alice")
+    with Scripted(reply) as server:
+        (home / "login").write_text(f"server {server.address}\nname alice\nkey {world.folder}/alice.key\n")
+        (home / "procaps").write_text(f"procap {server.address} alice write #1 - / {procap}\n")
+        return world.run("alice", "--timeout", "5", *given)
+
+
+def refusals(world):
     """Each refusal in words."""
+    world.logs_in("alice")
     wanted = {
-        "denied 1 time 2 ctime <= 200 at 9": "your right to write /notes ended 1970-01-01T00:03:20Z; ask for a new proof",
-        "denied 1 time 1 1795000000 <= ctime at 9": "your right to write /notes begins 2026-11-18T11:06:40Z; wait until then, or ask for another proof",
-        "denied 1 state 1 owner(#2,alice) at 9": "your right to write /notes holds only while alice owns #2, which is not so now",
+        "denied 1 time 2 ctime <= 200 at 9": "your right to write / ended 1970-01-01T00:03:20Z; ask for a new proof",
+        "denied 1 time 1 1795000000 <= ctime at 9": "your right to write / begins 2026-11-18T11:06:40Z; wait until then, or ask for another proof",
+        "denied 1 time 1 -62135596800 <= ctime at 9": "begins 0001-01-01T00:00:00Z",
+        "denied 1 state 1 owner(#2,alice) at 9": "your right to write / holds only while alice owns #2, which is not so now",
         'denied 1 state 1 has_xattr(#2,"a, b at 7","c; d") at 9': 'holds only while #2 has the attribute a, b at 7 "c; d", which',
         "denied 1 state 3 in_dir(#3,#2) at 9": "holds only while #3 stands in #2",
         "denied 1 withdrawn 7 at 9": "rests on statement 7, which was withdrawn; ask who said it for another",
         "denied 1 seal at 9": "has not the seal of this server",
         "denied 1 principal at 9": "was won for another principal",
         "denied 1 hunger at 9": "by a cause that this client does not know: hunger",
+        "refused 14 at 9": "does not know: refused 14",
+        "bad 4 3 36": "the text is wrong at byte 36: no such date",
     }
-    for reply, words_ in wanted.items():
-        told = replies.Denial(reply).words("write", "/notes")
-        want(reply, words_ in told, told)
+    for reply, words in wanted.items():
+        ran = replied(world, reply, "mkdir", "/x")
+        told = ran.stderr.decode()
+        want(reply, words in told and told.count("\n") == 1 and ran.returncode == (1 if reply.startswith("denied") else 2), ran)
     for number in range(1, 14):
-        fault = replies.refusal(f"refused {number} at 9", "/notes")
-        want(f"refused {number}", isinstance(fault, stops.Refused) and fault.words.startswith("/notes: "), fault)
-    want("refused 14", "does not know: refused 14 at 9" in replies.refusal("refused 14 at 9", "/notes").words)
-    want("year 1", replies.moment("-62135596800") == "0001-01-01T00:00:00Z", replies.moment("-62135596800"))
-    want("bad 4", replies.badness("bad 4 3 36").words == "the text is wrong at byte 36: no such date")
+        ran = replied(world, f"refused {number} at 9", "mkdir", "/x")
+        want(f"refused {number}", ran.returncode == 2 and re.fullmatch("pcfs-client: /x: [ -~]+\n", ran.stderr.decode()), ran)
 
 
 WORDS = 'denied refused bad unproved absent ok issue procap rejected time state withdrawn seal 1 2 13 99999999999999999999 at <= ctime -inf +inf owner(#1,a) has_xattr( ) "x" #2 ; - 200 -5'.split(" ")
-PROCAP = bytes.fromhex("470105616c696365000000000000000102020401000000006955b90006060401000000007c245eff000c4d58555da94165f60a8866bccd0bdaf27ae966c06d9e3b7336c1e901de59de")
 TEXT = "admin says forall K:principal. (hr says employee(K) & owner(#1,K)) => may(K,#1,write) @ [0,+inf] from 2026-01-01 to 2026-12-31T23:59:59Z"
 
 
@@ -543,20 +620,21 @@ def changed(draw, whole, values):
     return whole
 
 
-def drawn(_world):
-    """No reply, procap, text or path ends the program otherwise than by a line of its own: what is raised here else is a traceback."""
+def drawn(world):
+    """No reply, procap, text or path ends the program otherwise than by a line of its own, with a status that the manual page has."""
+    world.logs_in("alice")
     draw = random.Random(1)
-    for _ in range(4000):
+    for _ in range(300):
         reply = " ".join(draw.choice(WORDS) for _ in range(draw.randrange(1, 9)))
-        for ask in (replies.registration, replies.badness, replies.failing, replies.dated, lambda one: replies.refusal(one, "/f"), lambda one: replies.verification(one, "read", "/f")):
-            ask(reply)
-        one = home.Pass("server", "alice", "read", 1, (), "/", bytes(changed(draw, PROCAP, range(256))).hex())
-        commands.described(one)
-        for ask, given in ((replies.Denial, reply), (commands.speaker_of, "".join(changed(draw, TEXT, "()[],:.&|@#?\"=<> 09azAZ"))), (tree.Place.of, "".join(draw.choice("/#17ab. -") for _ in range(draw.randrange(8))))):
-            try:
-                ask(given)
-            except stops.Stop:
-                pass
+        given = draw.choice((["mkdir", "/x"], ["prove", "read", "/", "--line", "verify alice #1 read 1 init(1)"], ["register", TEXT, "--signer", "admin.key"]))
+        ran = replied(world, reply, *given)
+        want(reply, ran.returncode < 10 and ran.stderr.count(b"\n") == (ran.returncode != 0), ran)
+        word = bytes(changed(draw, PROCAP, range(256))).hex()
+        text = "".join(changed(draw, TEXT, "()[],:.&|@#?\"=<> 09azAZ"))
+        path = "".join(draw.choice("/#17ab. -") for _ in range(draw.randrange(8)))
+        for given in (["show", word], ["sign", "--key", "admin.key", "statement", text], ["--server", "127.0.0.1:1", "ls", f"./{path}"[2:] or "."]):
+            ran = world.run("alice", *given)
+            want(given, ran.returncode < 10 and ran.stderr.count(b"\n") == (ran.returncode != 0), ran)
 
 
 def progress(world):
@@ -606,43 +684,44 @@ def signed(world):
     want("shown", "carol may write #1 while\n" in shown and "written again: the same bytes\nseal: right\n" in shown, shown)
 
 
-def documents(_world):
+STATUSES = [*range(10), 130]
+
+
+def documents(world):
     """The manual page and the completion have each command and option of the program, and each status."""
     page = (TOP / "docs/pcfs-client.1").read_text().replace("\\-", "-").replace("\\fR", " ")
     completion = (TOP / "docs/pcfs-client.bash").read_text()
-    parser = words.parser()
-    commands = next(action for action in parser._actions if action.dest == "command").choices
-    for name, command in commands.items():
+    about = world.does("nobody", "--help").decode()
+    commands = re.findall(r"(?m)^  ([a-z]+)  ", about)
+    want("commands", len(commands) == 18, commands)
+    for name in commands:
         want(f"{name} in the manual page", re.search(rf'(?m)^\.(?:B|BI|BR) "?{name}\b', page), "missing")
         want(f"{name} in the completion", re.search(rf"\b{name}\b", completion), "missing")
-        for action in command._actions:
-            for option in action.option_strings:
-                if option.startswith("--"):
-                    want(f"{name} {option} in the manual page", option in page, "missing")
-                    want(f"{name} {option} in the completion", option in completion, "missing")
-    for status in sorted(value for name, value in vars(stops).items() if name.isupper()):
+        for option in re.findall(r"--[a-z-]+", world.does("nobody", name, "--help").decode()):
+            want(f"{name} {option} in the manual page", option in page, "missing")
+            want(f"{name} {option} in the completion", option in completion, "missing")
+    for status in STATUSES:
         want(f"status {status}", re.search(rf"(?m)^\.TP\n\.B {status}$", page), "missing")
 
 
-ALL = [refusals, drawn, first, sizes, modes, times, withdrawals, states, signed, breaks, restarts, interrupts, at_once, wrong, strangers, progress, documents]
+ALL = [refusals, drawn, first, sizes, modes, machine, times, withdrawals, states, signed, breaks, restarts, interrupts, at_once, wrong, strangers, progress, documents]
 
 
 def main():
-    given = sys.argv[1:3] or [str(TOP / "crates/pcfs/out/pcfs"), str(TOP / "crates/pcfs_prove/out/pcfs_prove")]
+    given = sys.argv[1:3] or [str(TOP / "crates/pcfs/out/pcfs"), str(TOP / "crates/pcfs_client/out/pcfs_client")]
     if len(given) == 1:
         sys.exit(__doc__)
     server = [sys.executable, str(TESTS / "hostile/plain_server.py")] if given[0] == "plain" else [os.path.realpath(given[0])]
-    prover = str(TESTS / "plain_prover.py") if given[1] == "plain" else os.path.realpath(given[1])
-    if not shutil.which(server[0]) or not shutil.which(prover):
-        sys.exit(f"not there: {server[0]} or {prover}")
-    sys.setrecursionlimit(10_000)
+    os.environ["PCFS_CLIENT_PROGRAM"] = os.path.realpath(given[1])
+    if not shutil.which(server[0]) or not shutil.which(given[1]):
+        sys.exit(f"not there: {server[0]} or {given[1]}")
     chosen = sys.argv[3:]
     differs = False
     for test in ALL:
         if chosen and test.__name__ not in chosen:
             continue
         with tempfile.TemporaryDirectory() as folder:
-            world = World((server, prover), folder)
+            world = World(server, folder)
             begun = time.time()
             try:
                 test(world)

@@ -94,7 +94,7 @@ def dead_names():
     """What PROVED and ARCHITECTURE name as code or as a file, and no crate has."""
     code = "\n".join(path.read_text() for folder in ("src", "specs", "proofs") for path in TOP.glob(f"crates/*/{folder}/**/*") if path.is_file())
     known = set(re.findall(r"\w+", code)) | {path.name for path in TOP.glob("crates/*")} | {path.stem for path in TOP.glob("crates/*/*/*")} | {"unsafe", "stdin"}
-    files = [str(path.relative_to(TOP)) for pattern in ("crates/*/*/**/*", "tests/**/*", "docs/*", "bench/*", "client/**/*") for path in TOP.glob(pattern)]
+    files = [str(path.relative_to(TOP)) for pattern in ("crates/*/*/**/*", "tests/**/*", "docs/*", "bench/*", "client/**/*", "examples/*") for path in TOP.glob(pattern)]
     for document in ("docs/PROVED.md", "docs/ARCHITECTURE.md"):
         for name in sorted(set(re.findall(r"`([^`\s]+)`", without_blocks(text_of(document))))):
             if "NAME" in name:

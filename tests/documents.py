@@ -15,11 +15,11 @@ from pathlib import Path
 
 TOP = Path(__file__).resolve().parents[1]
 EXAMPLES = TOP / "examples"
-sys.path.append(str(TOP / "client"))
+sys.path.append(str(TOP / "examples"))
 sys.path.append(str(TOP / "tests/model"))
 
-from pcfs_client import Text, key_of, sign_login, sign_statement
 import document_counts
+from pcfs_formats import Text, key_of, sign_login, sign_statement
 import root_model
 
 SECRETS = EXAMPLES / "pcfs.secrets"
@@ -206,9 +206,7 @@ def readme(run):
     if not shutil.which("openssl"):
         print("not run: the session of README, for want of openssl")
         return
-    prover = TOP / "crates/pcfs_prove/out/pcfs_prove"
     (run.folder / "bin/pcfs-client").symlink_to(TOP / "client/pcfs-client")
-    (run.folder / "bin/pcfs-prove").symlink_to(prover if prover.exists() else TOP / "tests/plain_prover.py")
     serve, user = (block for block in blocks(text_of("README.md"), "sh") if "4040" in block or "login alice" in block)
     with socket.create_server(("127.0.0.1", 0)) as free:
         port = str(free.getsockname()[1])

@@ -252,12 +252,11 @@ else
     differ=$((differ + 1))
 fi
 
-# what users do by the client, with the built prover, or a plain one where that is not built
-prover=$top/crates/pcfs_prove/out/pcfs_prove
-[ -x "$prover" ] || prover=plain
+# what users do by the client
+client=$top/crates/pcfs_client/out/pcfs_client
 if ! port=$(free_port); then
     echo "not run: the client, for want of a loopback address"
-elif python3 "$tests/client.py" "$program" "$prover" refusals drawn first modes withdrawals states signed wrong strangers documents > told 2>&1; then
+elif python3 "$tests/client.py" "$program" "$client" refusals drawn first modes machine withdrawals states signed wrong strangers documents > told 2>&1; then
     echo "agrees client"
     agree=$((agree + 1))
 else

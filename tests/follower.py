@@ -18,7 +18,7 @@ import time
 from collections import Counter
 
 HERE = os.path.dirname(os.path.realpath(__file__))
-sys.path[:0] = [f"{HERE}/hostile", f"{HERE}/model", f"{HERE}/../client"]
+sys.path[:0] = [f"{HERE}/hostile", f"{HERE}/model", f"{HERE}/../examples"]
 from areas import bytes_of, image_in, newest  # noqa: E402
 
 MODEL = f"{HERE}/model/pcfs_model.py"

@@ -28,7 +28,7 @@ from damage import area_of
 from history import Acted, History, Issued, Registered, Withdrawn
 from images import VERSION, image_of, state_of
 from pcfs_audit_model import Recorder, proof_bytes
-from pcfs_client import short
+from pcfs_formats import short
 from pcfs_model import DRAWN_SECRETS, OPERATIONS, PERMISSIONS, drawn, grant_bytes
 
 SPEED_LIMIT = 2.0

@@ -9,4 +9,4 @@ work=$(mktemp -d)
 trap 'rm -rf "$work"' EXIT
 cp "$here/../examples/pcfs.secrets" "$work/"
 cd "$work"
-PYTHONPATH="$here/hostile:$here/model:$here/../client" PYTHONDONTWRITEBYTECODE=1 python3 "$here/stored_kills.py" "$program" "${2:-200}" "${3:-1}"
+PYTHONPATH="$here/hostile:$here/model:$here/../examples" PYTHONDONTWRITEBYTECODE=1 python3 "$here/stored_kills.py" "$program" "${2:-200}" "${3:-1}"

@@ -17,7 +17,7 @@ from collections import Counter
 from pathlib import Path
 
 HERE = Path(__file__).resolve().parent
-sys.path[:0] = [str(HERE / "model"), str(HERE.parent / "client")]
+sys.path[:0] = [str(HERE / "model"), str(HERE.parent / "examples")]
 import pcfs_model as model
 from pcfs_model import INF, Statement, put
 

@@ -16,10 +16,10 @@ import tempfile
 from itertools import combinations
 
 HERE = os.path.dirname(os.path.abspath(__file__))
-sys.path[:0] = [os.path.join(HERE, "model"), os.path.join(HERE, "..", "client")]
+sys.path[:0] = [os.path.join(HERE, "model"), os.path.join(HERE, "..", "examples")]
 import hash_trees  # noqa: E402
 import root_model  # noqa: E402
-from pcfs_client import Text  # noqa: E402
+from pcfs_formats import Text  # noqa: E402
 
 PCFS = os.path.join(HERE, "..", "crates", "pcfs", "out", "pcfs")
 ROWS = os.environ.get("PROGRAM", os.path.join(HERE, "..", "crates", "merkle_rows", "out", "merkle_rows"))

@@ -40,7 +40,7 @@ read -r reply <&3
 exec 3>&-
 [ "$hello $reply" = "hello ok" ] || differs "the login from the shell: $hello, $reply"
 
-PYTHONPATH="$here/../client" PYTHONDONTWRITEBYTECODE=1 python3 "$here/three_users.py" "$port" || differs "the three sessions"
+PYTHONPATH="$here/../examples" PYTHONDONTWRITEBYTECODE=1 python3 "$here/three_users.py" "$port" || differs "the three sessions"
 
 wait "$server" || differs "the server ends with status $?"
 [ "$(cat told)" = "served 4" ] || differs "the server tells $(cat told)"

@@ -6,7 +6,7 @@ import socket
 import sys
 import threading
 
-from pcfs_client import key_of, sign_login, sign_statement
+from pcfs_formats import key_of, sign_login, sign_statement
 
 SECRETS = "pcfs.secrets"
 PROOF = "saysR(claim(0,init(1)))"

@@ -31,7 +31,7 @@ from itertools import islice
 from pathlib import Path
 
 TESTS = Path(__file__).resolve().parent
-sys.path[:0] = [str(TESTS / "model"), str(TESTS / "hostile"), str(TESTS.parent / "client")]
+sys.path[:0] = [str(TESTS / "model"), str(TESTS / "hostile"), str(TESTS.parent / "examples")]
 
 import switches
 
@@ -42,7 +42,7 @@ from damage import Damages, area_of, try_damage
 from history import Reader
 from images import VERSION, counted, node_bytes, withdrawn_in_order
 from pcfs_audit_model import Recorder
-from pcfs_client import sign_login, sign_statement
+from pcfs_formats import sign_login, sign_statement
 from pcfs_model import DrawnWithdrawals, Reply, grant_bytes, tag_of
 from serving import AREAS, Running, Store
 from talking import GREETING, connected

@@ -5,7 +5,7 @@ import sys
 from pathlib import Path
 
 TESTS = Path(__file__).resolve().parents[2] / "tests"
-sys.path[:0] = [str(TESTS / "model"), str(TESTS / "hostile"), str(TESTS.parent / "client"), str(TESTS)]
+sys.path[:0] = [str(TESTS / "model"), str(TESTS / "hostile"), str(TESTS.parent / "examples"), str(TESTS)]
 
 import switches
 from versions import SECRETS, Kept

@@ -6,7 +6,7 @@ import struct
 import subprocess
 import sys
 import time
-from pcfs_client import sign_login
+from pcfs_formats import sign_login
 
 program, disk, memory = sys.argv[1:]
 USERS, SECONDS, SHORT, MOST, ROUNDS = 64, 2.0, 1.2, 120_000, 3

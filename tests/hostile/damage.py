@@ -7,7 +7,7 @@ from areas import FRESH_TODAY, HEADER, begin_of, fresh, newest, opening, records
 from history import History
 from images import image_of, state_of, withdrawn_in_order
 from pcfs_audit_model import withdrawal_bytes
-from pcfs_client import tag_of
+from pcfs_formats import tag_of
 from pcfs_model import Node
 from serving import free_port
 

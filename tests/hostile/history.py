@@ -5,7 +5,7 @@ from collections import namedtuple
 import pcfs_model
 import switches
 from pcfs_audit_model import CODES, procap_at, proof_bytes, read_proof, read_word
-from pcfs_client import STATE, short, tag_of
+from pcfs_formats import STATE, short, tag_of
 from pcfs_model import CTIME, FIRST, LAST, MOST_BYTES, MOST_PARTS, MOST_RULES, OPERATIONS, SORTS
 from pcfs_model import Bad, Bytes, Reply, Server, Statement, Undecided
 from pcfs_model import condition_text, grant_bytes, grant_of, is_stated, need, nodes_of, read_named, read_procap, read_version, term_bytes

@@ -5,7 +5,7 @@ import re
 import switches
 from history import MOST_STATEMENTS, History
 from pcfs_audit_model import cited_bytes
-from pcfs_client import short
+from pcfs_formats import short
 from pcfs_model import FIRST, LAST, MOST_ATTRIBUTES, MOST_FILE, MOST_NODES, MOST_TOGETHER
 from pcfs_model import Bad, Bytes, Node, Undecided, grant_bytes, is_text, need
 

@@ -4,7 +4,7 @@ from collections import namedtuple
 
 import switches
 from pcfs_audit_model import proof_bytes
-from pcfs_client import short, tag_of
+from pcfs_formats import short, tag_of
 from pcfs_model import GOAL, OPERATIONS, Bad, ProofText, Reply, Undecided
 from pcfs_model import fault, first_word, hexadecimal, issue, need, principal, statement_number, statement_of, written
 from texts import fault_of

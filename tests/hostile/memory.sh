@@ -9,7 +9,7 @@ program=$(realpath "${PROGRAM:-$here/../../crates/pcfs/out/pcfs}")
 [ -x "$program" ] || { echo "no program $program"; exit 2; }
 work=$(mktemp -d -p "${FOLDER:-/tmp}")
 "${CC:-cc}" -O2 -fPIC -shared -fno-builtin -o "$work/refuse.so" "$here/refuse.c"
-if PYTHONPATH="$here:$here/../model:$here/../../client" PYTHONDONTWRITEBYTECODE=1 python3 "$here/memory.py" "$program" "$work" "$@"; then
+if PYTHONPATH="$here:$here/../model:$here/../../examples" PYTHONDONTWRITEBYTECODE=1 python3 "$here/memory.py" "$program" "$work" "$@"; then
     rm -rf "$work"
 else
     echo "kept: $work"

@@ -19,7 +19,7 @@ from history import MOST_STATEMENTS, Acted, History, Issued, Registered, Withdra
 from history import acted_bytes, is_same, issued_bytes, issued_form, registered_bytes, withdrawn_bytes
 from images import count_in, image_of
 from lines import LONGEST, Lines, is_accepted, is_in_table
-from pcfs_client import tag_of
+from pcfs_formats import tag_of
 from pcfs_model import OPERATIONS, Bad, Reply, Server, Undecided, grant_bytes, need
 from several import Readers
 from talking import LONG, is_shortened, shortened

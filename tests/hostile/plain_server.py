@@ -17,7 +17,7 @@ from history import Acted, History, Issued, Registered, Withdrawn, issued_form
 from images import image_of
 from lines import LONGEST, Lines, is_accepted
 from pcfs_audit_model import CODES, cited_bytes, signature_bytes, withdrawal_bytes, word_bytes
-from pcfs_client import short, tag_of
+from pcfs_formats import short, tag_of
 from pcfs_model import OPERATIONS, Reply, Undecided, grant_bytes
 from talking import LONG
 

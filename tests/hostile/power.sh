@@ -13,7 +13,7 @@ place=${FOLDER:-/dev/shm}
 work=$(mktemp -d -p "$place")
 "${CC:-cc}" -O2 -fPIC -shared -fno-builtin -o "$work/power.so" "$here/power.c"
 try() {
-    PYTHONPATH="$here:$here/../../client:$here/../model" PYTHONDONTWRITEBYTECODE=1 python3 "$here/power.py" "$program" "$work" "$@"
+    PYTHONPATH="$here:$here/../../examples:$here/../model" PYTHONDONTWRITEBYTECODE=1 python3 "$here/power.py" "$program" "$work" "$@"
 }
 if [ "${3:-}" = wrong ]; then
     missed=0

@@ -9,7 +9,7 @@ here=$(cd "$(dirname "$0")" && pwd)
 program=$(realpath "${PROGRAM:-$here/../../crates/pcfs/out/pcfs}")
 [ -x "$program" ] || { echo "no program $program"; exit 2; }
 work=$(mktemp -d -p "${FOLDER:-/tmp}")
-if PYTHONPATH="$here:$here/../model:$here/../../client" PYTHONDONTWRITEBYTECODE=1 python3 "$here/hostile.py" "$program" "$work" "${1:-120}" "${2:-1}" "${@:3}"; then
+if PYTHONPATH="$here:$here/../model:$here/../../examples" PYTHONDONTWRITEBYTECODE=1 python3 "$here/hostile.py" "$program" "$work" "${1:-120}" "${2:-1}" "${@:3}"; then
     rm -rf "$work"
 else
     echo "kept: $work"

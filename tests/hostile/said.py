@@ -4,7 +4,7 @@ import re
 import time
 
 import switches
-from pcfs_client import PERMISSIONS, grant_bytes, sign_login, sign_statement, sign_withdrawal
+from pcfs_formats import PERMISSIONS, grant_bytes, sign_login, sign_statement, sign_withdrawal
 
 SEAL = "6f6e65206b657920666f7220746865207365616c"
 SHARED = "office"

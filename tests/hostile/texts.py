@@ -2,7 +2,7 @@
 import calendar
 import re
 
-from pcfs_client import PERMISSIONS, STATE
+from pcfs_formats import PERMISSIONS, STATE
 from pcfs_model import FIELDS, FIRST, LAST, MOST_DEPTH, MOST_NAME, MOST_OPEN, MOST_PARTS, MOST_RULES, RESERVED, SORTS
 
 UNEXPECTED, UNKNOWN_NAME, BAD_DATE, SORT, TOO_LARGE = range(1, 6)

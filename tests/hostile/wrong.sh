@@ -19,7 +19,7 @@ try() {
     local kind=$1 long=$2
     shift 2
     case $kind in withdrawn-*) set -- "$@" --withdrawals ;; esac
-    PYTHONPATH="$here:$here/../model:$here/../../client" PYTHONPYCACHEPREFIX="$work/cache" WRONG="${kind%-right}" \
+    PYTHONPATH="$here:$here/../model:$here/../../examples" PYTHONPYCACHEPREFIX="$work/cache" WRONG="${kind%-right}" \
         python3 "$here/hostile.py" "$here/plain_server.py" "$work/work" "$long" 1 "$@" 2> "$work/errors"
 }
 find_fault() {

@@ -22,7 +22,7 @@ import pcfs_model
 import switches
 from pcfs_model import Bad, Bytes, FIELDS, LAST, LOAD_SECRETS, OPERATIONS, Proof, Reply, Server, Undecided
 from pcfs_model import data, grant_bytes, grant_of, is_stated, is_text, most, name, need, node, nodes_of, offset, principal, read_line, read_procap, term_bytes, value
-from pcfs_client import short, tag_of
+from pcfs_formats import short, tag_of
 
 RULES = {rule: 0x01 + place for place, rule in enumerate("init consR interR andR orR1 orR2 trueR impR forallR existsR saysR atR".split())}
 RULES.update({rule: 0x11 + place for place, rule in enumerate("consL interL andL orL falseL impL forallL existsL saysL claim atL".split())})

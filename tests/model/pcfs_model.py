@@ -1,6 +1,6 @@
 #!/usr/bin/env python3
 """Answers a script by a slow and plain model of PCFS, which shares nothing with the server but docs/PROTOCOL.md, docs/GENERATED.md
-and docs/LOGIC.md, and with client/ the texts and bytes of statements.
+and docs/LOGIC.md, and with examples/pcfs_formats.py the texts and bytes of statements.
 
     pcfs_model.py script SECRETS < SCRIPT       prints the reply to each line
     pcfs_model.py rows FILE..                   compares the replies that files of rows want (crates/pcfs_rows) with its own
@@ -24,10 +24,10 @@ import hash_trees
 import modes_model
 import root_model
 
-sys.path.append(str(Path(__file__).resolve().parents[2] / "client"))
+sys.path.append(str(Path(__file__).resolve().parents[2] / "examples"))
 
 import switches
-from pcfs_client import PERMISSIONS, STATE, Text, short, tag_of
+from pcfs_formats import PERMISSIONS, STATE, Text, short, tag_of
 
 INF = float("inf")
 FIRST, LAST = -62135596800, 253402300799

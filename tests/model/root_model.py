@@ -1,7 +1,7 @@
 """A plain model of `rootsign`: the root of a seed's tree, and the lines that register statements by its leaves.
 
 Written from the description of the command alone. It shares no code with the server; the bytes of statements are those of
-client/pcfs_client. Of a text that is no statement it knows that, and not its fault: the line ends with `?`.
+examples/pcfs_formats.py. Of a text that is no statement it knows that, and not its fault: the line ends with `?`.
 
     root_model.py lines H FROM < INPUT     the lines that the command prints; the status is the exit status
     root_model.py random SEED              an input, often with a line that is wrong
@@ -14,9 +14,9 @@ from pathlib import Path
 
 from hash_trees import node, sign
 
-sys.path.append(str(Path(__file__).resolve().parents[2] / "client"))
+sys.path.append(str(Path(__file__).resolve().parents[2] / "examples"))
 
-from pcfs_client import Text
+from pcfs_formats import Text
 
 LONGEST = 262_144
 

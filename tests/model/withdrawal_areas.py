@@ -11,7 +11,7 @@ import tempfile
 from pathlib import Path
 
 TESTS = Path(__file__).resolve().parents[1]
-sys.path += [str(TESTS / "model"), str(TESTS / "hostile"), str(TESTS.parent / "client")]
+sys.path += [str(TESTS / "model"), str(TESTS / "hostile"), str(TESTS.parent / "examples")]
 
 import switches
 
@@ -21,7 +21,7 @@ from areas import FRESH_TODAY, fresh, image_in, opened, opening, records
 from damage import area_of, made
 from images import image_of
 from pcfs_audit_model import Auditor, Recorder, first_line, read_event, withdrawal_bytes
-from pcfs_client import key_of, sign_statement, sign_withdrawal, tag_of
+from pcfs_formats import key_of, sign_statement, sign_withdrawal, tag_of
 from pcfs_model import ProofText, Reply, Server, grant_bytes, grant_of
 from placing import Placing
 from said import login, registration, secrets_of, withdrawal

@@ -1,5 +1,0 @@
-import sys
-
-from .words import main
-
-sys.exit(main())
