@@ -1,6 +1,8 @@
 -- How serving ends. This project's own.
-use Rattle.std.specs.Prelude.{◌≡◌, ℕ, ◌+◌, ◌<◌, ◌⊎◌, Option, IfSome}
+use Rattle.std.specs.Prelude.{◌≡◌, ℕ, ◌+◌, ◌<◌, ◌⊎◌, Bool, true, List, Option, IfSome}
+use Rattle.pcfs_ports.specs.Faults.{raise}
 use Rattle.pcfs_ports.specs.Accepted.{FallsBy}
+use Rattle.pcfs_ports.specs.Telling.{AreAllGiven}
 use Rattle.pcfs_server.specs.declared.end.ServeEnd.{ServeEnd}
 use Rattle.pcfs_server.specs.declared.end.ServeEnd.TheVariants.{Done, NetFault, NoMemory}
 
@@ -25,7 +27,24 @@ HasCause (Done n) count over waiting =
 HasCause (NetFault n) count over waiting = n < count
 HasCause (NoMemory n) count over waiting = n < count
 
+-- At `Done` with fewer than `count` none is left of the connections that a listener tells.
+abbrev pub HasGivenAll : {A : Type 0} → ServeEnd → ℕ → Option (List A) → Type 0
+HasGivenAll (Done n) count told = n < count → AreAllGiven told
+HasGivenAll (NetFault n) count told = Unit {0}
+HasGivenAll (NoMemory n) count told = Unit {0}
+
 abbrev pub IsNetFault : ServeEnd → Type 0
 IsNetFault (Done n) = ⊥
 IsNetFault (NetFault n) = Unit {0}
 IsNetFault (NoMemory n) = ⊥
+
+-- At an end other than `NetFault` no call of a port failed: its count of faults stands still.
+abbrev pub StandsStill : ServeEnd → ℕ → ℕ → Type 0
+StandsStill (Done n) before after = after ≡ before
+StandsStill (NetFault n) before after = Unit {0}
+StandsStill (NoMemory n) before after = after ≡ before
+
+-- One call of a port failed, and it was the last: its count of faults was raised by one, and it says
+-- that its last call failed.
+abbrev pub FailedLast : ℕ → ℕ → Bool → Type 0
+FailedLast before after broken = (after ≡ raise before) × (broken ≡ true)

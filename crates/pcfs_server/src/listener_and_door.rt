@@ -1,10 +1,10 @@
 //! A listener and a door as one, so that one reference to both comes back out of a scope of threads.
 
-ghost use Rattle.std.specs.Prelude.{◌≡◌, ◌+◌, ◌<◌, ◌≤◌, true, false, IfSome, IfOk, IsErrOf, is_ok, if◌then◌else◌};
+ghost use Rattle.std.specs.Prelude.{◌≡◌, ◌≢◌, ◌+◌, ◌<◌, ◌≤◌, true, false, IfSome, IfOk, IsErrOf, is_ok, if◌then◌else◌};
 ghost use Rattle.std.specs.Borrow.{GName};
-ghost use Rattle.pcfs_ports.specs.Faults.{HasRisen};
+ghost use Rattle.pcfs_ports.specs.Faults.{HasRisen, raise};
 ghost use Rattle.pcfs_ports.specs.Accepted.{count_of, FallsBy};
-ghost use Rattle.pcfs_ports.specs.Telling.{IfGiven, IsAt, AreTakenOff};
+ghost use Rattle.pcfs_ports.specs.Telling.{IfGiven, IsAt, AreTakenOff, AreAllGiven};
 
 use super::end::ServeEnd;
 use super::service::{AdmitFault, Service};
@@ -36,7 +36,11 @@ pub(crate) trait Front<L: Listener, H: Service<L::In, L::Out>> {
             IfSome (L.waiting (listener self.new)) (λ left. left ≡ 0) }
         ensures risen { result ≡ Accepted.Failed →
             HasRisen (L.faults (listener self.old)) (L.faults (listener self.new)) }
-        ensures never_falls { L.faults (listener self.old) ≤ L.faults (listener self.new) };
+        ensures never_falls { L.faults (listener self.old) ≤ L.faults (listener self.new) }
+        ensures steady { result ≢ Accepted.Failed → L.faults (listener self.new) ≡ L.faults (listener self.old) }
+        ensures by_one { result ≡ Accepted.Failed → L.faults (listener self.new) ≡ raise (L.faults (listener self.old)) }
+        ensures broken { result ≡ Accepted.Failed → L.broken (listener self.new) ≡ true }
+        ensures all_given { result ≡ Accepted.Closed → AreAllGiven (L.queue (listener self.new)) };
 
     fn admit(&mut self, service: &H, alloc: Global) -> Result<H::Token, AdmitFault>
         requires belongs { H.is_door service.now (door self.old) }
@@ -53,7 +57,10 @@ pub(crate) trait Front<L: Listener, H: Service<L::In, L::Out>> {
         ensures risen { IsErrOf result AdmitFault.Failed →
             HasRisen (H.faults (door self.old)) (H.faults (door self.new)) }
         ensures never_falls { H.faults (door self.old) ≤ H.faults (door self.new) }
-        ensures kept { H.kept (door self.new) ≡ H.kept (door self.old) };
+        ensures kept { H.kept (door self.new) ≡ H.kept (door self.old) }
+        ensures steady { result ≢ Err AdmitFault.Failed → H.faults (door self.new) ≡ H.faults (door self.old) }
+        ensures by_one { IsErrOf result AdmitFault.Failed → H.faults (door self.new) ≡ raise (H.faults (door self.old)) }
+        ensures broken { IsErrOf result AdmitFault.Failed → H.broken (door self.new) ≡ true };
 
     fn leave(&mut self, service: &H, token: H::Token)
         requires door { H.is_door service.now (door self.old) }
@@ -68,7 +75,9 @@ pub(crate) trait Front<L: Listener, H: Service<L::In, L::Out>> {
         ensures served { H.served (door self.new) ≡ H.served (door self.old) + 1 }
         ensures room { H.room (door self.old) ≤ H.room (door self.new) }
         ensures never_falls { H.faults (door self.old) ≤ H.faults (door self.new) }
-        ensures kept { H.kept (door self.new) ≡ H.kept (door self.old) };
+        ensures kept { H.kept (door self.new) ≡ H.kept (door self.old) }
+        ensures steady { H.faults (door self.new) ≡ H.faults (door self.old) }
+        ensures broken { H.broken (door self.new) ≡ H.broken (door self.old) };
 
     fn note(&mut self, end: ServeEnd)
         ensures refs { refs self.new ≡ refs self.old }

@@ -1,7 +1,7 @@
 //! Services: what is done with a connection.
 
-ghost use Rattle.std.specs.Prelude.{◌≡◌, ℕ, ◌+◌, ◌<◌, ◌≤◌, Bool, true, false, IfOk, IsErrOf, is_ok, if◌then◌else◌};
-ghost use Rattle.pcfs_ports.specs.Faults.{HasRisen};
+ghost use Rattle.std.specs.Prelude.{◌≡◌, ℕ, ◌+◌, ◌<◌, ◌≤◌, ◌≢◌, Bool, true, false, IfOk, IsErrOf, is_ok, if◌then◌else◌};
+ghost use Rattle.pcfs_ports.specs.Faults.{HasRisen, raise};
 
 use pcfs_ports::{Sink, Source};
 use std::alloc::Global;
@@ -60,10 +60,14 @@ pub trait Service<I: Source, O: Sink> {
     // How many faults the door has had. It counts as risen if it stands at `u64::MAX`.
     ghost faults: { Self.Door → ℕ };
 
+    // Whether the last call failed that the door made of what it has its faults of.
+    ghost broken: { Self.Door → Bool };
+
     // What no call changes of the door.
     ghost kept: { Self.Door → Self.Kept };
 
-    /// Admits a connection. `Failed` comes only if the door's count of faults rose.
+    /// Admits a connection. `Failed` comes only if the door's count of faults rose, by one, by the last call that can fail; at
+    /// each other answer it stands still.
     fn admit(&self, alloc: Global, door: &mut Self::Door) -> Result<Self::Token, AdmitFault>
         requires belongs { is_door self.now door.old }
         requires room { 0 < room door.old }
@@ -77,7 +81,10 @@ pub trait Service<I: Source, O: Sink> {
         ensures risen { IsErrOf result AdmitFault.Failed →
             HasRisen (faults door.old) (faults door.new) }
         ensures never_falls { faults door.old ≤ faults door.new }
-        ensures kept { kept door.new ≡ kept door.old };
+        ensures kept { kept door.new ≡ kept door.old }
+        ensures steady { result ≢ Err AdmitFault.Failed → faults door.new ≡ faults door.old }
+        ensures by_one { IsErrOf result AdmitFault.Failed → faults door.new ≡ raise (faults door.old) }
+        ensures broken { IsErrOf result AdmitFault.Failed → broken door.new ≡ true };
 
     /// Attends the connection of the token's number, whatever its input and output do. It may wait.
     fn attend<R: Wait>(
@@ -94,7 +101,7 @@ pub trait Service<I: Source, O: Sink> {
         ensures belongs { is_token self.now token.new }
         ensures attended { attended token.new ≡ true };
 
-    /// Lets a token leave by the door that admitted it.
+    /// Lets a token leave by the door that admitted it. Nothing fails by that.
     fn leave(&self, door: &mut Self::Door, token: Self::Token)
         requires door { is_door self.now door.old }
         requires token { is_token self.now token }
@@ -105,5 +112,7 @@ pub trait Service<I: Source, O: Sink> {
         ensures served { served door.new ≡ (if attended token then served door.old + 1 else served door.old) }
         ensures room { room door.old ≤ room door.new }
         ensures never_falls { faults door.old ≤ faults door.new }
-        ensures kept { kept door.new ≡ kept door.old };
+        ensures kept { kept door.new ≡ kept door.old }
+        ensures steady { faults door.new ≡ faults door.old }
+        ensures broken { broken door.new ≡ broken door.old };
 }

@@ -5,7 +5,7 @@ ghost use Rattle.slab.specs.Slab.{slab_len};
 ghost use Rattle.pcfs_ports.specs.Faults.{HasRisen};
 ghost use Rattle.pcfs_server.specs.Table.{AllHave};
 ghost use Rattle.pcfs_ports.specs.Telling.{IsAt};
-ghost use Rattle.pcfs_server.specs.Ends.{number_of, HasTaken, HasCause, IsNetFault};
+ghost use Rattle.pcfs_server.specs.Ends.{number_of, HasTaken, HasCause, HasGivenAll, IsNetFault, StandsStill, FailedLast};
 
 use super::end::ServeEnd;
 use super::ended::EndedThreads;
@@ -58,6 +58,7 @@ where
     ensures served { H.served (F.door front.new) + slab_len table.new ≡ H.served (F.door front.old) + slab_len table.old + number_of result }
     ensures taken { HasTaken result (L.waiting (F.listener front.old)) (L.waiting (F.listener front.new)) }
     ensures cause { HasCause result count (L.over (F.listener front.new)) (L.waiting (F.listener front.new)) }
+    ensures all_given { HasGivenAll result count (L.queue (F.listener front.new)) }
     ensures risen { IsNetFault result →
         HasRisen (L.faults (F.listener front.old)) (L.faults (F.listener front.new))
         ⊎ HasRisen (H.faults (F.door front.old)) (H.faults (F.door front.new)) }
@@ -66,6 +67,11 @@ where
     ensures listener_faults { L.faults (F.listener front.old) ≤ L.faults (F.listener front.new) }
     ensures door_faults { H.faults (F.door front.old) ≤ H.faults (F.door front.new) }
     ensures kept { H.kept (F.door front.new) ≡ H.kept (F.door front.old) }
+    ensures listener_steady { StandsStill result (L.faults (F.listener front.old)) (L.faults (F.listener front.new)) }
+    ensures door_steady { StandsStill result (H.faults (F.door front.old)) (H.faults (F.door front.new)) }
+    ensures one_failed { IsNetFault result →
+        (FailedLast (L.faults (F.listener front.old)) (L.faults (F.listener front.new)) (L.broken (F.listener front.new)) × (H.faults (F.door front.new) ≡ H.faults (F.door front.old))) ⊎
+        (FailedLast (H.faults (F.door front.old)) (H.faults (F.door front.new)) (H.broken (F.door front.new)) × (L.faults (F.listener front.new) ≡ L.faults (F.listener front.old))) }
 {
     for attended in 0..count {
         make_room(rt, service, ended, table, front, most);
@@ -121,6 +127,7 @@ where
     ensures served { H.served (F.door front.new) ≡ H.served (F.door front.old) + number_of (F.noted front.new) }
     ensures taken { HasTaken (F.noted front.new) (L.waiting (F.listener front.old)) (L.waiting (F.listener front.new)) }
     ensures cause { HasCause (F.noted front.new) count (L.over (F.listener front.new)) (L.waiting (F.listener front.new)) }
+    ensures all_given { HasGivenAll (F.noted front.new) count (L.queue (F.listener front.new)) }
     ensures risen { IsNetFault (F.noted front.new) →
         HasRisen (L.faults (F.listener front.old)) (L.faults (F.listener front.new))
         ⊎ HasRisen (H.faults (F.door front.old)) (H.faults (F.door front.new)) }
@@ -129,6 +136,11 @@ where
     ensures listener_faults { L.faults (F.listener front.old) ≤ L.faults (F.listener front.new) }
     ensures door_faults { H.faults (F.door front.old) ≤ H.faults (F.door front.new) }
     ensures kept { H.kept (F.door front.new) ≡ H.kept (F.door front.old) }
+    ensures listener_steady { StandsStill (F.noted front.new) (L.faults (F.listener front.old)) (L.faults (F.listener front.new)) }
+    ensures door_steady { StandsStill (F.noted front.new) (H.faults (F.door front.old)) (H.faults (F.door front.new)) }
+    ensures one_failed { IsNetFault (F.noted front.new) →
+        (FailedLast (L.faults (F.listener front.old)) (L.faults (F.listener front.new)) (L.broken (F.listener front.new)) × (H.faults (F.door front.new) ≡ H.faults (F.door front.old))) ⊎
+        (FailedLast (H.faults (F.door front.old)) (H.faults (F.door front.new)) (H.broken (F.door front.new)) × (L.faults (F.listener front.new) ≡ L.faults (F.listener front.old))) }
 {
     let mut table = Slab::new(alloc);
     let end = accept_all(
@@ -170,6 +182,7 @@ where
     ensures served { H.served (F.door front.new) ≡ H.served (F.door front.old) + number_of (F.noted front.new) }
     ensures taken { HasTaken (F.noted front.new) (L.waiting (F.listener front.old)) (L.waiting (F.listener front.new)) }
     ensures cause { HasCause (F.noted front.new) count (L.over (F.listener front.new)) (L.waiting (F.listener front.new)) }
+    ensures all_given { HasGivenAll (F.noted front.new) count (L.queue (F.listener front.new)) }
     ensures risen { IsNetFault (F.noted front.new) →
         HasRisen (L.faults (F.listener front.old)) (L.faults (F.listener front.new))
         ⊎ HasRisen (H.faults (F.door front.old)) (H.faults (F.door front.new)) }
@@ -178,6 +191,11 @@ where
     ensures listener_faults { L.faults (F.listener front.old) ≤ L.faults (F.listener front.new) }
     ensures door_faults { H.faults (F.door front.old) ≤ H.faults (F.door front.new) }
     ensures kept { H.kept (F.door front.new) ≡ H.kept (F.door front.old) }
+    ensures listener_steady { StandsStill (F.noted front.new) (L.faults (F.listener front.old)) (L.faults (F.listener front.new)) }
+    ensures door_steady { StandsStill (F.noted front.new) (H.faults (F.door front.old)) (H.faults (F.door front.new)) }
+    ensures one_failed { IsNetFault (F.noted front.new) →
+        (FailedLast (L.faults (F.listener front.old)) (L.faults (F.listener front.new)) (L.broken (F.listener front.new)) × (H.faults (F.door front.new) ≡ H.faults (F.door front.old))) ⊎
+        (FailedLast (H.faults (F.door front.old)) (H.faults (F.door front.new)) (H.broken (F.door front.new)) × (L.faults (F.listener front.new) ≡ L.faults (F.listener front.old))) }
 {
     thread::scope(
         thread::scope_env(),
@@ -196,6 +214,7 @@ where
             ensures served { H.served (F.door result.now) ≡ H.served (F.door front.entry.now) + number_of (F.noted result.now) }
             ensures taken { HasTaken (F.noted result.now) (L.waiting (F.listener front.entry.now)) (L.waiting (F.listener result.now)) }
             ensures cause { HasCause (F.noted result.now) count (L.over (F.listener result.now)) (L.waiting (F.listener result.now)) }
+            ensures all_given { HasGivenAll (F.noted result.now) count (L.queue (F.listener result.now)) }
             ensures risen { IsNetFault (F.noted result.now) →
                 HasRisen (L.faults (F.listener front.entry.now)) (L.faults (F.listener result.now))
                 ⊎ HasRisen (H.faults (F.door front.entry.now)) (H.faults (F.door result.now)) }
@@ -204,6 +223,11 @@ where
             ensures listener_faults { L.faults (F.listener front.entry.now) ≤ L.faults (F.listener result.now) }
             ensures door_faults { H.faults (F.door front.entry.now) ≤ H.faults (F.door result.now) }
             ensures kept { H.kept (F.door result.now) ≡ H.kept (F.door front.entry.now) }
+            ensures listener_steady { StandsStill (F.noted result.now) (L.faults (F.listener front.entry.now)) (L.faults (F.listener result.now)) }
+            ensures door_steady { StandsStill (F.noted result.now) (H.faults (F.door front.entry.now)) (H.faults (F.door result.now)) }
+            ensures one_failed { IsNetFault (F.noted result.now) →
+                (FailedLast (L.faults (F.listener front.entry.now)) (L.faults (F.listener result.now)) (L.broken (F.listener result.now)) × (H.faults (F.door result.now) ≡ H.faults (F.door front.entry.now))) ⊎
+                (FailedLast (H.faults (F.door front.entry.now)) (H.faults (F.door result.now)) (H.broken (F.door result.now)) × (L.faults (F.listener result.now) ≡ L.faults (F.listener front.entry.now))) }
         {
             serve(rt, scope, alloc, service, ended, front, count, most);
             front
@@ -222,8 +246,9 @@ where
 /// was accepted: with the first that the listener gave, the second, and so on. What the service expects of the connection of
 /// a number has to hold of each that the listener tells; of one that it does not tell it has to hold whatever that is.
 ///
-/// `Done` comes only if `count` were attended or the listener is over; at every other end fewer were. `NetFault` comes only if the listener's count of
-/// faults or the door's rose. `NoMemory` may come at any time before that. Memory that is refused for a thread is no end:
+/// `Done` comes only if `count` were attended or the listener is over and gave all that it tells; at every other end fewer were. `NetFault` comes only if the listener's count of
+/// faults or the door's rose: exactly one call failed, of one of the two, and nothing more was asked of that one. At each
+/// other end no call of either failed. `NoMemory` may come at any time before that. Memory that is refused for a thread is no end:
 /// the caller then attends the connection itself. A connection that was accepted and not admitted is dropped. With a
 /// `count` of 0 it does not listen.
 pub fn serve_conns<R: Threads + Wait + Sync, L: Listener, H: Service<L::In, L::Out> + Sync>(
@@ -248,6 +273,7 @@ pub fn serve_conns<R: Threads + Wait + Sync, L: Listener, H: Service<L::In, L::O
     ensures served { H.served door.new ≡ H.served door.old + number_of result }
     ensures taken { HasTaken result (L.waiting listener.old) (L.waiting listener.new) }
     ensures cause { HasCause result count (L.over listener.new) (L.waiting listener.new) }
+    ensures all_given { HasGivenAll result count (L.queue listener.new) }
     ensures risen { IsNetFault result →
         HasRisen (L.faults listener.old) (L.faults listener.new) ⊎
         HasRisen (H.faults door.old) (H.faults door.new) }
@@ -255,6 +281,11 @@ pub fn serve_conns<R: Threads + Wait + Sync, L: Listener, H: Service<L::In, L::O
     ensures listener_faults { L.faults listener.old ≤ L.faults listener.new }
     ensures door_faults { H.faults door.old ≤ H.faults door.new }
     ensures kept { H.kept door.new ≡ H.kept door.old }
+    ensures listener_steady { StandsStill result (L.faults listener.old) (L.faults listener.new) }
+    ensures door_steady { StandsStill result (H.faults door.old) (H.faults door.new) }
+    ensures one_failed { IsNetFault result →
+        (FailedLast (L.faults listener.old) (L.faults listener.new) (L.broken listener.new) × (H.faults door.new ≡ H.faults door.old)) ⊎
+        (FailedLast (H.faults door.old) (H.faults door.new) (H.broken door.new) × (L.faults listener.new ≡ L.faults listener.old)) }
 {
     if count > 0 && listener.listen(port).is_err() {
         return ServeEnd::NetFault(0);

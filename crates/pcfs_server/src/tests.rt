@@ -19,6 +19,7 @@ struct EchoGate {
     out: u64,
     served: u64,
     faults: u64,
+    broken: bool,
     failing: Option<u64>,
     ghost within: { out + served ≤ made },
 }
@@ -53,6 +54,7 @@ fn open_gate(failing: Option<u64>) -> EchoGate
         out: 0,
         served: 0,
         faults: 0,
+        broken: false,
         failing,
     }
 }
@@ -96,11 +98,14 @@ impl<I: Source, O: Sink> Service<I, O> for Counting {
 
     ghost faults = { λ gate. gate.faults };
 
+    ghost broken = { λ gate. gate.broken };
+
     ghost kept = { λ _. tt };
 
     fn admit(&self, _alloc: Global, door: &mut EchoGate) -> Result<EchoPass, AdmitFault> {
         if door.failing == Some(door.made) {
             door.faults = door.faults.saturating_add(1);
+            door.broken = true;
             return Err(AdmitFault::Failed);
         }
         *door = EchoGate {
@@ -108,6 +113,7 @@ impl<I: Source, O: Sink> Service<I, O> for Counting {
             out: door.out + 1,
             served: door.served,
             faults: door.faults,
+            broken: false,
             failing: door.failing,
         };
         Ok(EchoPass {
@@ -146,6 +152,7 @@ impl<I: Source, O: Sink> Service<I, O> for Counting {
             out: door.out - 1,
             served,
             faults: door.faults,
+            broken: door.broken,
             failing: door.failing,
         };
     }

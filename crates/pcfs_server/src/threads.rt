@@ -82,6 +82,8 @@ fn join_one<R: Threads, L: Listener, H: Service<L::In, L::Out>, F: Front<L, H>>(
     ensures room { H.room (F.door front.old) ≤ H.room (F.door front.new) }
     ensures never_falls { H.faults (F.door front.old) ≤ H.faults (F.door front.new) }
     ensures kept { H.kept (F.door front.new) ≡ H.kept (F.door front.old) }
+    ensures steady { H.faults (F.door front.new) ≡ H.faults (F.door front.old) }
+    ensures broken { H.broken (F.door front.new) ≡ H.broken (F.door front.old) }
 {
     if let Some(handle) = table.try_remove(key) {
         let token = handle.join(rt);
@@ -113,6 +115,8 @@ pub(crate) fn make_room<R: Threads + Wait, L: Listener, H: Service<L::In, L::Out
     ensures room { H.room (F.door front.old) ≤ H.room (F.door front.new) }
     ensures never_falls { H.faults (F.door front.old) ≤ H.faults (F.door front.new) }
     ensures kept { H.kept (F.door front.new) ≡ H.kept (F.door front.old) }
+    ensures steady { H.faults (F.door front.new) ≡ H.faults (F.door front.old) }
+    ensures broken { H.broken (F.door front.new) ≡ H.broken (F.door front.old) }
 {
     for _ in rt.forever() {
         let is_full = most <= table.len();
@@ -167,6 +171,8 @@ where
     ensures room { H.room (F.door front.old) ≤ H.room (F.door front.new) }
     ensures never_falls { H.faults (F.door front.old) ≤ H.faults (F.door front.new) }
     ensures kept { H.kept (F.door front.new) ≡ H.kept (F.door front.old) }
+    ensures steady { H.faults (F.door front.new) ≡ H.faults (F.door front.old) }
+    ensures broken { H.broken (F.door front.new) ≡ H.broken (F.door front.old) }
 {
     let key = table.vacant_key();
     // for the keys of all threads with the new one, and for that of the loop, which may have to attend a later connection itself

@@ -20,4 +20,6 @@ invariant-loop-attended g l = record {
   listener_faults : g.L.Listener.faults (g.F.Front.listener l.initial.front) ≤ g.L.Listener.faults (g.F.Front.listener l.front);
   door_faults : g.H.Service.faults (g.F.Front.door l.initial.front) ≤ g.H.Service.faults (g.F.Front.door l.front);
   kept : g.H.Service.kept (g.F.Front.door l.front) ≡ g.H.Service.kept (g.F.Front.door l.initial.front);
+  listener_steady : g.L.Listener.faults (g.F.Front.listener l.front) ≡ g.L.Listener.faults (g.F.Front.listener l.initial.front);
+  door_steady : g.H.Service.faults (g.F.Front.door l.front) ≡ g.H.Service.faults (g.F.Front.door l.initial.front);
 }

@@ -17,4 +17,6 @@ invariant-loop g l = record {
   room : g.H.Service.room (g.F.Front.door l.initial.front) ≤ g.H.Service.room (g.F.Front.door l.front);
   never_falls : g.H.Service.faults (g.F.Front.door l.initial.front) ≤ g.H.Service.faults (g.F.Front.door l.front);
   kept : g.H.Service.kept (g.F.Front.door l.front) ≡ g.H.Service.kept (g.F.Front.door l.initial.front);
+  steady : g.H.Service.faults (g.F.Front.door l.front) ≡ g.H.Service.faults (g.F.Front.door l.initial.front);
+  broken : g.H.Service.broken (g.F.Front.door l.front) ≡ g.H.Service.broken (g.F.Front.door l.initial.front);
 }
