@@ -11,6 +11,7 @@ pub mod OneOutcomeLemmas
 pub mod OutboxLemmas
 pub mod ScriptEndsLemmas
 pub mod ScriptLemmas
+pub mod StillLemmas
 pub mod StoredLemmas
 pub mod TakenLemmas
 pub mod TotalLemmas

@@ -1,9 +1,10 @@
 //! Lines that are answered, with their replies on their way.
 
-ghost use Rattle.std.specs.Prelude.{◌≡◌, ◌≤◌, ◌∷◌, [], None, OnOk, IfErr, IsErrOf};
-ghost use Rattle.pcfs_ports.specs.Faults.{HasRisen};
+ghost use Rattle.std.specs.Prelude.{◌≡◌, ◌≤◌, ◌∷◌, [], true, None, OnOk, IfErr, IsErrOf};
+ghost use Rattle.pcfs_ports.specs.Faults.{HasRisen, raise};
 ghost use Rattle.pcfs_ports.specs.Observable.{with_back, HoldsSome};
 ghost use Rattle.pcfs_session.specs.Answered.{AreAnswered, HaltsAt, AnswersHeld, HaltsWithin};
+ghost use Rattle.pcfs_session.specs.Ends.{HaltStandsStill};
 ghost use Rattle.pcfs_session.specs.InterpreterView.{standing_of};
 ghost use Rattle.pcfs_session.specs.ScriptRun.{IsLawfulStanding};
 
@@ -23,6 +24,10 @@ fn stop<O: Sink>(collected: &mut Bytes, output: &mut O) -> Halt
     ensures risen { (result ≡ Halt.Unsent SendFault.Write) →
         HasRisen (O.faults output.old) (O.faults output.new) }
     ensures never_falls { O.faults output.old ≤ O.faults output.new }
+    ensures steady { HaltStandsStill result (O.faults output.old) (O.faults output.new) }
+    ensures by_one { (result ≡ Halt.Unsent SendFault.Write) →
+        O.faults output.new ≡ raise (O.faults output.old) }
+    ensures broken { (result ≡ Halt.Unsent SendFault.Write) → O.broken output.new ≡ true }
 {
     match flush(collected, output) {
         Ok(()) => Halt::Stopped,
@@ -54,6 +59,12 @@ pub fn answer_line<D: Disk, O: Sink>(
     ensures risen { IsErrOf result (Halt.Unsent SendFault.Write) →
         HasRisen (O.faults output.old) (O.faults output.new) }
     ensures never_falls { O.faults output.old ≤ O.faults output.new }
+    ensures steady { OnOk result (O.faults output.new ≡ O.faults output.old) }
+    ensures steady_halt { IfErr result (λ halt.
+        HaltStandsStill halt (O.faults output.old) (O.faults output.new)) }
+    ensures by_one { IsErrOf result (Halt.Unsent SendFault.Write) →
+        O.faults output.new ≡ raise (O.faults output.old) }
+    ensures broken { IsErrOf result (Halt.Unsent SendFault.Write) → O.broken output.new ≡ true }
 {
     let reply = interpreter.reply_to(alloc, line);
     let sent = send(alloc, collected, &reply, enough, output);
@@ -88,6 +99,12 @@ pub fn answer_held<D: Disk, O: Sink>(
     ensures risen { IsErrOf result (Halt.Unsent SendFault.Write) →
         HasRisen (O.faults output.old) (O.faults output.new) }
     ensures never_falls { O.faults output.old ≤ O.faults output.new }
+    ensures steady { OnOk result (O.faults output.new ≡ O.faults output.old) }
+    ensures steady_halt { IfErr result (λ halt.
+        HaltStandsStill halt (O.faults output.old) (O.faults output.new)) }
+    ensures by_one { IsErrOf result (Halt.Unsent SendFault.Write) →
+        O.faults output.new ≡ raise (O.faults output.old) }
+    ensures broken { IsErrOf result (Halt.Unsent SendFault.Write) → O.broken output.new ≡ true }
     ensures long_stays { OnOk result (framer.new.is_long ≡ framer.old.is_long) }
 {
     while let Some(line) = framer.next_line() {
@@ -121,6 +138,12 @@ pub fn answer_out<D: Disk, O: Sink>(
     ensures risen { IsErrOf result (Halt.Unsent SendFault.Write) →
         HasRisen (O.faults output.old) (O.faults output.new) }
     ensures never_falls { O.faults output.old ≤ O.faults output.new }
+    ensures steady { OnOk result (O.faults output.new ≡ O.faults output.old) }
+    ensures steady_halt { IfErr result (λ halt.
+        HaltStandsStill halt (O.faults output.old) (O.faults output.new)) }
+    ensures by_one { IsErrOf result (Halt.Unsent SendFault.Write) →
+        O.faults output.new ≡ raise (O.faults output.old) }
+    ensures broken { IsErrOf result (Halt.Unsent SendFault.Write) → O.broken output.new ≡ true }
     ensures long_stays { OnOk result (framer.new.is_long ≡ framer.old.is_long) }
 {
     match answer_held(alloc, interpreter, framer, collected, enough, output) {

@@ -1,7 +1,7 @@
 //! Replies on their way out: they are collected, and written in large pieces.
 
-ghost use Rattle.std.specs.Prelude.{◌≡◌, ◌≤◌, ◌++◌, ◌∷◌, [], OnOk, OnErr, IsErrOf};
-ghost use Rattle.pcfs_ports.specs.Faults.{HasRisen};
+ghost use Rattle.std.specs.Prelude.{◌≡◌, ◌≤◌, ◌++◌, ◌∷◌, [], true, OnOk, OnErr, IsErrOf};
+ghost use Rattle.pcfs_ports.specs.Faults.{HasRisen, raise};
 ghost use Rattle.pcfs_ports.specs.Observable.{with_back, HoldsSome};
 ghost use Rattle.line_wire.specs.ReplyText.{reply_text};
 ghost use Rattle.pcfs_session.specs.Outbox.{GoesOut};
@@ -37,6 +37,8 @@ pub fn flush<O: Sink>(collected: &mut Bytes, output: &mut O) -> Result<(), Faile
     ensures err { OnErr result (HoldsSome (O.held output.old) (O.held output.new) collected.old) }
     ensures risen { OnErr result (HasRisen (O.faults output.old) (O.faults output.new)) }
     ensures never_falls { O.faults output.old ≤ O.faults output.new }
+    ensures by_one { OnErr result (O.faults output.new ≡ raise (O.faults output.old)) }
+    ensures broken { OnErr result (O.broken output.new ≡ true) }
 {
     write_all(output, collected.as_slice())?;
     collected.clear();
@@ -53,6 +55,9 @@ fn flush_if_enough<O: Sink>(
     ensures err { OnErr result (HoldsSome (O.held output.old) (O.held output.new) collected.old) }
     ensures risen { OnErr result (HasRisen (O.faults output.old) (O.faults output.new)) }
     ensures never_falls { O.faults output.old ≤ O.faults output.new }
+    ensures steady { OnOk result (O.faults output.new ≡ O.faults output.old) }
+    ensures by_one { OnErr result (O.faults output.new ≡ raise (O.faults output.old)) }
+    ensures broken { OnErr result (O.broken output.new ≡ true) }
 {
     if enough <= collected.len() {
         return flush(collected, output);
@@ -68,6 +73,8 @@ fn give_up<O: Sink>(collected: &mut Bytes, output: &mut O) -> SendFault
     ensures risen { (result ≡ SendFault.Write) →
         HasRisen (O.faults output.old) (O.faults output.new) }
     ensures never_falls { O.faults output.old ≤ O.faults output.new }
+    ensures by_one { (result ≡ SendFault.Write) → O.faults output.new ≡ raise (O.faults output.old) }
+    ensures broken { (result ≡ SendFault.Write) → O.broken output.new ≡ true }
 {
     match flush(collected, output) {
         Ok(()) => SendFault::NoMemory,
@@ -89,6 +96,12 @@ pub fn send<O: Sink>(
     ensures risen { IsErrOf result SendFault.Write →
         HasRisen (O.faults output.old) (O.faults output.new) }
     ensures never_falls { O.faults output.old ≤ O.faults output.new }
+    ensures steady { OnOk result (O.faults output.new ≡ O.faults output.old) }
+    ensures steady_unsent { IsErrOf result SendFault.NoMemory →
+        (O.faults output.new ≡ O.faults output.old) }
+    ensures by_one { IsErrOf result SendFault.Write →
+        O.faults output.new ≡ raise (O.faults output.old) }
+    ensures broken { IsErrOf result SendFault.Write → O.broken output.new ≡ true }
 {
     match write_reply(alloc, collected, reply) {
         Ok(()) => Ok(flush_if_enough(collected, enough, output)?),
@@ -111,6 +124,9 @@ pub fn send_all<O: Sink>(
     ensures risen { IsErrOf result SendFault.Write →
         HasRisen (O.faults output.old) (O.faults output.new) }
     ensures never_falls { O.faults output.old ≤ O.faults output.new }
+    ensures by_one { IsErrOf result SendFault.Write →
+        O.faults output.new ≡ raise (O.faults output.old) }
+    ensures broken { IsErrOf result SendFault.Write → O.broken output.new ≡ true }
 {
     match write_reply(alloc, collected, reply) {
         Ok(()) => Ok(flush(collected, output)?),

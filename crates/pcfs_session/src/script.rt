@@ -1,11 +1,12 @@
 //! The run of a script: its input is taken in pieces, and each line is answered as it comes.
 
-ghost use Rattle.std.specs.Prelude.{◌≡◌, ◌<◌, ◌≤◌, [], ℕ, List, None, false, OnOk, IfErr, IsErrOf, length};
+ghost use Rattle.std.specs.Prelude.{◌≡◌, ◌≢◌, ◌<◌, ◌≤◌, [], ℕ, List, None, true, false, OnOk, IfErr, IsErrOf, length};
 ghost use Rattle.std.specs.List.{AllByRecursion};
-ghost use Rattle.pcfs_ports.specs.Faults.{HasRisen};
+ghost use Rattle.pcfs_ports.specs.Faults.{HasRisen, raise};
 ghost use Rattle.line_framer.specs.Framing.{ended, IsLine};
 ghost use Rattle.line_text.specs.Words.{HasNo};
 ghost use Rattle.pcfs_session.specs.Answered.{AnswersPiece, PieceEnds, LongEnds, LastEnds, IsFinished};
+ghost use Rattle.pcfs_session.specs.Ends.{OutputStandsStill, NothingFailedBefore};
 ghost use Rattle.pcfs_session.specs.ScriptContext.{ScriptContext, first_asker};
 ghost use Rattle.pcfs_session.specs.InterpreterView.{standing_of, standing_over};
 ghost use Rattle.pcfs_session.specs.ScriptRun.{IsLawfulStanding, script_pass};
@@ -41,6 +42,11 @@ fn end_at_long_line<D: Disk, O: Sink>(
     ensures risen { (result ≡ ScriptEnd.WriteFault) →
         HasRisen (O.faults output.old) (O.faults output.new) }
     ensures never_falls { O.faults output.old ≤ O.faults output.new }
+    ensures steady { OutputStandsStill result (O.faults output.old) (O.faults output.new) }
+    ensures by_one { (result ≡ ScriptEnd.WriteFault) →
+        O.faults output.new ≡ raise (O.faults output.old) }
+    ensures broken { (result ≡ ScriptEnd.WriteFault) → O.broken output.new ≡ true }
+    ensures no_read { result ≢ ScriptEnd.ReadFault }
 {
     match answer_held(alloc, interpreter, framer, collected, enough, output) {
         Ok(()) => {}
@@ -77,6 +83,13 @@ fn answer_piece<D: Disk, O: Sink>(
     ensures risen { IsErrOf result ScriptEnd.WriteFault →
         HasRisen (O.faults output.old) (O.faults output.new) }
     ensures never_falls { O.faults output.old ≤ O.faults output.new }
+    ensures steady { OnOk result (O.faults output.new ≡ O.faults output.old) }
+    ensures steady_end { IfErr result (λ end.
+        OutputStandsStill end (O.faults output.old) (O.faults output.new)) }
+    ensures by_one { IsErrOf result ScriptEnd.WriteFault →
+        O.faults output.new ≡ raise (O.faults output.old) }
+    ensures broken { IsErrOf result ScriptEnd.WriteFault → O.broken output.new ≡ true }
+    ensures no_read { IfErr result (λ end. end ≢ ScriptEnd.ReadFault) }
 {
     match framer.feed(piece) {
         Ok(()) => {}
@@ -97,6 +110,11 @@ fn finish<O: Sink>(collected: &mut Bytes, output: &mut O) -> ScriptEnd
     ensures risen { (result ≡ ScriptEnd.WriteFault) →
         HasRisen (O.faults output.old) (O.faults output.new) }
     ensures never_falls { O.faults output.old ≤ O.faults output.new }
+    ensures steady { OutputStandsStill result (O.faults output.old) (O.faults output.new) }
+    ensures by_one { (result ≡ ScriptEnd.WriteFault) →
+        O.faults output.new ≡ raise (O.faults output.old) }
+    ensures broken { (result ≡ ScriptEnd.WriteFault) → O.broken output.new ≡ true }
+    ensures no_read { result ≢ ScriptEnd.ReadFault }
 {
     match flush(collected, output) {
         Ok(()) => ScriptEnd::Done,
@@ -122,6 +140,11 @@ fn answer_last<D: Disk, O: Sink>(
     ensures risen { (result ≡ ScriptEnd.WriteFault) →
         HasRisen (O.faults output.old) (O.faults output.new) }
     ensures never_falls { O.faults output.old ≤ O.faults output.new }
+    ensures steady { OutputStandsStill result (O.faults output.old) (O.faults output.new) }
+    ensures by_one { (result ≡ ScriptEnd.WriteFault) →
+        O.faults output.new ≡ raise (O.faults output.old) }
+    ensures broken { (result ≡ ScriptEnd.WriteFault) → O.broken output.new ≡ true }
+    ensures no_read { result ≢ ScriptEnd.ReadFault }
 {
     match framer.last_line() {
         None => finish(collected, output),
@@ -146,6 +169,13 @@ fn read_pieces<D: Disk, I: Source, O: Sink>(
         (streams_of I.left I.faults O.held O.faults input.old output.old) result interpreter.new
         (streams_of I.left I.faults O.held O.faults input.new output.new) }
     ensures never_falls { O.faults output.old ≤ O.faults output.new }
+    ensures steady { NothingFailedBefore
+        (streams_of I.left I.faults O.held O.faults input.old output.old) result
+        (streams_of I.left I.faults O.held O.faults input.new output.new) }
+    ensures read_failed { result ≡ ScriptEnd.ReadFault →
+        (I.faults input.new ≡ raise (I.faults input.old)) × (I.broken input.new ≡ true) }
+    ensures write_failed { result ≡ ScriptEnd.WriteFault →
+        (O.faults output.new ≡ raise (O.faults output.old)) × (O.broken output.new ≡ true) }
 {
     let mut piece = match new_piece(alloc) {
         Ok(piece) => piece,
@@ -198,6 +228,13 @@ pub fn script_session<D: Disk, I: Source, O: Sink>(
         (record { store = result.1; asker = asker })
         (streams_of I.left I.faults O.held O.faults input.new output.new) }
     ensures never_falls { O.faults output.old ≤ O.faults output.new }
+    ensures steady { NothingFailedBefore
+        (streams_of I.left I.faults O.held O.faults input.old output.old) result.0
+        (streams_of I.left I.faults O.held O.faults input.new output.new) }
+    ensures read_failed { result.0 ≡ ScriptEnd.ReadFault →
+        (I.faults input.new ≡ raise (I.faults input.old)) × (I.broken input.new ≡ true) }
+    ensures write_failed { result.0 ≡ ScriptEnd.WriteFault →
+        (O.faults output.new ≡ raise (O.faults output.old)) × (O.broken output.new ≡ true) }
 {
     let mut interpreter = Interpreter::over(store);
     let end = read_pieces(alloc, &mut interpreter, input, enough, output);

@@ -1,5 +1,5 @@
 -- Counts of faults that stand still until a session ends.
-use Rattle.std.proofs.Common.{◌≡◌, ℕ, refl, sym, subst}
+use Rattle.std.proofs.Common.{◌≡◌, ◌≢◌, ℕ, refl, sym, subst}
 use Rattle.pcfs_session.specs.Streams.{Streams}
 use Rattle.pcfs_session.specs.declared.outbox.SendFault.{SendFault}
 use Rattle.pcfs_session.specs.declared.outbox.SendFault.TheVariants.{Write, NoMemory}
@@ -15,6 +15,11 @@ output_then how before mid after same still = subst (λ (n : ℕ). OutputStandsS
 pub still_unsent : (fault : SendFault) (how : SessionEnd) (before after : ℕ) → how ≡ unsent_end fault → (fault ≡ NoMemory → after ≡ before) → OutputStandsStill how before after
 still_unsent Write how before after is steady = subst (λ (h : SessionEnd). OutputStandsStill h before after) (sym is) tt
 still_unsent NoMemory how before after is steady = subst (λ (h : SessionEnd). OutputStandsStill h before after) (sym is) (steady refl)
+
+-- a reply that was not sent is no fault of the input
+pub unsent_no_read : (fault : SendFault) (how : SessionEnd) → how ≡ unsent_end fault → how ≢ session_ends.ReadFault
+unsent_no_read Write how is same = absurd cc
+unsent_no_read NoMemory how is same = absurd cc
 
 -- and the input, after an end that it had no part in
 input_same : (how : SessionEnd) (before after : ℕ) → after ≡ before → InputStandsStill how before after

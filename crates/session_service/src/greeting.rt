@@ -1,7 +1,7 @@
 //! The first line of a session.
 
-ghost use Rattle.std.specs.Prelude.{◌≡◌, ◌≤◌, ◌++◌, ◌∷◌, [], OnOk, OnErr, IsErrOf};
-ghost use Rattle.pcfs_ports.specs.Faults.{HasRisen};
+ghost use Rattle.std.specs.Prelude.{◌≡◌, ◌≤◌, ◌++◌, ◌∷◌, [], true, OnOk, OnErr, IsErrOf};
+ghost use Rattle.pcfs_ports.specs.Faults.{HasRisen, raise};
 ghost use Rattle.pcfs_ports.specs.Observable.{with_back, HoldsSome};
 ghost use Rattle.line_text.specs.Greeting.{greeting_text};
 
@@ -22,6 +22,9 @@ pub fn greet<O: Sink>(alloc: Global, nonce: &[u8; 16], output: &mut O) -> Result
     ensures risen { IsErrOf result SendFault.Write →
         HasRisen (O.faults output.old) (O.faults output.new) }
     ensures never_falls { O.faults output.old ≤ O.faults output.new }
+    ensures by_one { IsErrOf result SendFault.Write →
+        O.faults output.new ≡ raise (O.faults output.old) }
+    ensures broken { IsErrOf result SendFault.Write → O.broken output.new ≡ true }
 {
     let bytes = match greeting_line(alloc, nonce) {
         Ok(bytes) => bytes,

@@ -1,7 +1,7 @@
 //! Lines of a session that are answered, each with its reply written before the next.
 
-ghost use Rattle.std.specs.Prelude.{◌≡◌, ◌≤◌, ◌∷◌, [], OnOk, OnErr, IsErrOf};
-ghost use Rattle.pcfs_ports.specs.Faults.{HasRisen};
+ghost use Rattle.std.specs.Prelude.{◌≡◌, ◌≤◌, ◌∷◌, [], true, OnOk, OnErr, IsErrOf};
+ghost use Rattle.pcfs_ports.specs.Faults.{HasRisen, raise};
 ghost use Rattle.pcfs_ports.specs.Observable.{with_back, HoldsSome};
 ghost use Rattle.line_wire.specs.ReplyText.{output_of};
 ghost use Rattle.session_service.specs.Spoken.{IsSpoken, IsCutOff, SpeaksHeld, IsCutWithin};
@@ -32,6 +32,9 @@ pub fn write_reply<O: Sink>(
     ensures risen { IsErrOf result SendFault.Write →
         HasRisen (O.faults output.old) (O.faults output.new) }
     ensures never_falls { O.faults output.old ≤ O.faults output.new }
+    ensures by_one { IsErrOf result SendFault.Write →
+        O.faults output.new ≡ raise (O.faults output.old) }
+    ensures broken { IsErrOf result SendFault.Write → O.broken output.new ≡ true }
 {
     let mut text = Bytes::new(alloc);
     match send_all(alloc, &mut text, reply, output) {
@@ -66,6 +69,9 @@ pub fn speak<R: Wait, D: Disk, C: TurnClock, K: Checker, O: Sink>(
     ensures risen { IsErrOf result SendFault.Write →
         HasRisen (O.faults output.old) (O.faults output.new) }
     ensures never_falls { O.faults output.old ≤ O.faults output.new }
+    ensures by_one { IsErrOf result SendFault.Write →
+        O.faults output.new ≡ raise (O.faults output.old) }
+    ensures broken { IsErrOf result SendFault.Write → O.broken output.new ≡ true }
     ensures same_lock { pass.new.lock ≡ lock.now }
 {
     let reply = answer_line(rt, alloc, lock, pass, clock, nonce, caller, line, checker);
@@ -101,6 +107,9 @@ pub fn speak_held<R: Wait, D: Disk, C: TurnClock, K: Checker, O: Sink>(
     ensures risen { IsErrOf result SendFault.Write →
         HasRisen (O.faults output.old) (O.faults output.new) }
     ensures never_falls { O.faults output.old ≤ O.faults output.new }
+    ensures by_one { IsErrOf result SendFault.Write →
+        O.faults output.new ≡ raise (O.faults output.old) }
+    ensures broken { IsErrOf result SendFault.Write → O.broken output.new ≡ true }
     ensures same_lock { pass.new.lock ≡ lock.now }
 {
     while let Some(line) = framer.next_line() {

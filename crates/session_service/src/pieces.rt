@@ -1,10 +1,10 @@
 //! Pieces of a session's input, and how a session ends at them.
 
-ghost use Rattle.std.specs.Prelude.{◌≡◌, ◌≤◌, ℕ, List, false, OnOk, IfErr, IsErrOf, length};
+ghost use Rattle.std.specs.Prelude.{◌≡◌, ◌≢◌, ◌≤◌, ℕ, List, true, false, OnOk, IfErr, IsErrOf, length};
 ghost use Rattle.std.specs.List.{AllByRecursion};
 ghost use Rattle.line_framer.specs.Framing.{ended, IsLine};
 ghost use Rattle.line_text.specs.Words.{HasNo};
-ghost use Rattle.pcfs_ports.specs.Faults.{HasRisen};
+ghost use Rattle.pcfs_ports.specs.Faults.{HasRisen, raise};
 ghost use Rattle.session_service.specs.Ends.{OutputStandsStill};
 ghost use Rattle.session_service.specs.Spoken.{SpeaksPiece, EndsAtLong, EndsAtPiece, EndsAtLast};
 
@@ -42,6 +42,10 @@ fn end_at_long_line<R: Wait, D: Disk, C: TurnClock, K: Checker, O: Sink>(
     ensures risen { (result ≡ SessionEnd.WriteFault) →
         HasRisen (O.faults output.old) (O.faults output.new) }
     ensures never_falls { O.faults output.old ≤ O.faults output.new }
+    ensures by_one { (result ≡ SessionEnd.WriteFault) →
+        O.faults output.new ≡ raise (O.faults output.old) }
+    ensures broken { (result ≡ SessionEnd.WriteFault) → O.broken output.new ≡ true }
+    ensures no_read { result ≢ SessionEnd.ReadFault }
     ensures same_lock { pass.new.lock ≡ lock.now }
 {
     match speak_held(
@@ -85,6 +89,10 @@ pub fn speak_piece<R: Wait, D: Disk, C: TurnClock, K: Checker, O: Sink>(
     ensures risen { IsErrOf result SessionEnd.WriteFault →
         HasRisen (O.faults output.old) (O.faults output.new) }
     ensures never_falls { O.faults output.old ≤ O.faults output.new }
+    ensures by_one { IsErrOf result SessionEnd.WriteFault →
+        O.faults output.new ≡ raise (O.faults output.old) }
+    ensures broken { IsErrOf result SessionEnd.WriteFault → O.broken output.new ≡ true }
+    ensures no_read { IfErr result (λ end. end ≢ SessionEnd.ReadFault) }
     ensures same_lock { pass.new.lock ≡ lock.now }
 {
     match framer.feed(piece) {
@@ -125,6 +133,10 @@ pub fn speak_last<R: Wait, D: Disk, C: TurnClock, K: Checker, O: Sink>(
     ensures risen { (result ≡ SessionEnd.WriteFault) →
         HasRisen (O.faults output.old) (O.faults output.new) }
     ensures never_falls { O.faults output.old ≤ O.faults output.new }
+    ensures by_one { (result ≡ SessionEnd.WriteFault) →
+        O.faults output.new ≡ raise (O.faults output.old) }
+    ensures broken { (result ≡ SessionEnd.WriteFault) → O.broken output.new ≡ true }
+    ensures no_read { result ≢ SessionEnd.ReadFault }
     ensures same_lock { pass.new.lock ≡ lock.now }
 {
     match framer.last_line() {

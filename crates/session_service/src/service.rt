@@ -148,6 +148,7 @@ impl<'a, D: Disk + Send, C: TurnClock, N: Nonces + 'a, L: Listener> Service<L::I
     ghost use Rattle.session_service.specs.declared.session_end.SessionEnd.{SessionEnd};
     ghost use Rattle.pcfs_session.specs.Streams.{streams_of};
     ghost use Rattle.session_service.specs.Ends.{NothingFailedBefore};
+    ghost use Rattle.pcfs_server.specs.Ends.{FailedLast};
     ghost use Rattle.session_service.specs.SessionEnds.{SessionEnds, GreetsFirst};
 
     // For each pass that was made a nonce was given. The passes that were taken in are those of the connections that are
@@ -229,7 +230,9 @@ impl<'a, D: Disk + Send, C: TurnClock, N: Nonces + 'a, L: Listener> Service<L::I
             (streams_of L.In.left L.In.faults L.Out.held L.Out.faults input.new output.new) ×
             NothingFailedBefore
             (streams_of L.In.left L.In.faults L.Out.held L.Out.faults input.old output.old) end
-            (streams_of L.In.left L.In.faults L.Out.held L.Out.faults input.new output.new) }
+            (streams_of L.In.left L.In.faults L.Out.held L.Out.faults input.new output.new) ×
+            (end ≡ SessionEnd.ReadFault → FailedLast (L.In.faults input.old) (L.In.faults input.new) (L.In.broken input.new)) ×
+            (end ≡ SessionEnd.WriteFault → FailedLast (L.Out.faults output.old) (L.Out.faults output.new) (L.Out.broken output.new)) }
         ensures greets_first { GreetsFirst token.old.nonce
             (streams_of L.In.left L.In.faults L.Out.held L.Out.faults input.old output.old)
             (streams_of L.In.left L.In.faults L.Out.held L.Out.faults input.new output.new) }

@@ -4,6 +4,7 @@ ghost use Rattle.std.specs.Prelude.{◌≡◌, ◌<◌, None};
 ghost use Rattle.session_service.specs.Ends.{NothingFailedBefore};
 ghost use Rattle.session_service.specs.SessionEnds.{SessionEnds, GoesOnToEnd, GreetsFirst};
 ghost use Rattle.pcfs_session.specs.Streams.{streams_of};
+ghost use Rattle.pcfs_server.specs.Ends.{FailedLast};
 
 use crate::greeting::greet;
 use crate::pieces::{speak_last, speak_piece};
@@ -37,6 +38,10 @@ fn speak_pieces<R: Wait, I: Source, O: Sink, D: Disk, C: TurnClock, K: Checker>(
     ensures steady { NothingFailedBefore
         (streams_of I.left I.faults O.held O.faults input.old output.old) result
         (streams_of I.left I.faults O.held O.faults input.new output.new) }
+    ensures read_failed { result ≡ SessionEnd.ReadFault →
+        FailedLast (I.faults input.old) (I.faults input.new) (I.broken input.new) }
+    ensures write_failed { result ≡ SessionEnd.WriteFault →
+        FailedLast (O.faults output.old) (O.faults output.new) (O.broken output.new) }
     ensures same_lock { pass.new.lock ≡ lock.now }
 {
     let mut piece = match new_piece(alloc) {
@@ -115,6 +120,10 @@ pub fn serve_session_with<R: Wait, I: Source, O: Sink, D: Disk, C: TurnClock, K:
     ensures steady { NothingFailedBefore
         (streams_of I.left I.faults O.held O.faults input.old output.old) result
         (streams_of I.left I.faults O.held O.faults input.new output.new) }
+    ensures read_failed { result ≡ SessionEnd.ReadFault →
+        FailedLast (I.faults input.old) (I.faults input.new) (I.broken input.new) }
+    ensures write_failed { result ≡ SessionEnd.WriteFault →
+        FailedLast (O.faults output.old) (O.faults output.new) (O.broken output.new) }
     ensures same_lock { pass.new.lock ≡ lock.now }
 {
     match greet(alloc, &nonce, output) {
@@ -144,6 +153,10 @@ pub fn serve_session<R: Wait, I: Source, O: Sink, D: Disk, C: TurnClock>(
     ensures steady { NothingFailedBefore
         (streams_of I.left I.faults O.held O.faults input.old output.old) result
         (streams_of I.left I.faults O.held O.faults input.new output.new) }
+    ensures read_failed { result ≡ SessionEnd.ReadFault →
+        FailedLast (I.faults input.old) (I.faults input.new) (I.broken input.new) }
+    ensures write_failed { result ≡ SessionEnd.WriteFault →
+        FailedLast (O.faults output.old) (O.faults output.new) (O.broken output.new) }
     ensures same_lock { pass.new.lock ≡ lock.now }
 {
     serve_session_with(

@@ -2,6 +2,8 @@
 use Rattle.std.proofs.Common.{refl, ap, ◌∙◌, arith}
 use Rattle.line_framer.specs.Framing.{FramerState}
 use Rattle.pcfs_session.proofs.AnsweredLemmas.{IsAnswering-start, IsAnswering-taken, AnswersHeld-all, HaltsWithin-at, lawful_on, runs_on}
+use Rattle.pcfs_ports.specs.Faults.{raise}
+use Rattle.pcfs_session.proofs.StillLemmas.{halt_then}
 use Rattle.pcfs_session.proofs.TakenLemmas.{fewer_left}
 use Rattle.pcfs_session.proofs.answering.answer_held.Goals as goal
 
@@ -9,6 +11,7 @@ pub loop-line-init : goal.loop-line-init
 loop-line-init g c = record {
   so_far = IsAnswering-start g.D.Disk.clock g.D.Disk.left_since g.D.Disk.image g.D.Disk.faults _ _ _ _ c.requires.running;
   long_stays = refl;
+  steady = refl;
   never_falls = omega arith;
 }
 
@@ -32,8 +35,18 @@ loop-line-preserved g c =
       so_far =
           IsAnswering-taken g.D.Disk.clock g.D.Disk.left_since g.D.Disk.image g.D.Disk.faults _ _ _ _ _ _ _ _ _ c.in-Some.ensures.line.0 _ _ _ _ c.loop-line.invariant.so_far c.in-Some.ensures.line.1 c.in-Some.ensures.few next c.in-Ok.ensures.ok;
       long_stays = ap (λ (f : FramerState). f.is_long) next ∙ c.loop-line.invariant.long_stays;
+      steady = c.in-Ok.ensures.steady ∙ c.loop-line.invariant.steady;
       never_falls = omega (arith, c.in-Ok.ensures.never_falls);
     }
 
 pub returns-clause-ok : goal.returns-clause-ok
 returns-clause-ok g c = AnswersHeld-all g.D.Disk.clock g.D.Disk.left_since g.D.Disk.image g.D.Disk.faults _ _ _ _ _ _ _ _ c.loop-line.invariant.so_far c.in_default.ensures.line
+
+pub returns-in-Err-clause-steady_halt : goal.returns-in-Err-clause-steady_halt
+returns-in-Err-clause-steady_halt g c = halt_then c.in-Err.halt _ _ _ c.loop-line.invariant.steady c.in-Err.ensures.steady_halt
+
+pub returns-in-Err-clause-by_one : goal.returns-in-Err-clause-by_one
+returns-in-Err-clause-by_one g c is = c.in-Err.ensures.by_one is ∙ ap raise c.loop-line.invariant.steady
+
+pub returns-in-Err-clause-broken : goal.returns-in-Err-clause-broken
+returns-in-Err-clause-broken g c is = c.in-Err.ensures.broken is

@@ -1,5 +1,7 @@
 -- The lines that came with their ends are answered, piece by piece.
 use Rattle.std.proofs.Common.{◌≡◌, ◌≤◌, length, take, [], Err, ap, ◌∙◌, refl, arith}
+use Rattle.pcfs_ports.specs.Faults.{raise}
+use Rattle.pcfs_session.proofs.StillLemmas.{NothingFailedBefore-then}
 use Rattle.line_framer.specs.Framing.{FramerState}
 use Rattle.pcfs_session.proofs.ScriptEndsLemmas.{AnswersScript-unbegun, IsReading-start, running_now, lawful_now, IsReading-more, AnswersScript-read_fault, AnswersScript-too_long, AnswersScript-piece, AnswersScript-last}
 use Rattle.pcfs_session.proofs.StoredLemmas.{HasRisen-earlier}
@@ -13,6 +15,8 @@ loop-taken-init g c = record {
   nothing_waits = c.new-collected.ensures;
   within = omega arith;
   room = c.in-Ok.ensures;
+  read_steady = refl;
+  write_steady = refl;
   read_never_falls = omega arith;
   write_never_falls = omega arith;
 }
@@ -65,6 +69,8 @@ loop-taken-preserved g c =
       nothing_waits = c.in-Ok-answer_piece.ensures.empty;
       within = omega (arith, c.in-Ok-read_piece.ensures.few);
       room = room_stays c.loop-taken.piece.len c.read_piece.new.piece c.loop-taken.piece.items same c.loop-taken.piece.ok.0 ∙ c.loop-taken.invariant.room;
+      read_steady = c.in-Ok-read_piece.ensures.steady ∙ c.loop-taken.invariant.read_steady;
+      write_steady = c.in-Ok-answer_piece.ensures.steady ∙ c.loop-taken.invariant.write_steady;
       read_never_falls = omega (arith, c.in-Ok-read_piece.ensures.never_falls);
       write_never_falls = omega (arith, c.in-Ok-answer_piece.ensures.never_falls);
     }
@@ -73,3 +79,36 @@ pub returns-clause-ends : goal.returns-clause-ends
 returns-clause-ends g c =
     let all : c.loop-taken.taken ≡ 1073741824 = omega arith in
     AnswersScript-too_long g.D.Disk.clock g.D.Disk.left_since g.D.Disk.image g.D.Disk.faults _ _ c.requires.lawful _ _ _ _ c.loop-taken.invariant.reading all
+
+pub returns-in-Err-clause-steady : goal.returns-in-Err-clause-steady
+returns-in-Err-clause-steady g c = record { input = refl; output = refl }
+
+pub returns-in-Err-read_piece-clause-steady : goal.returns-in-Err-read_piece-clause-steady
+returns-in-Err-read_piece-clause-steady g c = record { input = tt; output = c.loop-taken.invariant.write_steady }
+
+pub returns-then-count-eq0-clause-steady : goal.returns-then-count-eq0-clause-steady
+returns-then-count-eq0-clause-steady g c =
+    NothingFailedBefore-then _ _ _ _ (c.in-Ok-read_piece.ensures.steady ∙ c.loop-taken.invariant.read_steady) c.loop-taken.invariant.write_steady c.answer_last.ensures.steady
+
+pub returns-in-Err-answer_piece-clause-steady : goal.returns-in-Err-answer_piece-clause-steady
+returns-in-Err-answer_piece-clause-steady g c =
+    NothingFailedBefore-then _ _ _ _ (c.in-Ok-read_piece.ensures.steady ∙ c.loop-taken.invariant.read_steady) c.loop-taken.invariant.write_steady c.in-Err-answer_piece.ensures.steady_end
+
+pub returns-clause-steady : goal.returns-clause-steady
+returns-clause-steady g c = record { input = c.loop-taken.invariant.read_steady; output = c.loop-taken.invariant.write_steady }
+
+pub returns-in-Err-read_piece-clause-read_failed : goal.returns-in-Err-read_piece-clause-read_failed
+returns-in-Err-read_piece-clause-read_failed g c is = (c.in-Err-read_piece.ensures.by_one ∙ ap raise c.loop-taken.invariant.read_steady, c.in-Err-read_piece.ensures.broken)
+
+pub returns-then-count-eq0-clause-read_failed : goal.returns-then-count-eq0-clause-read_failed
+returns-then-count-eq0-clause-read_failed g c is = absurd (c.answer_last.ensures.no_read is)
+
+pub returns-then-count-eq0-clause-write_failed : goal.returns-then-count-eq0-clause-write_failed
+returns-then-count-eq0-clause-write_failed g c is = (c.answer_last.ensures.by_one is ∙ ap raise c.loop-taken.invariant.write_steady, c.answer_last.ensures.broken is)
+
+pub returns-in-Err-answer_piece-clause-read_failed : goal.returns-in-Err-answer_piece-clause-read_failed
+returns-in-Err-answer_piece-clause-read_failed g c is = absurd (c.in-Err-answer_piece.ensures.no_read is)
+
+pub returns-in-Err-answer_piece-clause-write_failed : goal.returns-in-Err-answer_piece-clause-write_failed
+returns-in-Err-answer_piece-clause-write_failed g c is =
+    (c.in-Err-answer_piece.ensures.by_one (ap Err is) ∙ ap raise c.loop-taken.invariant.write_steady, c.in-Err-answer_piece.ensures.broken (ap Err is))

@@ -9,6 +9,8 @@ invariant-loop-taken g l = record {
   nothing_waits : l.collected ≡ [];
   within : l.taken ≤ 1073741824;
   room : length l.piece.items ≡ 65536;
+  read_steady : g.I.Source.faults l.input ≡ g.I.Source.faults l.fn.input;
+  write_steady : g.O.Sink.faults l.output ≡ g.O.Sink.faults l.fn.output;
   read_never_falls : g.I.Source.faults l.fn.input ≤ g.I.Source.faults l.input;
   write_never_falls : g.O.Sink.faults l.fn.output ≤ g.O.Sink.faults l.output;
 }

@@ -1,6 +1,7 @@
 -- Each line that was answered and taken is one more of the first lines.
 use Rattle.std.proofs.Common.{refl, ap, ◌∙◌, arith}
 use Rattle.line_framer.specs.Framing.{FramerState}
+use Rattle.pcfs_ports.specs.Faults.{raise}
 use Rattle.pcfs_session.proofs.StoredLemmas.{HasRisen-earlier}
 use Rattle.pcfs_session.proofs.TakenLemmas.{fewer_left}
 use Rattle.session_service.proofs.SpokenLemmas.{IsSpeaking-start, IsSpeaking-taken, SpeaksHeld-all, IsCutWithin-at}
@@ -42,3 +43,9 @@ returns-clause-ok g c = SpeaksHeld-all g.D.Disk.faults (g.C.TurnClock.gives c.ar
 
 pub returns-in-Err-clause-steady_unsent : goal.returns-in-Err-clause-steady_unsent
 returns-in-Err-clause-steady_unsent g c is = c.in-Err.ensures.steady_unsent is ∙ c.loop-line.invariant.steady
+
+pub returns-in-Err-clause-by_one : goal.returns-in-Err-clause-by_one
+returns-in-Err-clause-by_one g c is = c.in-Err.ensures.by_one is ∙ ap raise c.loop-line.invariant.steady
+
+pub returns-in-Err-clause-broken : goal.returns-in-Err-clause-broken
+returns-in-Err-clause-broken g c is = c.in-Err.ensures.broken is

@@ -1,6 +1,7 @@
 -- The lines before the long one are answered, and then it is told.
 use Rattle.std.proofs.Common.{ap, ◌∙◌, Err}
-use Rattle.session_service.proofs.StillLemmas.{still_unsent}
+use Rattle.pcfs_ports.specs.Faults.{raise}
+use Rattle.session_service.proofs.StillLemmas.{still_unsent, unsent_no_read}
 use Rattle.pcfs_session.proofs.StoredLemmas.{HasRisen-earlier}
 use Rattle.session_service.proofs.SpokenLemmas.{EndsAtLong-told, EndsAtLong-untold, EndsAtLong-cut, unsent_write}
 use Rattle.session_service.proofs.pieces.end_at_long_line.Goals as goal
@@ -28,3 +29,22 @@ returns-in-Ok-write_reply-clause-steady g c = c.in-Ok-write_reply.ensures.steady
 
 pub returns-in-Err-write_reply-clause-steady : goal.returns-in-Err-write_reply-clause-steady
 returns-in-Err-write_reply-clause-steady g c = still_unsent _ _ _ _ c.unsent_end-in-Err-write_reply.ensures (λ is. c.in-Err-write_reply.ensures.steady_unsent (ap Err is) ∙ c.in-Ok.ensures.steady)
+
+pub returns-in-Err-clause-by_one : goal.returns-in-Err-clause-by_one
+returns-in-Err-clause-by_one g c is = c.in-Err.ensures.by_one (ap Err (unsent_write _ _ c.unsent_end.ensures is))
+
+pub returns-in-Err-clause-broken : goal.returns-in-Err-clause-broken
+returns-in-Err-clause-broken g c is = c.in-Err.ensures.broken (ap Err (unsent_write _ _ c.unsent_end.ensures is))
+
+pub returns-in-Err-clause-no_read : goal.returns-in-Err-clause-no_read
+returns-in-Err-clause-no_read g c = unsent_no_read _ _ c.unsent_end.ensures
+
+pub returns-in-Err-write_reply-clause-by_one : goal.returns-in-Err-write_reply-clause-by_one
+returns-in-Err-write_reply-clause-by_one g c is =
+    c.in-Err-write_reply.ensures.by_one (ap Err (unsent_write _ _ c.unsent_end-in-Err-write_reply.ensures is)) ∙ ap raise c.in-Ok.ensures.steady
+
+pub returns-in-Err-write_reply-clause-broken : goal.returns-in-Err-write_reply-clause-broken
+returns-in-Err-write_reply-clause-broken g c is = c.in-Err-write_reply.ensures.broken (ap Err (unsent_write _ _ c.unsent_end-in-Err-write_reply.ensures is))
+
+pub returns-in-Err-write_reply-clause-no_read : goal.returns-in-Err-write_reply-clause-no_read
+returns-in-Err-write_reply-clause-no_read g c = unsent_no_read _ _ c.unsent_end-in-Err-write_reply.ensures

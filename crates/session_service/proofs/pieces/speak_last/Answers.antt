@@ -1,6 +1,6 @@
 -- The last line is answered if there is one.
 use Rattle.std.proofs.Common.{ap, Err}
-use Rattle.session_service.proofs.StillLemmas.{still_unsent}
+use Rattle.session_service.proofs.StillLemmas.{still_unsent, unsent_no_read}
 use Rattle.pcfs_session.proofs.TakenLemmas.{none_left}
 use Rattle.session_service.proofs.SpokenLemmas.{EndsAtLast-none, EndsAtLast-line, EndsAtLast-cut, unsent_write}
 use Rattle.session_service.proofs.pieces.speak_last.Goals as goal
@@ -21,3 +21,12 @@ returns-in-Err-clause-risen g c is = c.in-Err.ensures.risen (ap Err (unsent_writ
 
 pub returns-in-Err-clause-steady : goal.returns-in-Err-clause-steady
 returns-in-Err-clause-steady g c = still_unsent _ _ _ _ c.unsent_end.ensures (λ is. c.in-Err.ensures.steady_unsent (ap Err is))
+
+pub returns-in-Err-clause-by_one : goal.returns-in-Err-clause-by_one
+returns-in-Err-clause-by_one g c is = c.in-Err.ensures.by_one (ap Err (unsent_write _ _ c.unsent_end.ensures is))
+
+pub returns-in-Err-clause-broken : goal.returns-in-Err-clause-broken
+returns-in-Err-clause-broken g c is = c.in-Err.ensures.broken (ap Err (unsent_write _ _ c.unsent_end.ensures is))
+
+pub returns-in-Err-clause-no_read : goal.returns-in-Err-clause-no_read
+returns-in-Err-clause-no_read g c = unsent_no_read _ _ c.unsent_end.ensures

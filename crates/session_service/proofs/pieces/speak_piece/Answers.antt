@@ -3,7 +3,7 @@ use Rattle.std.proofs.Common.{◌≡◌, ap, ◌∙◌, refl, Err}
 use Rattle.line_framer.specs.Framing.{FramerState}
 use Rattle.session_service.specs.declared.session_end.SessionEnd.TheVariants as session_ends
 use Rattle.session_service.proofs.SpokenLemmas.{SpeaksPiece-held, few_held, EndsAtPiece-long, EndsAtPiece-refused, EndsAtPiece-cut, unsent_write}
-use Rattle.session_service.proofs.StillLemmas.{still_unsent}
+use Rattle.session_service.proofs.StillLemmas.{still_unsent, unsent_no_read}
 use Rattle.session_service.proofs.pieces.speak_piece.Goals as goal
 
 pub returns-in-Err-TooLong-clause-ends : goal.returns-in-Err-TooLong-clause-ends
@@ -39,3 +39,26 @@ returns-in-Err-clause-steady_end g c = still_unsent _ _ _ _ c.unsent_end.ensures
 
 pub returns-in-Err-NoMemory-clause-steady_end : goal.returns-in-Err-NoMemory-clause-steady_end
 returns-in-Err-NoMemory-clause-steady_end g c = refl
+
+pub returns-in-Err-TooLong-clause-by_one : goal.returns-in-Err-TooLong-clause-by_one
+returns-in-Err-TooLong-clause-by_one g c is =
+    let same : c.end_at_long_line.result ≡ session_ends.WriteFault = cc in
+    c.end_at_long_line.ensures.by_one same
+
+pub returns-in-Err-TooLong-clause-broken : goal.returns-in-Err-TooLong-clause-broken
+returns-in-Err-TooLong-clause-broken g c is =
+    let same : c.end_at_long_line.result ≡ session_ends.WriteFault = cc in
+    c.end_at_long_line.ensures.broken same
+
+pub returns-in-Err-clause-by_one : goal.returns-in-Err-clause-by_one
+returns-in-Err-clause-by_one g c is =
+    let same : c.unsent_end.result ≡ session_ends.WriteFault = cc in
+    c.in-Err.ensures.by_one (ap Err (unsent_write _ _ c.unsent_end.ensures same))
+
+pub returns-in-Err-clause-broken : goal.returns-in-Err-clause-broken
+returns-in-Err-clause-broken g c is =
+    let same : c.unsent_end.result ≡ session_ends.WriteFault = cc in
+    c.in-Err.ensures.broken (ap Err (unsent_write _ _ c.unsent_end.ensures same))
+
+pub returns-in-Err-clause-no_read : goal.returns-in-Err-clause-no_read
+returns-in-Err-clause-no_read g c = unsent_no_read _ _ c.unsent_end.ensures

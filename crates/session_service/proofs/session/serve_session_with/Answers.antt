@@ -1,7 +1,9 @@
 -- The greeting is written, and then the lines are answered.
-use Rattle.std.proofs.Common.{ap, inl, refl, Err}
+use Rattle.std.proofs.Common.{ap, inl, refl, Err, ◌∙◌}
+use Rattle.pcfs_ports.specs.Faults.{raise}
+use Rattle.session_service.proofs.SpokenLemmas.{unsent_write}
 use Rattle.session_service.proofs.SessionEndsLemmas.{SessionEnds-ungreeted, SessionEnds-greeted, GreetsFirst-greeted}
-use Rattle.session_service.proofs.StillLemmas.{NothingFailedBefore-greeted, NothingFailedBefore-ungreeted}
+use Rattle.session_service.proofs.StillLemmas.{NothingFailedBefore-greeted, NothingFailedBefore-ungreeted, unsent_no_read}
 use Rattle.session_service.proofs.session.serve_session_with.Goals as goal
 
 pub returns-in-Ok-clause-ends : goal.returns-in-Ok-clause-ends
@@ -30,3 +32,14 @@ returns-in-Ok-clause-steady g c =
 
 pub returns-in-Err-clause-steady : goal.returns-in-Err-clause-steady
 returns-in-Err-clause-steady g c = NothingFailedBefore-ungreeted _ _ _ _ c.unsent_end.ensures refl (λ is. c.in-Err.ensures.steady_unsent (ap Err is))
+
+pub returns-in-Ok-clause-write_failed : goal.returns-in-Ok-clause-write_failed
+returns-in-Ok-clause-write_failed g c is =
+    let last = c.speak_pieces.ensures.write_failed is in (last.0 ∙ ap raise c.in-Ok.ensures.steady, last.1)
+
+pub returns-in-Err-clause-read_failed : goal.returns-in-Err-clause-read_failed
+returns-in-Err-clause-read_failed g c is = absurd (unsent_no_read _ _ c.unsent_end.ensures is)
+
+pub returns-in-Err-clause-write_failed : goal.returns-in-Err-clause-write_failed
+returns-in-Err-clause-write_failed g c is =
+    let fault = ap Err (unsent_write _ _ c.unsent_end.ensures is) in (c.in-Err.ensures.by_one fault, c.in-Err.ensures.broken fault)

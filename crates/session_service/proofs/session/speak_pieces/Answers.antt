@@ -1,5 +1,6 @@
 -- The lines that came with their ends are answered, piece by piece.
 use Rattle.std.proofs.Common.{◌≡◌, ◌≤◌, length, take, Err, ap, ◌∙◌, refl, arith}
+use Rattle.pcfs_ports.specs.Faults.{raise}
 use Rattle.session_service.proofs.StillLemmas.{NothingFailedBefore-then}
 use Rattle.line_framer.specs.Framing.{FramerState}
 use Rattle.pcfs_session.proofs.StoredLemmas.{HasRisen-earlier}
@@ -85,3 +86,19 @@ returns-in-Err-speak_piece-clause-steady g c =
 
 pub returns-clause-steady : goal.returns-clause-steady
 returns-clause-steady g c = record { input = c.loop-taken.invariant.read_steady; output = c.loop-taken.invariant.write_steady }
+
+pub returns-in-Err-read_piece-clause-read_failed : goal.returns-in-Err-read_piece-clause-read_failed
+returns-in-Err-read_piece-clause-read_failed g c is = (c.in-Err-read_piece.ensures.by_one ∙ ap raise c.loop-taken.invariant.read_steady, c.in-Err-read_piece.ensures.broken)
+
+pub returns-then-count-eq0-clause-read_failed : goal.returns-then-count-eq0-clause-read_failed
+returns-then-count-eq0-clause-read_failed g c is = absurd (c.speak_last.ensures.no_read is)
+
+pub returns-then-count-eq0-clause-write_failed : goal.returns-then-count-eq0-clause-write_failed
+returns-then-count-eq0-clause-write_failed g c is = (c.speak_last.ensures.by_one is ∙ ap raise c.loop-taken.invariant.write_steady, c.speak_last.ensures.broken is)
+
+pub returns-in-Err-speak_piece-clause-read_failed : goal.returns-in-Err-speak_piece-clause-read_failed
+returns-in-Err-speak_piece-clause-read_failed g c is = absurd (c.in-Err-speak_piece.ensures.no_read is)
+
+pub returns-in-Err-speak_piece-clause-write_failed : goal.returns-in-Err-speak_piece-clause-write_failed
+returns-in-Err-speak_piece-clause-write_failed g c is =
+    (c.in-Err-speak_piece.ensures.by_one (ap Err is) ∙ ap raise c.loop-taken.invariant.write_steady, c.in-Err-speak_piece.ensures.broken (ap Err is))

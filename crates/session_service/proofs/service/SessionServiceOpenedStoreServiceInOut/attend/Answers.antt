@@ -22,4 +22,5 @@ returns-clause-belongs g c =
     )
 
 pub returns-clause-session : goal.returns-clause-session
-returns-clause-session g c = (c.serve_session.result, c.serve_session.ensures.ends, c.serve_session.ensures.steady)
+returns-clause-session g c =
+    (c.serve_session.result, c.serve_session.ensures.ends, c.serve_session.ensures.steady, c.serve_session.ensures.read_failed, c.serve_session.ensures.write_failed)
