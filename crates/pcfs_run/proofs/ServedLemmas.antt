@@ -94,7 +94,12 @@ FallsBy-none (Some left) = ap Some (sym (add-zero left))
 
 -- memory ran out before the first connection
 pub AreAttended-none : (count : ℕ) (net : Net) → 1 ≤ count → AreAttended count net net (serve_ends.NoMemory 0)
-AreAttended-none count net some = record { taken = inl (FallsBy-none net.waiting); cause = omega (arith, some); risen = λ failed. absurd failed }
+AreAttended-none count net some = record { taken = inl (FallsBy-none net.waiting); cause = omega (arith, some); risen = λ failed. absurd failed; one_failed = λ failed. absurd failed; faults_stay = refl; nonce_faults_stay = refl }
+
+-- one call failed, of one of two ports, whatever else is known of it
+pub one_of_two : {A B C D E F : Type 0} → ((A × B) × C) ⊎ ((D × E) × F) → (A × C) ⊎ (D × F)
+one_of_two (inl first) = inl (first.0.0, first.1)
+one_of_two (inr second) = inr (second.0.0, second.1)
 
 module _ {D : Type 0} (sources : SessionSources) (clock : D → ℕ) (left_since : D → ℕ → List ℕ → Type 0) (image : D → Option (List ℕ)) (faults : D → ℕ) (secrets : Secrets) (a b : D) where
   abbrev Opened : StoreView D → Type 0

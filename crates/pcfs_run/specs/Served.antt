@@ -3,7 +3,7 @@
 use Rattle.std.specs.Prelude.{◌≡◌, ◌⊎◌, ℕ, ◌+◌, List, [], ◌∷◌, ◌++◌, String, codes, length, drop, map, Bool, Option, Some, None}
 use Rattle.std.specs.Fmt.{decimal}
 use Rattle.std.specs.declared.alloc.Global.{Global}
-use Rattle.pcfs_ports.specs.Faults.{HasRisen}
+use Rattle.pcfs_ports.specs.Faults.{HasRisen, raise}
 use Rattle.pcfs_ports.specs.Observable.{with_back, HoldsSome}
 use Rattle.journal_core.specs.Area.{generation_of}
 use Rattle.access_history.specs.Headline.{Headline}
@@ -15,7 +15,7 @@ use Rattle.op_gate.specs.declared.damage.Damage.{Damage}
 use Rattle.pcfs_secrets.specs.declared.secrets.Secrets.{Secrets}
 use Rattle.pcfs_server.specs.declared.end.ServeEnd.{ServeEnd}
 use Rattle.pcfs_server.specs.declared.end.ServeEnd.TheVariants as serve_ends
-use Rattle.pcfs_server.specs.Ends.{number_of, HasTaken, HasCause, IsNetFault}
+use Rattle.pcfs_server.specs.Ends.{number_of, HasTaken, HasCause, IsNetFault, StandsStill}
 use Rattle.pcfs_session.specs.LineAnswer.{authority_under}
 use Rattle.pcfs_session.specs.ScriptEnds.{with_line_end}
 use Rattle.pcfs_store.specs.declared.checkpoints.Checkpoint.{Checkpoint}
@@ -63,12 +63,17 @@ pub record IsNetKept (before after : Net) : Type 0 where
 
 -- The serving of connections ended so: the listener gave as many as were attended; it is done only
 -- if these are `count` or no more come; and it failed only if the count of faults of the listener
--- rose, or that of the nonces.
+-- rose, or that of the nonces: one call failed, of one of the two. At each other end none failed.
 pub record AreAttended (count : ℕ) (before after : Net) (end : ServeEnd) : Type 0 where
   pub taken : HasTaken end before.waiting after.waiting
   pub cause : HasCause end count after.over after.waiting
   pub risen : IsNetFault end → HasRisen before.faults after.faults ⊎
       HasRisen before.nonce_faults after.nonce_faults
+  pub one_failed : IsNetFault end →
+      ((after.faults ≡ raise before.faults) × (after.nonce_faults ≡ before.nonce_faults)) ⊎
+      ((after.nonce_faults ≡ raise before.nonce_faults) × (after.faults ≡ before.faults))
+  pub faults_stay : StandsStill end before.faults after.faults
+  pub nonce_faults_stay : StandsStill end before.nonce_faults after.nonce_faults
 
 -- what a store was opened with under the secrets: an area of this generation, which begins with
 -- this image of this base
