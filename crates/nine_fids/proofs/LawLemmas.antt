@@ -1,6 +1,6 @@
 -- What holds of every request: the order of its tests, and what it leaves.
-use Rattle.std.proofs.Common.{◌≡◌, ◌<◌, ℕ, Bool, true, false, cond, eqb, nat_lt, min, List, [], ◌∷◌, ◌++◌, length, Option, Some, None, is_some, refl, sym, ap, ◌∙◌, subst, arith, inl, lit<, length-append}
-use Rattle.std.proofs.lemmas.Bool.{cond-true, cond-false, leb-false, ltb-false, eqb-false, eqb-true, not-false}
+use Rattle.std.proofs.Common.{◌≡◌, ◌<◌, ℕ, Bool, true, false, cond, eqb, nat_lt, min, ◌&&◌, List, [], ◌∷◌, ◌++◌, length, Option, Some, None, is_some, refl, sym, ap, ◌∙◌, subst, arith, inl, lit<, length-append}
+use Rattle.std.proofs.lemmas.Bool.{cond-true, cond-false, leb-false, ltb-false, eqb-false, eqb-true, not-false, and_parts}
 use Rattle.file_world.proofs.RowLemmas.{split, rising-removed, length-removed_le, lookup-removed_other}
 use Rattle.bl_syntax.specs.declared.terms.NodeId.{NodeId}
 use Rattle.bl_syntax.specs.declared.terms.Perm.TheVariants as perms
@@ -22,9 +22,10 @@ use Rattle.nine_fids.specs.Errors.{Tests, first_holding}
 use Rattle.nine_fids.specs.Fids.{HasRoomFor}
 use Rattle.nine_fids.specs.Files.{closed, mode_of}
 use Rattle.nine_fids.specs.Laws.{DoRise, places_of, IsOwnFid}
+use Rattle.nine_fids.specs.Memory.{IsOperation, MayLackMemory, for_an_operation, for_a_line, IsOpenFor}
 use Rattle.nine_fids.specs.States.{begun_with, fid_at, with_fid, without_fid, IsWithin}
 use Rattle.nine_fids.specs.Steps.{Outcome, refused, answered, unless_refused, tested, is_served, version_outcome, attach_outcome, file_named, walk_nowhere, walk_names, walk_from, at_fid, open_file, read_file, with_procap, read_len, control_outcome, write_file, outcome_of, decided}
-use Rattle.nine_fids.specs.Tests.{tests_of, attach_tests, walk_tests, open_tests, read_tests, write_tests, clunk_tests, flush_tests, version_tests, fitting_of, has_names}
+use Rattle.nine_fids.specs.Tests.{tests_of, attach_tests, walk_tests, open_tests, read_tests, write_tests, clunk_tests, flush_tests, version_tests, fitting_of, has_names, is_at_control, is_readable, is_writable, takes_lines}
 use Rattle.nine_fids.specs.Walks.{last_of, standing_for, walked}
 use Rattle.nine_fids.proofs.FidLemmas.{AreFids-none, AreFids-with, fid_in-with_other}
 use Rattle.nine_fids.proofs.TakingLemmas.{none_holds, attach_room, walk_room, can_walk}
@@ -256,3 +257,70 @@ walk_has_room s after asked fid newfid names node e = go (first_holding (walk_te
     go None is h =
         let same = walk_is_of s after fid newfid names node (fid_at s fid) h in
         subst (λ (a : Connection). HasRoomFor a.fids newfid) (sym same) (room_to_walk s fid newfid names is)
+
+-- ---- turns come after tests
+
+-- a step that is done in one turn
+abbrev pub IsOneTurn : Step → Type 0
+IsOneTurn (steps.Refused error) = ⊥
+IsOneTurn (steps.Answered answer) = ⊥
+IsOneTurn (steps.Login who signature) = Unit {0}
+IsOneTurn (steps.Read node p offset len) = Unit {0}
+IsOneTurn (steps.Write node p offset) = Unit {0}
+IsOneTurn (steps.Walk node) = ⊥
+
+operation_is_turn : (step : Step) → IsOperation step → IsOneTurn step
+operation_is_turn (steps.Refused error) is = is
+operation_is_turn (steps.Answered answer) is = is
+operation_is_turn (steps.Login who signature) is = tt
+operation_is_turn (steps.Read node p offset len) is = tt
+operation_is_turn (steps.Write node p offset) is = tt
+operation_is_turn (steps.Walk node) is = is
+
+turn_passed : (s : Connection) (tests : Tests) (outcome : Outcome) → IsOneTurn (tested s tests outcome).0 → (None ≡ first_holding tests) × IsOneTurn outcome.0
+turn_passed s tests outcome is = go (first_holding tests) refl is
+  where
+    go : (o : Option NineError) → o ≡ first_holding tests → IsOneTurn (unless_refused s o outcome).0 → (None ≡ first_holding tests) × IsOneTurn outcome.0
+    go None e turn = (e, turn)
+    go (Some error) e turn = absurd turn
+
+no_turn_walk : (s : Connection) (fid newfid : ℕ) (names : List (List ℕ)) (found : Option Fid) → IsOneTurn (at_fid s found (walk_from s fid newfid names)).0 → ⊥
+no_turn_walk s fid newfid names None is = is
+no_turn_walk s fid newfid names (Some it) is =
+    split (has_names names)
+    (λ t. no_step it.file (subst (λ (b : Bool). IsOneTurn (let o : Outcome = cond b (walk_names it.file, s) (walk_nowhere s fid newfid it.file) in o.0)) t is))
+    (λ f. subst (λ (b : Bool). IsOneTurn (let o : Outcome = cond b (walk_names it.file, s) (walk_nowhere s fid newfid it.file) in o.0)) f is)
+  where
+    no_step : (file : FidFile) → IsOneTurn (walk_names file) → ⊥
+    no_step files.Control turn = turn
+    no_step (files.Node node is_directory) turn = turn
+
+no_turn_open : (s : Connection) (fid mode : ℕ) (found : Option Fid) → IsOneTurn (at_fid s found (open_file s fid mode)).0 → ⊥
+no_turn_open s fid mode None is = is
+no_turn_open s fid mode (Some it) is = is
+
+pub turn_is_open : (s : Connection) (asked : Option Control) (m : RequestView) → IsOneTurn (decided s asked m).0 → IsOpenFor s m
+unfolding tests_of outcome_of
+turn_is_open s asked (tversion msize version) is = (turn_passed s (version_tests msize) (version_outcome s msize version) is).1
+turn_is_open s asked (tattach fid afid uname aname) is = (turn_passed s (attach_tests s fid afid aname) (attach_outcome s fid aname) is).1
+turn_is_open s asked (tflush oldtag) is = (turn_passed s (flush_tests s) (answered answers.Flush s) is).1
+turn_is_open s asked (twalk fid newfid names) is =
+    no_turn_walk s fid newfid names (fid_at s fid) (turn_passed s (walk_tests s fid newfid names) (at_fid s (fid_at s fid) (walk_from s fid newfid names)) is).1
+turn_is_open s asked (topen fid mode) is = no_turn_open s fid mode (fid_at s fid) (turn_passed s (open_tests s fid mode) (at_fid s (fid_at s fid) (open_file s fid mode)) is).1
+turn_is_open s asked (tread fid offset count) is =
+    let none = none_holds (read_tests s fid) (turn_passed s (read_tests s fid) (at_fid s (fid_at s fid) (read_file s offset count)) is).0 in
+    (not-false s.is_agreed none.0, not-false (is_readable (fid_at s fid)) none.1.1.0)
+turn_is_open s asked (twrite fid offset bytes) is =
+    let none = none_holds (write_tests s asked fid) (turn_passed s (write_tests s asked fid) (at_fid s (fid_at s fid) (write_file s asked offset (length bytes))) is).0 in
+    (not-false s.is_agreed none.0, not-false (is_writable (fid_at s fid)) none.1.1.0)
+turn_is_open s asked (tclunk fid) is = (turn_passed s (clunk_tests s fid) (answered answers.Clunk (without_fid s fid)) is).1
+turn_is_open s asked (tother kind body) is = is
+
+line_is_open : (agreed : Bool) (found : Option Fid) → takes_lines agreed found ≡ true → (agreed ≡ true) × (is_writable found ≡ true)
+line_is_open agreed found takes =
+    let both = and_parts agreed (is_at_control found && is_writable found) takes in
+    (both.0, (and_parts (is_at_control found) (is_writable found) both.1).1)
+
+pub memory_after_tests : (s : Connection) (m : RequestView) → MayLackMemory s m → IsOpenFor s m
+memory_after_tests s m (for_an_operation asked asks is) = turn_is_open s asked m (operation_is_turn (decided s asked m).0 is)
+memory_after_tests s m (for_a_line fid offset bytes same takes begins) = subst (IsOpenFor s) (sym same) (line_is_open s.is_agreed (fid_at s fid) takes)

@@ -1,6 +1,6 @@
 -- The lines of the control file (this project's own): the login of a session, a procap for the
 -- purse, and an end to all that are in it.
-use Rattle.std.specs.Prelude.{◌≡◌, ◌-◌, ℕ, List, [], ◌∷◌, ◌++◌, length, take, drop, Bool, if◌then◌else◌, codes, Option, Some, None}
+use Rattle.std.specs.Prelude.{◌≡◌, ◌⊎◌, ◌-◌, ℕ, List, [], ◌∷◌, ◌++◌, length, take, drop, Bool, if◌then◌else◌, codes, Option, Some, None}
 use Rattle.std.specs.Str.{bytes_eq}
 use Rattle.line_words.specs.Grammar.{IsPrincipal, IsSignatureHex}
 use Rattle.line_words.specs.Procaps.{IsProcapHex}
@@ -29,6 +29,10 @@ has_end bytes = bytes_eq (drop (length bytes - 1) bytes) (10 ∷ [])
 -- the bytes without a line end that stands last
 abbrev pub line_in : List ℕ → List ℕ
 line_in bytes = if has_end bytes then take (length bytes - 1) bytes else bytes
+
+-- a line that begins as one which brings a signature or a procap
+abbrev pub BeginsToBring : List ℕ → Type 0
+BeginsToBring line = ((words : List ℕ) × (line ≡ codes "login " ++ words)) ⊎ ((word : List ℕ) × (line ≡ codes "procap " ++ word))
 
 -- what bytes that are written to the control file ask: one of the forms, with or without a line
 -- end, or nothing

@@ -4,6 +4,7 @@ pub mod Fids
 pub mod Files
 pub mod Index
 pub mod Laws
+pub mod Memory
 pub mod Nonce
 pub mod Purse
 pub mod States

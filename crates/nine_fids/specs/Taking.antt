@@ -1,9 +1,10 @@
 -- What a request comes to, as the code says it.
-use Rattle.std.specs.Prelude.{◌≡◌, ℕ, List, length, false, not, nat_le, ◌&&◌, ◌==◌, Option}
-use Rattle.nine_messages.specs.Requests.{RequestView, tversion, tattach, tflush, twalk, topen, tread, twrite, tclunk, tother}
+use Rattle.std.specs.Prelude.{◌≡◌, ◌⊎◌, ℕ, List, length, true, false, not, nat_le, ◌&&◌, ◌==◌, Option}
+use Rattle.nine_messages.specs.Requests.{RequestView}
 use Rattle.nine_fids.specs.declared.control.Control.{Control}
 use Rattle.nine_fids.specs.declared.step.Step.{Step}
 use Rattle.nine_fids.specs.declared.connection.Connection.{Connection}
+use Rattle.nine_fids.specs.Memory.{IsOperation}
 use Rattle.nine_fids.specs.States.{fid_at, is_full}
 use Rattle.nine_fids.specs.Tests.{IsAskedAt, IsAskedBy, brings_procap, write_tests}
 use Rattle.nine_fids.specs.Steps.{tested, write_outcome, decided}
@@ -14,22 +15,10 @@ pub record IsTaken (s : Connection) (m : RequestView) (step : Step) (after : Con
   pub asks : IsAskedBy s m asked
   pub is : (step, after) ≡ decided s asked m
 
--- memory is taken for a procap, or for a line of the control file
-abbrev pub MayTakeMemory : RequestView → Type 0
-MayTakeMemory (tversion msize version) = ⊥
-MayTakeMemory (tattach fid afid uname aname) = ⊥
-MayTakeMemory (tflush oldtag) = ⊥
-MayTakeMemory (twalk fid newfid names) = ⊥
-MayTakeMemory (topen fid mode) = ⊥
-MayTakeMemory (tread fid offset count) = Unit {0}
-MayTakeMemory (twrite fid offset bytes) = Unit {0}
-MayTakeMemory (tclunk fid) = ⊥
-MayTakeMemory (tother kind body) = ⊥
-
 -- a write comes to this step, and to the state after it
 pub record IsWritten (s : Connection) (fid offset : ℕ) (bytes : List ℕ) (after : Connection) (step : Step) : Type 0 where
   pub asked : Option Control
-  pub asks : IsAskedAt (fid_at s fid) bytes asked
+  pub asks : IsAskedAt s.is_agreed (fid_at s fid) bytes asked
   pub is : (step, after) ≡ tested s (write_tests s asked fid) (write_outcome s asked fid offset (length bytes))
 
 -- there is room for the fid that a walk makes
@@ -39,3 +28,7 @@ CanWalk s fid newfid = (not (fid == newfid) && is_full s) ≡ false
 -- a procap that is brought has room
 abbrev pub HasRoomInPurse : Connection → Option Control → Type 0
 HasRoomInPurse s asked = (brings_procap asked && nat_le 64 (length s.purse)) ≡ false
+
+-- a procap that is brought is put into the purse, or a node is read or written
+abbrev pub IsCopied : Option Control → Step → Type 0
+IsCopied asked step = (brings_procap asked ≡ true) ⊎ IsOperation step

@@ -72,9 +72,14 @@ abbrev pub IsAskedIf : Bool → List ℕ → Option Control → Type 0
 IsAskedIf true bytes asked = IsAskedOf bytes asked
 IsAskedIf false bytes asked = asked ≡ None
 
--- what a write asks of the control file: nothing unless it is open for writing
-abbrev pub IsAskedAt : Option Fid → List ℕ → Option Control → Type 0
-IsAskedAt fid bytes asked = IsAskedIf (is_at_control fid && is_writable fid) bytes asked
+-- what is written to the fid is a line of the control file: a version is agreed, and the fid stands
+-- for that file, open for writing
+abbrev pub takes_lines : Bool → Option Fid → Bool
+takes_lines agreed fid = agreed && (is_at_control fid && is_writable fid)
+
+-- what a write asks of the control file, if it writes a line of it; else nothing
+abbrev pub IsAskedAt : Bool → Option Fid → List ℕ → Option Control → Type 0
+IsAskedAt agreed fid bytes asked = IsAskedIf (takes_lines agreed fid) bytes asked
 
 -- what a request asks of the control file; any but a write asks nothing
 abbrev pub IsAskedBy : Connection → RequestView → Option Control → Type 0
@@ -84,7 +89,7 @@ IsAskedBy s (tflush oldtag) asked = asked ≡ None
 IsAskedBy s (twalk fid newfid names) asked = asked ≡ None
 IsAskedBy s (topen fid mode) asked = asked ≡ None
 IsAskedBy s (tread fid offset count) asked = asked ≡ None
-IsAskedBy s (twrite fid offset bytes) asked = IsAskedAt (fid_at s fid) bytes asked
+IsAskedBy s (twrite fid offset bytes) asked = IsAskedAt s.is_agreed (fid_at s fid) bytes asked
 IsAskedBy s (tclunk fid) asked = asked ≡ None
 IsAskedBy s (tother kind body) asked = asked ≡ None
 

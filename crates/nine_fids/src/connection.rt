@@ -1,6 +1,6 @@
 //! What a connection knows.
 
-ghost use Rattle.std.specs.Prelude.{◌≡◌, Some, IfOk, length};
+ghost use Rattle.std.specs.Prelude.{◌≡◌, Some, IsSome, IfOk, OnErr, length};
 ghost use Rattle.nine_fids.specs.Nonce.{greeting};
 ghost use Rattle.nine_fids.specs.States.{begun_with};
 ghost use Rattle.nine_fids.specs.Tests.{fitting_of};
@@ -71,14 +71,15 @@ impl Connection {
         self.caller = Some(who);
     }
 
-    /// The first procap that names who is logged in, the node and the permission, copied.
+    /// The first procap that names who is logged in, the node and the permission, copied. If none does, no memory is taken.
     pub fn fitting(
         &self,
         alloc: Global,
         node: NodeId,
         permission: Perm,
     ) -> Result<Option<Procap>, NoMemory>
-        ensures { IfOk result (λ p. p ≡ fitting_of self.now self.now.caller node permission) }
+        ensures ok { IfOk result (λ p. p ≡ fitting_of self.now self.now.caller node permission) }
+        ensures err { OnErr result (IsSome (fitting_of self.now self.now.caller node permission)) }
     {
         match &self.caller {
             None => Ok(None),

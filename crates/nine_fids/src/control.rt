@@ -1,8 +1,8 @@
 //! What is written to the control file.
 
-ghost use Rattle.std.specs.Prelude.{◌≡◌, ◌≢◌, ◌↔◌, ◌++◌, ℕ, List, codes, IsTrue, IfOk, MatchOption};
+ghost use Rattle.std.specs.Prelude.{◌≡◌, ◌≢◌, ◌↔◌, ◌++◌, ℕ, List, codes, IsTrue, IfOk, OnErr, MatchOption};
 ghost use Rattle.nine_fids.specs.declared.control.Control.{Control as Asked};
-ghost use Rattle.nine_fids.specs.Control.{AreLoginWords, IsControlLine, IsAskedOf, line_in};
+ghost use Rattle.nine_fids.specs.Control.{AreLoginWords, IsControlLine, IsAskedOf, BeginsToBring, line_in};
 
 use bl_syntax::{Bytes, NoMemory, Principal};
 use line_text::{rest_after, word_before};
@@ -90,7 +90,8 @@ fn short_line(line: &[u8]) -> Option<Control>
 
 // What a line asks.
 fn control_in(alloc: Global, line: &[u8]) -> Result<Option<Control>, NoMemory>
-    ensures { IfOk result (λ r. MatchOption r ((c : Asked) → IsControlLine line.now c → ⊥) (IsControlLine line.now)) }
+    ensures ok { IfOk result (λ r. MatchOption r ((c : Asked) → IsControlLine line.now c → ⊥) (IsControlLine line.now)) }
+    ensures err { OnErr result (BeginsToBring line.now) }
 {
     match rest_after(line, b"login ") {
         Some(words) => login_line(alloc, words),
@@ -101,9 +102,11 @@ fn control_in(alloc: Global, line: &[u8]) -> Result<Option<Control>, NoMemory>
     }
 }
 
-/// What bytes that are written to the control file ask: one of its lines, with or without a line end, or nothing.
+/// What bytes that are written to the control file ask: one of its lines, with or without a line end, or nothing. Memory is
+/// taken for a line that brings a signature or a procap alone.
 pub fn read_control(alloc: Global, bytes: &[u8]) -> Result<Option<Control>, NoMemory>
-    ensures { IfOk result (IsAskedOf bytes.now) }
+    ensures ok { IfOk result (IsAskedOf bytes.now) }
+    ensures err { OnErr result (BeginsToBring (line_in bytes.now)) }
 {
     control_in(alloc, line_in(bytes))
 }

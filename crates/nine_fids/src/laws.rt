@@ -12,6 +12,7 @@ ghost use Rattle.nine_fids.specs.declared.fid.FidFile.{FidFile};
 ghost use Rattle.nine_fids.specs.Control.{IsAskedOf};
 ghost use Rattle.nine_fids.specs.Fids.{HasRoomFor};
 ghost use Rattle.nine_fids.specs.Laws.{DoRise, places_of, IsOwnFid};
+ghost use Rattle.nine_fids.specs.Memory.{MemoryComesAfterTests};
 ghost use Rattle.nine_fids.specs.States.{begun_with, fid_at, with_fid, without_fid, IsWithin};
 ghost use Rattle.nine_fids.specs.Steps.{decided};
 ghost use Rattle.nine_fids.specs.Tests.{tests_of};
@@ -41,6 +42,11 @@ pub fn limits_are_kept()
 pub fn sizes_agree()
     ensures { (s : Connection) (asked : Option Control) (m : RequestView)
         → (decided s asked m).1.msize ≡ agreed_after s.msize m }
+{}
+
+/// Memory runs out only for a request that reads or writes what is open in that direction, after a version is agreed.
+pub fn memory_comes_after_tests()
+    ensures { MemoryComesAfterTests }
 {}
 
 /// Before a walk of names there is room for the fid that it makes.

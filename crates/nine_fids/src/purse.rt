@@ -1,6 +1,6 @@
 //! Procaps that a client brought.
 
-ghost use Rattle.std.specs.Prelude.{◌≡◌, ◌<◌, [], ◌∷◌, ◌++◌, length, nat_le, is_some, IfOk, OnOk, OnErr};
+ghost use Rattle.std.specs.Prelude.{◌≡◌, ◌<◌, [], ◌∷◌, ◌++◌, length, nat_le, is_some, IsSome, IfOk, OnOk, OnErr};
 ghost use Rattle.nine_fids.specs.Purse.{is_fitting, fitting};
 
 use bl_syntax::{NoMemory, NodeId, Perm, Principal, Sequence};
@@ -54,7 +54,8 @@ fn copy_fitting(
     node: NodeId,
     permission: Perm,
 ) -> Result<Option<Procap>, NoMemory>
-    ensures { IfOk result (λ p. p ≡ fitting procaps.now who.now node permission) }
+    ensures ok { IfOk result (λ p. p ≡ fitting procaps.now who.now node permission) }
+    ensures err { OnErr result (IsSome (fitting procaps.now who.now node permission)) }
 {
     match procaps {
         [] => Ok(None),
@@ -108,7 +109,7 @@ impl Purse {
         has_fitting(self.procaps.as_slice(), who, node, permission)
     }
 
-    /// The first procap that names the principal, the file and the permission, copied.
+    /// The first procap that names the principal, the file and the permission, copied. If none does, no memory is taken.
     pub fn fitting(
         &self,
         alloc: Global,
@@ -116,7 +117,8 @@ impl Purse {
         node: NodeId,
         permission: Perm,
     ) -> Result<Option<Procap>, NoMemory>
-        ensures { IfOk result (λ p. p ≡ fitting self.now who.now node permission) }
+        ensures ok { IfOk result (λ p. p ≡ fitting self.now who.now node permission) }
+        ensures err { OnErr result (IsSome (fitting self.now who.now node permission)) }
     {
         copy_fitting(alloc, self.procaps.as_slice(), who, node, permission)
     }

@@ -1,9 +1,11 @@
 //! What is done for a request that no test refuses.
 
-ghost use Rattle.std.specs.Prelude.{◌≡◌, Some, IfOk, OnErr};
+ghost use Rattle.std.specs.Prelude.{◌≡◌, Some, true, IfOk, OnErr};
 ghost use Rattle.nine_fids.specs.Fids.{HasRoomFor};
 ghost use Rattle.nine_fids.specs.Steps.{is_served, read_len, file_named, version_outcome, attach_file, walk_names, walk_nowhere, walk_from, walk_outcome, open_file, open_outcome, read_node, read_file, read_outcome, control_done, control_outcome, write_node, write_file, write_outcome};
-ghost use Rattle.nine_fids.specs.Taking.{CanWalk, HasRoomInPurse};
+ghost use Rattle.nine_fids.specs.Memory.{IsOperation};
+ghost use Rattle.nine_fids.specs.Taking.{CanWalk, HasRoomInPurse, IsCopied};
+ghost use Rattle.nine_fids.specs.Tests.{brings_procap};
 
 use crate::connection::Connection;
 use crate::control::Control;
@@ -146,7 +148,8 @@ impl Connection {
         offset: u64,
         count: u32,
     ) -> Result<Step, NoMemory>
-        ensures { IfOk result (λ step. (step, self.now) ≡ read_outcome self.now fid offset count) }
+        ensures ok { IfOk result (λ step. (step, self.now) ≡ read_outcome self.now fid offset count) }
+        ensures err { OnErr result (IsOperation (read_outcome self.now fid offset count).0) }
     {
         match self.fids.get(fid) {
             None => Ok(Step::Refused(NineError::NoFid)),
@@ -161,7 +164,8 @@ impl Connection {
         count: u32,
         file: FidFile,
     ) -> Result<Step, NoMemory>
-        ensures { IfOk result (λ step. (step, self.now) ≡ read_file self.now offset count file) }
+        ensures ok { IfOk result (λ step. (step, self.now) ≡ read_file self.now offset count file) }
+        ensures err { OnErr result (IsOperation (read_file self.now offset count file).0) }
     {
         match file {
             FidFile::Control => Ok(Step::Answered(Answer::Greeting(count))),
@@ -176,7 +180,8 @@ impl Connection {
         count: u32,
         node: NodeId,
     ) -> Result<Step, NoMemory>
-        ensures { IfOk result (λ step. (step, self.now) ≡ read_node self.now offset count node) }
+        ensures ok { IfOk result (λ step. (step, self.now) ≡ read_node self.now offset count node) }
+        ensures err { OnErr result (IsOperation (read_node self.now offset count node).0) }
     {
         let len = read_len(self.msize, count);
         match self.fitting(alloc, node, Perm::Read)? {
@@ -196,7 +201,7 @@ impl Connection {
     ) -> Result<Step, NoMemory>
         requires { HasRoomInPurse self.old asked }
         ensures ok { IfOk result (λ step. (step, self.new) ≡ write_outcome self.old asked fid offset count) }
-        ensures err { OnErr result (self.new ≡ self.old) }
+        ensures err { OnErr result ((self.new ≡ self.old) × IsCopied asked (write_outcome self.old asked fid offset count).0) }
     {
         match self.fids.get(fid) {
             None => Ok(Step::Refused(NineError::NoFid)),
@@ -214,7 +219,7 @@ impl Connection {
     ) -> Result<Step, NoMemory>
         requires { HasRoomInPurse self.old asked }
         ensures ok { IfOk result (λ step. (step, self.new) ≡ write_file self.old asked offset count file) }
-        ensures err { OnErr result (self.new ≡ self.old) }
+        ensures err { OnErr result ((self.new ≡ self.old) × IsCopied asked (write_file self.old asked offset count file).0) }
     {
         match file {
             FidFile::Control => self.control_asked(asked, count),
@@ -223,7 +228,8 @@ impl Connection {
     }
 
     fn write_node(&self, alloc: Global, offset: u64, node: NodeId) -> Result<Step, NoMemory>
-        ensures { IfOk result (λ step. (step, self.now) ≡ write_node self.now offset node) }
+        ensures ok { IfOk result (λ step. (step, self.now) ≡ write_node self.now offset node) }
+        ensures err { OnErr result (IsOperation (write_node self.now offset node).0) }
     {
         match self.fitting(alloc, node, Perm::Write)? {
             None => Ok(Step::Refused(NineError::NoProcap)),
@@ -235,7 +241,7 @@ impl Connection {
     fn control_asked(&mut self, asked: Option<Control>, count: u32) -> Result<Step, NoMemory>
         requires { HasRoomInPurse self.old asked }
         ensures ok { IfOk result (λ step. (step, self.new) ≡ control_outcome self.old count asked) }
-        ensures err { OnErr result (self.new ≡ self.old) }
+        ensures err { OnErr result ((self.new ≡ self.old) × (brings_procap asked ≡ true)) }
     {
         match asked {
             None => Ok(Step::Refused(NineError::NoControl)),
@@ -246,7 +252,7 @@ impl Connection {
     fn control(&mut self, control: Control, count: u32) -> Result<Step, NoMemory>
         requires { HasRoomInPurse self.old (Some control) }
         ensures ok { IfOk result (λ step. (step, self.new) ≡ control_done self.old count control) }
-        ensures err { OnErr result (self.new ≡ self.old) }
+        ensures err { OnErr result ((self.new ≡ self.old) × (brings_procap (Some control) ≡ true)) }
     {
         match control {
             Control::Login(who, signature) => Ok(Step::Login(who, signature)),

@@ -1,13 +1,15 @@
 //! What each request comes to: the tests of its kind, and what is done if none holds.
 
-ghost use Rattle.std.specs.Prelude.{◌≡◌, ◌<◌, ◌^◌, length, IfOk, OnErr};
-ghost use Rattle.nine_messages.specs.Requests.{IsRequest};
+ghost use Rattle.std.specs.Prelude.{◌≡◌, ◌<◌, ◌^◌, length, true, IfOk, OnErr};
+ghost use Rattle.nine_messages.specs.Requests.{IsRequest, twrite};
 ghost use Rattle.nine_messages.specs.Views.{request_view};
+ghost use Rattle.nine_fids.specs.Control.{BeginsToBring, line_in};
+ghost use Rattle.nine_fids.specs.Memory.{IsOperation, MayLackMemory};
 ghost use Rattle.nine_fids.specs.States.{without_fid};
-ghost use Rattle.nine_fids.specs.Tests.{IsAskedAt, version_tests, attach_tests, flush_tests, walk_tests, open_tests, read_tests, clunk_tests};
+ghost use Rattle.nine_fids.specs.Tests.{IsAskedAt, takes_lines, version_tests, attach_tests, flush_tests, walk_tests, open_tests, read_tests, clunk_tests};
 ghost use Rattle.nine_fids.specs.Steps.{tested, version_outcome, attach_outcome, answered, walk_outcome, open_outcome, read_outcome};
 ghost use Rattle.nine_fids.specs.declared.step.Answer.TheVariants as answers;
-ghost use Rattle.nine_fids.specs.Taking.{IsTaken, MayTakeMemory, IsWritten};
+ghost use Rattle.nine_fids.specs.Taking.{IsTaken, IsWritten};
 
 use crate::connection::Connection;
 use crate::control::{Control, read_control};
@@ -20,11 +22,17 @@ use bl_syntax::NoMemory;
 use nine_messages::{LEAST_SIZE, Names, Request};
 use std::alloc::Global;
 
-// What a write asks of the control file: nothing unless it is open for writing.
-fn asked_at(alloc: Global, found: Option<Fid>, bytes: &[u8]) -> Result<Option<Control>, NoMemory>
-    ensures { IfOk result (IsAskedAt found bytes.now) }
+// What a write asks of the control file, if it writes a line of it: a version is agreed, and it is open for writing.
+fn asked_at(
+    alloc: Global,
+    agreed: bool,
+    found: Option<Fid>,
+    bytes: &[u8],
+) -> Result<Option<Control>, NoMemory>
+    ensures ok { IfOk result (IsAskedAt agreed found bytes.now) }
+    ensures err { OnErr result ((takes_lines agreed found ≡ true) × BeginsToBring (line_in bytes.now)) }
 {
-    let is_asked = is_at_control(found) & is_writable(found);
+    let is_asked = agreed & (is_at_control(found) & is_writable(found));
     if is_asked {
         read_control(alloc, bytes)
     } else {
@@ -82,7 +90,8 @@ impl Connection {
     }
 
     fn read(&self, alloc: Global, fid: u32, offset: u64, count: u32) -> Result<Step, NoMemory>
-        ensures { IfOk result (λ step. (step, self.now) ≡ tested self.now (read_tests self.now fid) (read_outcome self.now fid offset count)) }
+        ensures ok { IfOk result (λ step. (step, self.now) ≡ tested self.now (read_tests self.now fid) (read_outcome self.now fid offset count)) }
+        ensures err { OnErr result (IsOperation (tested self.now (read_tests self.now fid) (read_outcome self.now fid offset count)).0) }
     {
         match self.read_refusal(fid) {
             Some(error) => Ok(Step::Refused(error)),
@@ -99,10 +108,10 @@ impl Connection {
     ) -> Result<Step, NoMemory>
         requires { length bytes.now < 2 ^ 32 }
         ensures ok { IfOk result (IsWritten self.old fid offset bytes.now self.new) }
-        ensures err { OnErr result (self.new ≡ self.old) }
+        ensures err { OnErr result ((self.new ≡ self.old) × MayLackMemory self.old (twrite fid offset bytes.now)) }
     {
         let found = self.fids.get(fid);
-        let asked = asked_at(alloc, found, bytes)?;
+        let asked = asked_at(alloc, self.is_agreed, found, bytes)?;
         let count = bytes.len() as u32;
         match self.write_refusal(&asked, fid) {
             Some(error) => Ok(Step::Refused(error)),
@@ -123,11 +132,12 @@ impl Connection {
     }
 
     /// Decides a request. What is answered at once has taken effect; before a walk there is room for the fid that it makes.
-    /// No request but a Tread or a Twrite takes memory, and if there is none, nothing has changed.
+    /// No request but a Tread or a Twrite takes memory, and these only after their tests, or after those before the test of a
+    /// line of the control file; if there is none, nothing has changed.
     pub fn take(&mut self, alloc: Global, request: &Request<'_>) -> Result<Step, NoMemory>
         requires { IsRequest (request_view request.now) }
         ensures ok { IfOk result (λ step. IsTaken self.old (request_view request.now) step self.new) }
-        ensures err { OnErr result ((self.new ≡ self.old) × MayTakeMemory (request_view request.now)) }
+        ensures err { OnErr result ((self.new ≡ self.old) × MayLackMemory self.old (request_view request.now)) }
     {
         match request {
             Request::Version(msize, version) => Ok(self.version(*msize, version)),

@@ -28,9 +28,10 @@ use Rattle.nine_fids.specs.declared.step.Step.TheVariants as steps
 use Rattle.nine_fids.specs.declared.connection.Connection.{Connection}
 use Rattle.nine_fids.specs.Errors.{error_text}
 use Rattle.nine_fids.specs.Steps.{answer_view}
-use Rattle.nine_fids.specs.Taking.{IsTaken, MayTakeMemory}
+use Rattle.nine_fids.specs.Memory.{MayLackMemory}
+use Rattle.nine_fids.specs.Taking.{IsTaken}
 use Rattle.nine_front.specs.Asking.{act_of, bytes_of, IsTurnOf, IsReplyTo, after_login, after_turn}
-use Rattle.nine_front.specs.Placed.{MayLackMemory, MessagePlaced, refused, answered, in_a_turn}
+use Rattle.nine_front.specs.Placed.{MessagePlaced, refused, answered, in_a_turn}
 use Rattle.nine_front.specs.Placed as places
 use Rattle.nine_front.specs.Said.{IsStopped, HasAnswered}
 use Rattle.nine_front.specs.Walked.{MayHaveAsked, ComesTo, NeedsTurns}
@@ -60,10 +61,12 @@ module _ {D : Type 0} (faults : D → ℕ) (gives : List StoreEntry → ℤ → 
     count = 1;
     turns = one_turn old.turns new.turns a.turns;
     known = λ some. seen_history gives request old new replied a;
+    still = λ none. absurd (omega (arith, none));
     placed = λ from within. record {
       to = entries_seen new;
       within = omega arith;
       latest = λ some. refl;
+      still = λ none. absurd (omega (arith, none));
       placed = λ opening entries begins. (
         in_a_turn c.asked step request replied reply (entries_seen new) a.given c.asks c.is is_turn
             (earlier gives (pass_at opening old.number) entries from (entries_seen old) request replied (entries_seen new) a.given within (a.placed opening entries begins)) says,
@@ -74,20 +77,21 @@ module _ {D : Type 0} (faults : D → ℕ) (gives : List StoreEntry → ℤ → 
   }
 
   -- memory ran out before any
-  pub answered_without_memory : (old : PassView (LockEntry D)) → MayLackMemory m → HasAnswered faults gives s m old old (rerror (reply_text lines.NoMemory)) s
+  pub answered_without_memory : (old : PassView (LockEntry D)) → MayLackMemory s m → HasAnswered faults gives s m old old (rerror (reply_text lines.NoMemory)) s
   answered_without_memory old may = record {
     given = [];
     goes_on = stays old;
     count = 0;
     turns = no_turn 0 old.turns;
     known = λ some. absurd (some refl);
-    placed = λ from within. record { to = from; within = within; latest = λ some. absurd (some refl); placed = λ opening entries begins. (places.without_memory may, refl) };
+    still = λ none. refl;
+    placed = λ from within. record { to = from; within = within; latest = λ some. absurd (some refl); still = λ none. refl; placed = λ opening entries begins. (places.without_memory may, refl) };
     stopped = λ is. absurd (not_it (codes "stopped") stopped_apart (codes "nomemory") refl (ap text_in is));
   }
 
   -- one turn was taken, or memory ran out before it
   pub answered_by_turn : (step : Step) (request : TurnRequest) (old new : PassView (LockEntry D)) (replied : TurnReply) (reply : ReplyView) →
-      ComesTo s m step → IsTurnOf s m step request → after_turn s step replied ≡ s → MayLackMemory m → MayHaveAsked gives request old new replied → IsReplyTo (length (bytes_of m)) replied reply → (replied ≡ turn_replies.Stopped → HasSeenFault faults new) →
+      ComesTo s m step → IsTurnOf s m step request → after_turn s step replied ≡ s → MayLackMemory s m → MayHaveAsked gives request old new replied → IsReplyTo (length (bytes_of m)) replied reply → (replied ≡ turn_replies.Stopped → HasSeenFault faults new) →
       HasAnswered faults gives s m old new reply s
   answered_by_turn step request old new replied reply c is_turn same may (inl a) says fault =
       subst (λ (after : Connection). HasAnswered faults gives s m old new reply after) same (answered_in_turn step request old new replied reply c is_turn a says fault)
@@ -108,7 +112,8 @@ module _ {D : Type 0} (faults : D → ℕ) (gives : List StoreEntry → ℤ → 
         count = 0;
         turns = no_turn 0 old.turns;
         known = λ some. absurd (some refl);
-        placed = λ from within. record { to = from; within = within; latest = λ some. absurd (some refl); placed = λ opening entries begins. (refused c.asked error c.asks c.is, refl) };
+        still = λ none. refl;
+        placed = λ from within. record { to = from; within = within; latest = λ some. absurd (some refl); still = λ none. refl; placed = λ opening entries begins. (refused c.asked error c.asks c.is, refl) };
         stopped = λ is. absurd (no_error (codes "stopped") stopped_apart error (ap text_in is));
       })
 
@@ -120,7 +125,8 @@ module _ {D : Type 0} (faults : D → ℕ) (gives : List StoreEntry → ℤ → 
     count = 0;
     turns = no_turn 0 old.turns;
     known = λ some. absurd (some refl);
-    placed = λ from within. record { to = from; within = within; latest = λ some. absurd (some refl); placed = λ opening entries begins. (answered t.asked answer after t.asks (sym t.is), refl) };
+    still = λ none. refl;
+    placed = λ from within. record { to = from; within = within; latest = λ some. absurd (some refl); still = λ none. refl; placed = λ opening entries begins. (answered t.asked answer after t.asks (sym t.is), refl) };
     stopped = λ is. absurd (no_answer (codes "stopped") stopped_apart s.nonce answer is);
   }
 
@@ -141,7 +147,7 @@ module _ {D : Type 0} (faults : D → ℕ) (gives : List StoreEntry → ℤ → 
       count ≡ length (bytes_of m) → IsReplyTo count replied reply → HasAnswered faults gives s m old new reply s
   was_read node p offset len who old new replied reply count c caller a fault counts says =
       answered_by_turn (steps.Read node p offset len) (act_of who (operations.Read node offset len) p) old new replied reply c (who, caller, refl) refl
-      (comes_to s m (steps.Read node p offset len) c).1.1.0 a (subst (λ (n : ℕ). IsReplyTo n replied reply) counts says) fault
+      (may_lack s m (steps.Read node p offset len) c tt) a (subst (λ (n : ℕ). IsReplyTo n replied reply) counts says) fault
 
   -- a writing
   pub was_written : (node : NodeId) (p : Procap) (offset : ℕ) (bytes : List ℕ) (who : List ℕ) (old new : PassView (LockEntry D)) (replied : TurnReply) (reply : ReplyView) (count : ℕ) →
@@ -149,13 +155,13 @@ module _ {D : Type 0} (faults : D → ℕ) (gives : List StoreEntry → ℤ → 
       count ≡ length (bytes_of m) → IsReplyTo count replied reply → HasAnswered faults gives s m old new reply s
   was_written node p offset bytes who old new replied reply count c caller same a fault counts says =
       answered_by_turn (steps.Write node p offset) (act_of who (operations.Write node offset (bytes_of m)) p) old new replied reply c (who, caller, refl) refl
-      (comes_to s m (steps.Write node p offset) c).1.1
+      (may_lack s m (steps.Write node p offset) c tt)
       (subst (λ (b : List ℕ). MayHaveAsked gives (act_of who (operations.Write node offset b) p) old new replied) same a) (subst (λ (n : ℕ). IsReplyTo n replied reply) counts says) fault
 
   -- memory ran out as the request was taken
-  pub answered_untaken : (after : Connection) (old : PassView (LockEntry D)) → (after ≡ s) × MayTakeMemory m → HasAnswered faults gives s m old old (rerror (reply_text lines.NoMemory)) after
+  pub answered_untaken : (after : Connection) (old : PassView (LockEntry D)) → (after ≡ s) × MayLackMemory s m → HasAnswered faults gives s m old old (rerror (reply_text lines.NoMemory)) after
   answered_untaken after old lacks =
-      subst (λ (a : Connection). HasAnswered faults gives s m old old (rerror (reply_text lines.NoMemory)) a) (sym lacks.0) (answered_without_memory old (may_lack m lacks.1))
+      subst (λ (a : Connection). HasAnswered faults gives s m old old (rerror (reply_text lines.NoMemory)) a) (sym lacks.0) (answered_without_memory old lacks.1)
 
 -- what turns reply is short
 module _ {D : Type 0} (gives : List StoreEntry → ℤ → Type 0) (old new : PassView (LockEntry D)) (replied : TurnReply) where
@@ -165,7 +171,7 @@ module _ {D : Type 0} (gives : List StoreEntry → ℤ → Type 0) (old new : Pa
 
   pub read_short : (s : Connection) (m : RequestView) (node : NodeId) (p : Procap) (offset len : ℕ) (who : List ℕ) → ComesTo s m (steps.Read node p offset len) → MayHaveAsked gives (act_of who (operations.Read node offset len) p) old new replied → IsShortReply 65536 replied
   read_short s m node p offset len who c a =
-      may_asked_short 65536 gives (act_of who (operations.Read node offset len) p) old new replied (read_shortly node offset len (comes_to s m (steps.Read node p offset len) c).1.1.1) a
+      may_asked_short 65536 gives (act_of who (operations.Read node offset len) p) old new replied (read_shortly node offset len (comes_to s m (steps.Read node p offset len) c).1.1) a
 
   pub write_short : (node : NodeId) (p : Procap) (offset : ℕ) (bytes who : List ℕ) → MayHaveAsked gives (act_of who (operations.Write node offset bytes) p) old new replied → IsShortReply 65536 replied
   write_short node p offset bytes who a = may_asked_short 65536 gives (act_of who (operations.Write node offset bytes) p) old new replied (write_shortly node offset bytes) a

@@ -1,5 +1,5 @@
 -- How a connection ends, by what was taken and answered.
-use Rattle.std.proofs.Common.{◌≡◌, ◌∙◌, ◌+◌, ◌≤◌, ℕ, List, [], ◌∷◌, ◌++◌, length, Option, true, false, refl, sym, ap, subst, arith, length-append}
+use Rattle.std.proofs.Common.{◌≡◌, ◌∙◌, ◌+◌, ◌≤◌, ◌<◌, ℕ, List, [], ◌∷◌, ◌++◌, length, Option, true, false, refl, sym, ap, subst, arith, length-append}
 use Rattle.std.specs.Prelude.{ℤ}
 use Rattle.pcfs_ports.specs.Faults.{HasRisen}
 use Rattle.pcfs_ports.specs.Observable.{with_front, IsAtEnd}
@@ -58,7 +58,7 @@ module _ {D : Type 0} (faults : D → ℕ) (gives : List StoreEntry → ℤ → 
   pub NineEnds-unbegun : (after : Streams) → after.left ≡ before.left → after.held ≡ before.held → NineEnds faults gives nonce old old before ends.NoMemory after
   NineEnds-unbegun after left held =
       whole.no_memory after [] []
-      (record { bytes = []; rest = []; agreed = 65536; taken = with_front-nil before.left ∙ ap (with_front []) (sym left); cut = none 65536 []; few = omega arith })
+      (record { bytes = []; rest = []; agreed = 65536; taken = with_front-nil before.left ∙ ap (with_front []) (sym left); cut = none 65536 []; few = omega arith; limit = omega arith })
       (Speaks-said faults gives nonce (begun_with nonce) old old [] [] (HasSaid-none faults gives (begun_with nonce) old))
       (none_out before.held after.held held)
 
@@ -86,37 +86,37 @@ module _ {D : Type 0} (faults : D → ℕ) (gives : List StoreEntry → ℤ → 
 
     module _ (now : PassView (LockEntry D)) (s : Connection) (framer : FramerState) where
       -- all messages that came whole
-      all_taken : (held : Option (List ℕ)) (count : ℕ) → (r : IsReading now s framer after.left held count) → AreAllTaken before.left after.left r.messages
-      all_taken held count r = record { bytes = r.bytes; rest = framer.left; agreed = framer.agreed; taken = r.taken; cut = r.cut; is_open = r.is_open }
+      all_taken : (held : Option (List ℕ)) (count : ℕ) → count ≤ 1073741824 → (r : IsReading now s framer after.left held count) → AreAllTaken before.left after.left r.messages
+      all_taken held count few r = record { bytes = r.bytes; rest = framer.left; agreed = framer.agreed; taken = r.taken; cut = r.cut; is_open = r.is_open; limit = omega (arith, few, r.counted) }
 
-      pub NineEnds-read_fault : (left : Option (List ℕ)) (count : ℕ) → IsReading now s framer left after.held count → after.left ≡ left → HasRisen before.read_faults after.read_faults → NineEnds faults gives nonce old now before ends.ReadFault after
-      NineEnds-read_fault left count reading same risen =
+      pub NineEnds-read_fault : (left : Option (List ℕ)) (count : ℕ) → count ≤ 1073741824 → IsReading now s framer left after.held count → after.left ≡ left → HasRisen before.read_faults after.read_faults → NineEnds faults gives nonce old now before ends.ReadFault after
+      NineEnds-read_fault left count few reading same risen =
           let r = subst (λ (l : Option (List ℕ)). IsReading now s framer l after.held count) (sym same) reading in
-          whole.written ends.ReadFault after r.messages r.spoken.replies (whole.read_fault r.messages r.spoken.replies risen (all_taken after.held count r) (speaks r.messages now s after.held r.spoken)) r.spoken.out
+          whole.written ends.ReadFault after r.messages r.spoken.replies (whole.read_fault r.messages r.spoken.replies risen (all_taken after.held count few r) (speaks r.messages now s after.held r.spoken)) r.spoken.out
 
       pub NineEnds-too_long : (count : ℕ) → IsReading now s framer after.left after.held count → count ≡ 1073741824 → NineEnds faults gives nonce old now before ends.InputTooLong after
       NineEnds-too_long count r all =
           whole.written ends.InputTooLong after r.messages r.spoken.replies
-          (whole.input_too_long r.messages r.spoken.replies (first_of_taken r.bytes 1073741824 before.left after.left (r.counted ∙ all) r.taken) (all_taken after.held count r) (speaks r.messages now s after.held r.spoken))
+          (whole.input_too_long r.messages r.spoken.replies (first_of_taken r.bytes 1073741824 before.left after.left (r.counted ∙ all) r.taken) (all_taken after.held count (omega (arith, all)) r) (speaks r.messages now s after.held r.spoken))
           r.spoken.out
 
       -- the end of the input, at which these bytes are left of it
-      ends_open : (count : ℕ) (r : IsReading now s framer after.left after.held count) (rest : List ℕ) → Cuts 65536 r.bytes r.messages framer.agreed rest → IsOpen framer.agreed rest → IsAtEnd after.left → NineEnds faults gives nonce old now before (open_end rest) after
-      ends_open count r [] cut is_open at_end =
+      ends_open : (count : ℕ) → count < 1073741824 → (r : IsReading now s framer after.left after.held count) (rest : List ℕ) → Cuts 65536 r.bytes r.messages framer.agreed rest → IsOpen framer.agreed rest → IsAtEnd after.left → NineEnds faults gives nonce old now before (open_end rest) after
+      ends_open count few r [] cut is_open at_end =
           whole.written ends.Done after r.messages r.spoken.replies
-          (whole.done r.messages r.spoken.replies (record { bytes = r.bytes; agreed = framer.agreed; read = ReadsToEnd-taken r.bytes before.left after.left r.taken at_end; cut = cut }) (speaks r.messages now s after.held r.spoken))
+          (whole.done r.messages r.spoken.replies (record { bytes = r.bytes; agreed = framer.agreed; read = ReadsToEnd-taken r.bytes before.left after.left r.taken at_end; cut = cut; limit = omega (arith, few, r.counted) }) (speaks r.messages now s after.held r.spoken))
           r.spoken.out
-      ends_open count r (byte ∷ rest) cut is_open at_end =
+      ends_open count few r (byte ∷ rest) cut is_open at_end =
           whole.written ends.BadMessage after r.messages r.spoken.replies
           (whole.cut_off r.messages r.spoken.replies
-          (record { bytes = r.bytes; rest = byte ∷ rest; agreed = framer.agreed; read = ReadsToEnd-taken r.bytes before.left after.left r.taken at_end; cut = cut; some = omega arith; is_open = is_open })
+          (record { bytes = r.bytes; rest = byte ∷ rest; agreed = framer.agreed; read = ReadsToEnd-taken r.bytes before.left after.left r.taken at_end; cut = cut; some = omega arith; is_open = is_open; limit = omega (arith, few, r.counted) })
           (speaks r.messages now s after.held r.spoken))
           r.spoken.out
 
-      pub NineEnds-last : (left : Option (List ℕ)) (count : ℕ) (how : NineEnd) → IsReading now s framer left after.held count → left ≡ after.left → IsAtEnd after.left → how ≡ open_end framer.left → NineEnds faults gives nonce old now before how after
-      NineEnds-last left count how reading same at_end is =
+      pub NineEnds-last : (left : Option (List ℕ)) (count : ℕ) (how : NineEnd) → count < 1073741824 → IsReading now s framer left after.held count → left ≡ after.left → IsAtEnd after.left → how ≡ open_end framer.left → NineEnds faults gives nonce old now before how after
+      NineEnds-last left count how few reading same at_end is =
           let r = subst (λ (l : Option (List ℕ)). IsReading now s framer l after.held count) same reading in
-          subst (λ (h : NineEnd). NineEnds faults gives nonce old now before h after) (sym is) (ends_open count r framer.left r.cut r.is_open at_end)
+          subst (λ (h : NineEnd). NineEnds faults gives nonce old now before h after) (sym is) (ends_open count few r framer.left r.cut r.is_open at_end)
 
     -- ---- at a piece
 
@@ -125,7 +125,7 @@ module _ {D : Type 0} (faults : D → ℕ) (gives : List StoreEntry → ℤ → 
     by_fault new Write messages replies risen taken said some = whole.write_fault after messages replies (risen refl) taken said some
     by_fault new NoMemory messages replies risen taken said some = whole.no_memory after messages replies taken said some
 
-    module _ (now new : PassView (LockEntry D)) (s s_after : Connection) (framer : FramerState) (piece : List ℕ) (left held : Option (List ℕ)) (count : ℕ) (r : IsReading now s framer left held count) (more : left ≡ with_front piece after.left) where
+    module _ (now new : PassView (LockEntry D)) (s s_after : Connection) (framer : FramerState) (piece : List ℕ) (left held : Option (List ℕ)) (count : ℕ) (r : IsReading now s framer left held count) (more : left ≡ with_front piece after.left) (small : length piece ≤ 65536) (fits : count + length piece ≤ 1073741824) where
       -- a bad message comes after those that were answered
       at_bad_message : (framer_after : FramerState) → SpeaksHeld faults gives (fed framer piece) framer_after true s now new s_after held after.held → NineEnds faults gives nonce old new before ends.BadMessage after
       at_bad_message framer_after all =
@@ -139,14 +139,16 @@ module _ {D : Type 0} (faults : D → ℕ) (gives : List StoreEntry → ℤ → 
             taken = also_taken r.bytes piece left after.left r.taken more;
             cut = cuts_then 65536 framer.agreed framer_after.agreed r.bytes framer.left piece framer_after.left r.messages all.messages r.cut all.cut;
             is_bad = all.over;
+            few = few_rest framer.agreed framer_after.agreed framer.left piece framer_after.left all.messages (cuts_few 65536 framer.agreed r.bytes framer.left r.messages (omega arith) r.cut) r.is_open small all.cut;
+            limit = omega (arith, fits, r.counted, length-append r.bytes piece);
           })
           (speaks (r.messages ++ all.messages) new s_after after.held both))
           both.out
 
       -- a reply was not written
-      at_message : (fault : SendFault) → length piece ≤ 65536 → (unsent_end fault ≡ ends.WriteFault → HasRisen before.write_faults after.write_faults) → IsCutWithin faults gives (fed framer piece) s now new s_after held after.held →
+      at_message : (fault : SendFault) → (unsent_end fault ≡ ends.WriteFault → HasRisen before.write_faults after.write_faults) → IsCutWithin faults gives (fed framer piece) s now new s_after held after.held →
           NineEnds faults gives nonce old new before (unsent_end fault) after
-      at_message fault small risen w =
+      at_message fault risen w =
           let cut = IsCutOff-then faults gives r.messages w.messages (begun_with nonce) old now new s s_after before.held held after.held r.spoken w.off in
           by_fault new fault (r.messages ++ w.messages) cut.replies risen
           (record {
@@ -156,9 +158,10 @@ module _ {D : Type 0} (faults : D → ℕ) (gives : List StoreEntry → ℤ → 
             taken = also_taken r.bytes piece left after.left r.taken more;
             cut = cuts_then 65536 framer.agreed w.agreed r.bytes framer.left piece w.rest r.messages w.messages r.cut w.cut;
             few = few_rest framer.agreed w.agreed framer.left piece w.rest w.messages (cuts_few 65536 framer.agreed r.bytes framer.left r.messages (omega arith) r.cut) r.is_open small w.cut;
+            limit = omega (arith, fits, r.counted, length-append r.bytes piece);
           })
           (Speaks-said faults gives nonce s_after old new (r.messages ++ w.messages) cut.replies cut.said) cut.some
 
-      pub NineEnds-piece : (how : NineEnd) → length piece ≤ 65536 → (how ≡ ends.WriteFault → HasRisen before.write_faults after.write_faults) → EndsAtPiece faults gives framer piece s now new s_after held after.held how → NineEnds faults gives nonce old new before how after
-      NineEnds-piece _ small risen (at_bad framer_after all) = at_bad_message framer_after all
-      NineEnds-piece _ small risen (cut_short fault w) = at_message fault small risen w
+      pub NineEnds-piece : (how : NineEnd) → (how ≡ ends.WriteFault → HasRisen before.write_faults after.write_faults) → EndsAtPiece faults gives framer piece s now new s_after held after.held how → NineEnds faults gives nonce old new before how after
+      NineEnds-piece _ risen (at_bad framer_after all) = at_bad_message framer_after all
+      NineEnds-piece _ risen (cut_short fault w) = at_message fault risen w

@@ -1,6 +1,10 @@
 -- of connections and their messages
+pub mod AskedLemmas
+pub mod CallerLemmas
+pub mod ConnectionLemmas
 pub mod CutLemmas
 pub mod EndsLemmas
+pub mod FewLemmas
 pub mod LimitLemmas
 pub mod PlacedLemmas
 pub mod SaidLemmas

@@ -66,7 +66,7 @@ module _ (gives : List StoreEntry → ℤ → Type 0) (p : StorePass) (history :
       absurd (no_text word stopped_apart (walk_reply (files.Node child kind ∷ found) end) refl is)
   walk_stopped purse who _ _ _ _ _ _ _ (places.ends from to node name names q replied kind line given fits turn named told) is = turn_stopped from _ replied to given turn.placed (stopped_line replied line told (ap text_in is))
   walk_stopped purse who _ _ _ _ _ _ _ (no_procap from node name names none) is = absurd (no_error word stopped_apart errors.NoProcap (ap text_in is))
-  walk_stopped purse who _ _ _ _ _ _ _ (places.lacks_memory from node name names) is = absurd (not_it word stopped_apart (codes "nomemory") refl (ap text_in is))
+  walk_stopped purse who _ _ _ _ _ _ _ (places.lacks_memory from node name names q fits) is = absurd (not_it word stopped_apart (codes "nomemory") refl (ap text_in is))
 
   pub message_stopped : (s : Connection) (from : ℕ) (m : RequestView) (reply : ReplyView) (after : Connection) (to : ℕ) (given : List StoreEntry) → IsStopped reply → MessagePlaced gives p history from s m reply after to given → has_stop (take to history) ≡ true
   message_stopped s from m _ _ _ _ is (refused asked error asks decides) = absurd (no_error word stopped_apart error (ap text_in is))

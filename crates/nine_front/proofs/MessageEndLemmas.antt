@@ -45,6 +45,7 @@ use Rattle.nine_front.specs.Asking.{act_of, look_of, bytes_of, step_reply_view, 
 use Rattle.nine_front.specs.Laws.{IsCalm, HasMessageEnd}
 use Rattle.nine_front.specs.Placed.{WalksPlaced, all_found, goes_on, no_procap, walk_reply, MessagePlaced, refused, answered, in_a_turn, walks}
 use Rattle.nine_front.specs.Placed as places
+use Rattle.nine_front.specs.Turns.{walk_turns, WalkHadMemory, message_turns, HadMemory, AreUndisturbed}
 use Rattle.nine_front.proofs.StepLemmas.{IsNameWalk, IsOutcome, outcome_is}
 use Rattle.nine_front.proofs.WordLemmas.{stopped_apart, memory_apart, text_in, not_it, no_step_text, no_error, no_text, no_answer, no_step}
 
@@ -144,26 +145,30 @@ module _ (gives : List StoreEntry → ℤ → Type 0) (p : StorePass) (always : 
   -- ---- walks
 
   module _ (purse : List Procap) (who : List ℕ) (named : IsTrue (is_principal_name who)) where
+    -- a walk of which no turn was disturbed, and memory did not run out before one
+    abbrev IsCalmWalk : List StoreEntry → ℕ → NodeId → List (List ℕ) → List FidFile → Option (List ℕ) → ℕ → List StoreEntry → Type 0
+    IsCalmWalk history from node names found end to given = (walk : WalksPlaced gives p history purse who from node names found end to given) × (WalkHadMemory walk × AreUndisturbed (walk_turns walk))
+
     record HasWalkEnd (before : List StoreEntry) (node : NodeId) (names : List (List ℕ)) : Type 0 where
       found : List FidFile
       end : Option (List ℕ)
       given : List StoreEntry
-      placed : WalksPlaced gives p (before ++ given) purse who (length before) node names found end (length before + length given) given
+      placed : IsCalmWalk (before ++ given) (length before) node names found end (length before + length given) given
       calm : IsCalm (walk_reply found end)
 
     -- a walk that is placed where nothing is added
-    at_rest : (before : List StoreEntry) (node : NodeId) (names : List (List ℕ)) (end : Option (List ℕ)) → WalksPlaced gives p (before ++ []) purse who (length before) node names [] end (length before) [] → IsCalm (walk_reply [] end) → HasWalkEnd before node names
+    at_rest : (before : List StoreEntry) (node : NodeId) (names : List (List ℕ)) (end : Option (List ℕ)) → IsCalmWalk (before ++ []) (length before) node names [] end (length before) [] → IsCalm (walk_reply [] end) → HasWalkEnd before node names
     at_rest before node names end placed calm =
         let same : length before ≡ length before + length {A = StoreEntry} [] = omega arith in
-        record { found = []; end = end; given = []; placed = subst (λ (n : ℕ). WalksPlaced gives p (before ++ []) purse who (length before) node names [] end n []) same placed; calm = calm }
+        record { found = []; end = end; given = []; placed = subst (λ (n : ℕ). IsCalmWalk (before ++ []) (length before) node names [] end n []) same placed; calm = calm }
 
     -- the same walk, said otherwise
     as_walk : (history also : List StoreEntry) (from at : ℕ) (node : NodeId) (names : List (List ℕ)) (found : List FidFile) (end : Option (List ℕ)) (to last : ℕ) (given : List StoreEntry) → history ≡ also → from ≡ at → to ≡ last →
-        WalksPlaced gives p history purse who from node names found end to given → WalksPlaced gives p also purse who at node names found end last given
+        IsCalmWalk history from node names found end to given → IsCalmWalk also at node names found end last given
     as_walk history also from at node names found end to last given one two three placed =
-        subst (λ (h : List StoreEntry). WalksPlaced gives p h purse who at node names found end last given) one
-        (subst (λ (n : ℕ). WalksPlaced gives p history purse who n node names found end last given) two
-        (subst (λ (n : ℕ). WalksPlaced gives p history purse who from node names found end n given) three placed))
+        subst (λ (h : List StoreEntry). IsCalmWalk h at node names found end last given) one
+        (subst (λ (n : ℕ). IsCalmWalk history n node names found end last given) two
+        (subst (λ (n : ℕ). IsCalmWalk history from node names found end n given) three placed))
 
     module _ (before : List StoreEntry) (node : NodeId) (name : List ℕ) (names : List (List ℕ)) (q : Procap) (fits : fitting purse who node perms.Execute ≡ Some q) (t : HasTurnEnd before (look_of who node name q)) where
       ends_here : node_named t.reply ≡ None → HasWalkEnd before node (name ∷ names)
@@ -174,9 +179,11 @@ module _ (gives : List StoreEntry → ℤ → Type 0) (p : StorePass) (always : 
             found = [];
             end = Some (reply_text told.line);
             given = t.given;
-            placed =
-                places.ends (length before) (length before + length t.given) node name names q t.reply (names_directory (state_of_entries p.root (before ++ t.given)) t.reply) told.line t.given fits
-                (record { placed = placed_last before t.given (look_of who node name q) t.reply t.turn; told = refl }) none told.told;
+            placed = (
+              places.ends (length before) (length before + length t.given) node name names q t.reply (names_directory (state_of_entries p.root (before ++ t.given)) t.reply) told.line t.given fits
+              (record { placed = placed_last before t.given (look_of who node name q) t.reply t.turn; told = refl }) none told.told,
+              (tt, (t.calm, tt)),
+            );
             calm = told.calm;
           }
 
@@ -186,15 +193,18 @@ module _ (gives : List StoreEntry → ℤ → Type 0) (p : StorePass) (always : 
           let here : length (before ++ t.given) ≡ length before + length t.given = length-append before t.given in
           let last : length (before ++ t.given) + length rest.given ≡ length before + length (t.given ++ rest.given) = omega (arith, here, length-append t.given rest.given) in
           let kind : Bool = names_directory (state_of_entries p.root (before ++ t.given)) t.reply in
+          let others =
+          as_walk ((before ++ t.given) ++ rest.given) (before ++ (t.given ++ rest.given)) (length (before ++ t.given)) (length before + length t.given) child names rest.found rest.end
+          (length (before ++ t.given) + length rest.given) (length before + length (t.given ++ rest.given)) rest.given (append_assoc before t.given rest.given) here last rest.placed in
           record {
             found = files.Node child kind ∷ rest.found;
             end = rest.end;
             given = t.given ++ rest.given;
-            placed =
-                goes_on (length before) (length before + length t.given) (length before + length (t.given ++ rest.given)) node child name names q t.reply kind rest.found rest.end t.given rest.given fits
-                (record { placed = placed_front before t.given rest.given (look_of who node name q) t.reply t.turn; told = refl }) is
-                (as_walk ((before ++ t.given) ++ rest.given) (before ++ (t.given ++ rest.given)) (length (before ++ t.given)) (length before + length t.given) child names rest.found rest.end
-                (length (before ++ t.given) + length rest.given) (length before + length (t.given ++ rest.given)) rest.given (append_assoc before t.given rest.given) here last rest.placed);
+            placed = (
+              goes_on (length before) (length before + length t.given) (length before + length (t.given ++ rest.given)) node child name names q t.reply kind rest.found rest.end t.given rest.given fits
+              (record { placed = placed_front before t.given rest.given (look_of who node name q) t.reply t.turn; told = refl }) is others.0,
+              (others.1.0, (t.calm, others.1.1)),
+            );
             calm = calm_without (walk_reply (files.Node child kind ∷ rest.found) rest.end) refl;
           }
 
@@ -205,24 +215,29 @@ module _ (gives : List StoreEntry → ℤ → Type 0) (p : StorePass) (always : 
     step_end : (before : List StoreEntry) (node : NodeId) (name : List ℕ) (names : List (List ℕ)) (o : Option Procap) → fitting purse who node perms.Execute ≡ o → has_stop before ≡ false →
         ((entries : List StoreEntry) → has_stop entries ≡ false → (child : NodeId) → HasWalkEnd entries child names) → HasWalkEnd before node (name ∷ names)
     step_end before node name names None none running rest =
-        at_rest before node (name ∷ names) (Some (error_text errors.NoProcap)) (no_procap (length before) node name names none)
+        at_rest before node (name ∷ names) (Some (error_text errors.NoProcap)) (no_procap (length before) node name names none, (tt, tt))
         (calm_text (error_text errors.NoProcap) (no_error (codes "nomemory") memory_apart errors.NoProcap) (no_error (codes "stopped") stopped_apart errors.NoProcap))
     step_end before node name names (Some q) fits running rest =
         let t = turn_end before (look_of who node name q) running (act_formed who (operations.Lookup node name) q named tt refl (omega arith)) tt in
         by_node before node name names q fits t (node_named t.reply) refl (λ child. rest (before ++ t.given) t.running child)
 
     walk_end : (names : List (List ℕ)) (before : List StoreEntry) (node : NodeId) → has_stop before ≡ false → HasWalkEnd before node names
-    walk_end [] before node running = at_rest before node [] None (all_found (length before) node) (calm_without (walk_reply [] None) refl)
+    walk_end [] before node running = at_rest before node [] None (all_found (length before) node, (tt, tt)) (calm_without (walk_reply [] None) refl)
     walk_end (name ∷ names) before node running = step_end before node name names (fitting purse who node perms.Execute) refl running (λ entries goes child. walk_end names entries child goes)
 
   -- ---- messages
 
+  -- a message of which no turn was disturbed, and memory did not run out before one
+  abbrev IsCalmMessage : List StoreEntry → ℕ → Connection → RequestView → ReplyView → Connection → ℕ → List StoreEntry → Type 0
+  IsCalmMessage history from s m reply after to given = (one : MessagePlaced gives p history from s m reply after to given) × (HadMemory one × AreUndisturbed (message_turns one))
+
   module _ (s : Connection) (m : RequestView) (asked : Option Control) (asks : IsAskedBy s m asked) (before : List StoreEntry) (running : has_stop before ≡ false) where
     -- without a turn
-    at_once : (reply : ReplyView) (after : Connection) → MessagePlaced gives p (before ++ []) (length before) s m reply after (length before) [] → IsCalm reply → HasMessageEnd gives p before s m
+    at_once : (reply : ReplyView) (after : Connection) → IsCalmMessage (before ++ []) (length before) s m reply after (length before) [] → IsCalm reply → HasMessageEnd gives p before s m
     at_once reply after placed calm =
         let same : length before ≡ length before + length {A = StoreEntry} [] = omega arith in
-        record { reply = reply; after = after; given = []; placed = subst (λ (n : ℕ). MessagePlaced gives p (before ++ []) (length before) s m reply after n []) same placed; calm = calm }
+        let one = subst (λ (n : ℕ). IsCalmMessage (before ++ []) (length before) s m reply after n []) same placed in
+        record { reply = reply; after = after; given = []; placed = one.0; calm = calm; had_memory = one.1.0; undisturbed = one.1.1 }
 
     one_turn : (step : Step) (request : TurnRequest) → decided s asked m ≡ (step, s) → IsTurnOf s m step request → IsTurnFormed request → IsSingle request → HasMessageEnd gives p before s m
     one_turn step request is turns formed single =
@@ -234,6 +249,8 @@ module _ (gives : List StoreEntry → ℤ → Type 0) (p : StorePass) (always : 
           given = t.given;
           placed = in_a_turn asked step request t.reply told.view (length before + length t.given) t.given asks is turns (placed_last before t.given request t.reply t.turn) told.told;
           calm = told.calm;
+          had_memory = tt;
+          undisturbed = (t.calm, tt);
         }
 
     names_walked : (fid newfid : ℕ) (names : List (List ℕ)) (node : NodeId) (who : List ℕ) → m ≡ twalk fid newfid names → decided s None m ≡ (steps.Walk node, s) → s.caller ≡ Some who → IsTrue (is_principal_name who) → HasMessageEnd gives p before s m
@@ -243,8 +260,10 @@ module _ (gives : List StoreEntry → ℤ → Type 0) (p : StorePass) (always : 
           reply = walk_reply w.found w.end;
           after = walked s newfid (length names) w.found;
           given = w.given;
-          placed = walks fid newfid names node who w.found w.end (length before + length w.given) w.given same is caller w.placed;
+          placed = walks fid newfid names node who w.found w.end (length before + length w.given) w.given same is caller w.placed.0;
           calm = w.calm;
+          had_memory = w.placed.1.0;
+          undisturbed = w.placed.1.1;
         }
 
   -- what is decided, and the state after it
@@ -270,10 +289,10 @@ module _ (gives : List StoreEntry → ℤ → Type 0) (p : StorePass) (always : 
   module _ (s : Connection) (m : RequestView) (asked : Option Control) (asks : IsAskedBy s m asked) (before : List StoreEntry) (running : has_stop before ≡ false) (named : IsNamed s.caller) (few : length (bytes_of m) ≤ 65536) where
     by_step : (step : Step) (after : Connection) → decided s asked m ≡ (step, after) → IsOutcome s m step after → HasMessageEnd gives p before s m
     by_step (steps.Refused error) after is out =
-        at_once s m asked asks before running (rerror (error_text error)) s (refused asked error asks (as_decided s after asked m (steps.Refused error) is out))
+        at_once s m asked asks before running (rerror (error_text error)) s (refused asked error asks (as_decided s after asked m (steps.Refused error) is out), (tt, tt))
         (calm_text (error_text error) (no_error (codes "nomemory") memory_apart error) (no_error (codes "stopped") stopped_apart error))
     by_step (steps.Answered answer) after is out =
-        at_once s m asked asks before running (answer_view s.nonce answer) after (answered asked answer after asks is)
+        at_once s m asked asks before running (answer_view s.nonce answer) after (answered asked answer after asks is, (tt, tt))
         (λ told. no_answer (codes "nomemory") memory_apart s.nonce answer told, λ told. no_answer (codes "stopped") stopped_apart s.nonce answer told)
     by_step (steps.Login who signature) after is out =
         one_turn s m asked asks before running (steps.Login who signature) (requests.Login who s.nonce signature) (as_decided s after asked m (steps.Login who signature) is out) refl tt tt
@@ -282,7 +301,7 @@ module _ (gives : List StoreEntry → ℤ → Type 0) (p : StorePass) (always : 
         one_turn s m asked asks before running (steps.Read node q offset len) (act_of who.0 (operations.Read node offset len) q) (as_decided s after asked m (steps.Read node q offset len) is out.0) (who.0, who.1, refl)
         (act_formed who.0 (operations.Read node offset len) q (who_named s who.0 named who.1) tt refl (omega arith)) tt
     by_step (steps.Write node q offset) after is out =
-        let who = out.1.0 in
+        let who = out.1 in
         one_turn s m asked asks before running (steps.Write node q offset) (act_of who.0 (operations.Write node offset (bytes_of m)) q) (as_decided s after asked m (steps.Write node q offset) is out.0) (who.0, who.1, refl)
         (act_formed who.0 (operations.Write node offset (bytes_of m)) q (who_named s who.0 named who.1) tt refl few) tt
     by_step (steps.Walk node) after is out = walk_message s m asked before node asks named running (as_decided s after asked m (steps.Walk node) is out.0) out.1

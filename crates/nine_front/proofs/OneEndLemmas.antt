@@ -92,7 +92,7 @@ module _ (gives : List StoreEntry → ℤ → Type 0) (p : StorePass) (history :
         absurd (none-some child (sym named' ∙ sym (ap node_named (ap (λ (t : TurnTold). t.reply) first)) ∙ named))
     walk_once _ _ _ _ _ _ _ _ _ _ _ _ _ (goes_on from at to node child name names q replied kind found end given more fits turn named rest) (no_procap from' node' _ _ none') place here had also turns =
         none_first (told_by replied kind at given) (walk_turns rest) turns
-    walk_once _ _ _ _ _ _ _ _ _ _ _ _ _ (goes_on from at to node child name names q replied kind found end given more fits turn named rest) (lacks_memory from' node' _ _) place here had also turns = absurd also
+    walk_once _ _ _ _ _ _ _ _ _ _ _ _ _ (goes_on from at to node child name names q replied kind found end given more fits turn named rest) (lacks_memory from' node' _ _ q' fits') place here had also turns = absurd also
     walk_once _ _ _ _ _ _ _ _ _ _ _ _ _ (places.ends from to node name names q replied kind line given fits turn named is)
         (goes_on from' at' to' node' child' _ _ q' replied' kind' found' end' given' more' fits' turn' named' rest') place here had also turns =
         let first = first_same (told_by replied kind to given) (told_by replied' kind' at' given') [] (walk_turns rest') turns in
@@ -109,14 +109,14 @@ module _ (gives : List StoreEntry → ℤ → Type 0) (p : StorePass) (history :
         }
     walk_once _ _ _ _ _ _ _ _ _ _ _ _ _ (places.ends from to node name names q replied kind line given fits turn named is) (no_procap from' node' _ _ none') place here had also turns =
         none_first (told_by replied kind to given) [] turns
-    walk_once _ _ _ _ _ _ _ _ _ _ _ _ _ (places.ends from to node name names q replied kind line given fits turn named is) (lacks_memory from' node' _ _) place here had also turns = absurd also
+    walk_once _ _ _ _ _ _ _ _ _ _ _ _ _ (places.ends from to node name names q replied kind line given fits turn named is) (lacks_memory from' node' _ _ q' fits') place here had also turns = absurd also
     walk_once _ _ _ _ _ _ _ _ _ _ _ _ _ (no_procap from node name names none) (goes_on from' at' to' node' child' _ _ q' replied' kind' found' end' given' more' fits' turn' named' rest') place here had also turns =
         none_first (told_by replied' kind' at' given') (walk_turns rest') (sym turns)
     walk_once _ _ _ _ _ _ _ _ _ _ _ _ _ (no_procap from node name names none) (places.ends from' to' node' _ _ q' replied' kind' line' given' fits' turn' named' is') place here had also turns =
         none_first (told_by replied' kind' to' given') [] (sym turns)
     walk_once _ _ _ _ _ _ _ _ _ _ _ _ _ (no_procap from node name names none) (no_procap from' node' _ _ none') place here had also turns = record { found_same = refl; end_same = refl; to_same = place; given_same = refl }
-    walk_once _ _ _ _ _ _ _ _ _ _ _ _ _ (no_procap from node name names none) (lacks_memory from' node' _ _) place here had also turns = absurd also
-    walk_once _ _ _ _ _ _ _ _ _ _ _ _ _ (lacks_memory from node name names) two place here had also turns = absurd had
+    walk_once _ _ _ _ _ _ _ _ _ _ _ _ _ (no_procap from node name names none) (lacks_memory from' node' _ _ q' fits') place here had also turns = absurd also
+    walk_once _ _ _ _ _ _ _ _ _ _ _ _ _ (lacks_memory from node name names q fits) two place here had also turns = absurd had
 
   -- ---- messages
 

@@ -14,10 +14,9 @@ use Rattle.nine_fids.specs.declared.step.Step.{Step}
 use Rattle.nine_fids.specs.declared.step.Step.TheVariants as steps
 use Rattle.nine_fids.specs.Control.{IsAskedOf}
 use Rattle.nine_fids.specs.States.{fid_at}
-use Rattle.nine_fids.specs.Tests.{IsAskedIf, IsAskedBy, is_at_control, is_writable}
+use Rattle.nine_fids.specs.Tests.{IsAskedIf, IsAskedBy, takes_lines}
 use Rattle.nine_fids.proofs.ControlLemmas.{asked_once}
 use Rattle.nine_front.specs.Asking.{bytes_of, act_of, IsAct, IsTurnOf, IsReplyTo}
-use Rattle.std.specs.Prelude.{◌&&◌}
 
 asked_if_once : (is_control : Bool) (bytes : List ℕ) (asked other : Option Control) → IsAskedIf is_control bytes asked → IsAskedIf is_control bytes other → asked ≡ other
 asked_if_once true bytes asked other one two = asked_once bytes asked other one two
@@ -30,7 +29,7 @@ asked_by_once s (tflush oldtag) asked other one two = one ∙ sym two
 asked_by_once s (twalk fid newfid names) asked other one two = one ∙ sym two
 asked_by_once s (topen fid mode) asked other one two = one ∙ sym two
 asked_by_once s (tread fid offset count) asked other one two = one ∙ sym two
-asked_by_once s (twrite fid offset bytes) asked other one two = asked_if_once (is_at_control (fid_at s fid) && is_writable (fid_at s fid)) bytes asked other one two
+asked_by_once s (twrite fid offset bytes) asked other one two = asked_if_once (takes_lines s.is_agreed (fid_at s fid)) bytes asked other one two
 asked_by_once s (tclunk fid) asked other one two = one ∙ sym two
 asked_by_once s (tother kind body) asked other one two = one ∙ sym two
 

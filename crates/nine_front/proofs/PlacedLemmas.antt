@@ -42,7 +42,7 @@ module _ (gives : List StoreEntry → ℤ → Type 0) (p : StorePass) where
   walk_longer history more purse who _ _ _ _ _ _ _ (places.ends from to node name names q replied kind line given fits turn named is) =
       places.ends from to node name names q replied kind line given fits (look_longer history more from _ replied kind to given turn) named is
   walk_longer history more purse who _ _ _ _ _ _ _ (no_procap from node name names none) = no_procap from node name names none
-  walk_longer history more purse who _ _ _ _ _ _ _ (places.lacks_memory from node name names) = places.lacks_memory from node name names
+  walk_longer history more purse who _ _ _ _ _ _ _ (places.lacks_memory from node name names q fits) = places.lacks_memory from node name names q fits
 
   message_longer : (history more : List StoreEntry) (from : ℕ) (s : Connection) (m : RequestView) (reply : ReplyView) (after : Connection) (to : ℕ) (given : List StoreEntry) → MessagePlaced gives p history from s m reply after to given → MessagePlaced gives p (history ++ more) from s m reply after to given
   message_longer history more from s m _ _ _ _ (refused asked error asks is) = refused asked error asks is
@@ -70,7 +70,7 @@ module _ (gives : List StoreEntry → ℤ → Type 0) (p : StorePass) where
       (omega (arith, one.0, more.0), more.1)
   walk_places history purse who _ _ _ _ _ _ _ within (places.ends from to node name names q replied kind line given fits turn named is) = turn_places gives p history from _ replied to given turn.placed
   walk_places history purse who _ _ _ _ _ _ _ within (no_procap from node name names none) = (omega arith, within)
-  walk_places history purse who _ _ _ _ _ _ _ within (places.lacks_memory from node name names) = (omega arith, within)
+  walk_places history purse who _ _ _ _ _ _ _ within (places.lacks_memory from node name names q fits) = (omega arith, within)
 
   message_places : (history : List StoreEntry) (from : ℕ) (s : Connection) (m : RequestView) (reply : ReplyView) (after : Connection) (to : ℕ) (given : List StoreEntry) → from ≤ length history → MessagePlaced gives p history from s m reply after to given → (from ≤ to) × (to ≤ length history)
   message_places history from s m _ _ _ _ within (refused asked error asks is) = (omega arith, within)
@@ -108,7 +108,7 @@ module _ (gives : List StoreEntry → ℤ → Type 0) (p : StorePass) where
       all_of_both p.number given others (turn_given gives p turn.placed.before _ replied given turn.placed.turn) (walk_given history purse who at child names found end to others rest)
   walk_given history purse who _ _ _ _ _ _ _ (places.ends from to node name names q replied kind line given fits turn named is) = turn_given gives p turn.placed.before _ replied given turn.placed.turn
   walk_given history purse who _ _ _ _ _ _ _ (no_procap from node name names none) = tt
-  walk_given history purse who _ _ _ _ _ _ _ (places.lacks_memory from node name names) = tt
+  walk_given history purse who _ _ _ _ _ _ _ (places.lacks_memory from node name names q fits) = tt
 
   message_given : (history : List StoreEntry) (from : ℕ) (s : Connection) (m : RequestView) (reply : ReplyView) (after : Connection) (to : ℕ) (given : List StoreEntry) → MessagePlaced gives p history from s m reply after to given → AllOfPass p.number given
   message_given history from s m _ _ _ _ (refused asked error asks is) = tt

@@ -25,12 +25,12 @@ use Rattle.nine_fids.specs.Errors.{Tests, first_holding}
 use Rattle.nine_fids.specs.Fids.{HasRoomFor}
 use Rattle.nine_fids.specs.States.{fid_at, without_fid}
 use Rattle.nine_fids.specs.Steps.{Outcome, answered, unless_refused, tested, version_outcome, attach_outcome, walk_nowhere, walk_names, walk_from, at_fid, open_file, with_procap, read_len, read_file, control_outcome, write_file, outcome_of, decided}
-use Rattle.nine_fids.specs.Taking.{IsTaken, MayTakeMemory}
+use Rattle.nine_fids.specs.Memory.{IsOperation, MayLackMemory, for_an_operation}
+use Rattle.nine_fids.specs.Taking.{IsTaken}
 use Rattle.nine_fids.specs.Tests.{fitting_of, is_without_login, lacks_login, has_names, tests_of, version_tests, attach_tests, flush_tests, walk_tests, open_tests, read_tests, write_tests, clunk_tests}
 use Rattle.nine_fids.specs.Walks.{last_of, standing_for, walked}
 use Rattle.nine_fids.proofs.TakingLemmas.{none_holds}
 use Rattle.nine_fids.proofs.LawLemmas.{Changes, leaves, walk_has_room}
-use Rattle.nine_front.specs.Placed.{MayLackMemory}
 use Rattle.nine_front.specs.Walked.{IsLoggedIn, ComesTo, NeedsTurns, IsWalk}
 
 -- ---- what a request comes to
@@ -51,8 +51,8 @@ abbrev pub IsOutcome : Connection → RequestView → Step → Connection → Ty
 IsOutcome s m (steps.Refused error) after = after ≡ s
 IsOutcome s m (steps.Answered answer) after = Unit {0}
 IsOutcome s m (steps.Login who signature) after = after ≡ s
-IsOutcome s m (steps.Read node p offset len) after = (after ≡ s) × (IsLoggedIn s × (MayLackMemory m × (len ≤ 65536)))
-IsOutcome s m (steps.Write node p offset) after = (after ≡ s) × (IsLoggedIn s × MayLackMemory m)
+IsOutcome s m (steps.Read node p offset len) after = (after ≡ s) × (IsLoggedIn s × (len ≤ 65536))
+IsOutcome s m (steps.Write node p offset) after = (after ≡ s) × IsLoggedIn s
 IsOutcome s m (steps.Walk node) after = (after ≡ s) × IsNameWalk s m
 
 abbrev EndsIn : Connection → RequestView → Outcome → Type 0
@@ -82,7 +82,7 @@ read_is s fid offset count (Some it) = at it.file
     at files.Control = tt
     at (files.Node node is_directory) =
         procap_outcome s (tread fid offset count) (fitting_of s s.caller node perms.Read) (λ p. steps.Read node p offset (read_len s.msize count))
-        (λ p fits. (refl, (fits_somebody s s.caller node perms.Read p fits, (tt, omega arith))))
+        (λ p fits. (refl, (fits_somebody s s.caller node perms.Read p fits, omega arith)))
 
 control_is : (s : Connection) (m : RequestView) (count : ℕ) (asked : Option Control) → IsOutcome s m (control_outcome s count asked).0 (control_outcome s count asked).1
 control_is s m count None = refl
@@ -99,7 +99,7 @@ write_is s fid offset bytes asked (Some it) = at it.file
     at files.Control = control_is s (twrite fid offset bytes) (length bytes) asked
     at (files.Node node is_directory) =
         procap_outcome s (twrite fid offset bytes) (fitting_of s s.caller node perms.Write) (λ p. steps.Write node p offset)
-        (λ p fits. (refl, (fits_somebody s s.caller node perms.Write p fits, tt)))
+        (λ p fits. (refl, fits_somebody s s.caller node perms.Write p fits))
 
 open_is : (s : Connection) (fid mode : ℕ) (found : Option Fid) → IsOutcome s (topen fid mode) (at_fid s found (open_file s fid mode)).0 (at_fid s found (open_file s fid mode)).1
 open_is s fid mode None = refl
@@ -207,17 +207,9 @@ walk_decided s fid newfid names node c = subst (λ (a : Option Control). decided
 pub walk_room : (s : Connection) (fid newfid : ℕ) (names : List (List ℕ)) (node : NodeId) → ComesTo s (twalk fid newfid names) (steps.Walk node) → HasRoomFor s.fids newfid
 walk_room s fid newfid names node c = walk_has_room s s c.asked fid newfid names node (sym c.is)
 
--- memory is taken for a reading or a writing alone
-pub may_lack : (m : RequestView) → MayTakeMemory m → MayLackMemory m
-may_lack (tversion msize version) may = may
-may_lack (tattach fid afid uname aname) may = may
-may_lack (tflush oldtag) may = may
-may_lack (twalk fid newfid names) may = may
-may_lack (topen fid mode) may = may
-may_lack (tread fid offset count) may = tt
-may_lack (twrite fid offset bytes) may = tt
-may_lack (tclunk fid) may = may
-may_lack (tother kind body) may = may
+-- a node is to be read or written, so no test holds
+pub may_lack : (s : Connection) (m : RequestView) (step : Step) → ComesTo s m step → IsOperation step → MayLackMemory s m
+may_lack s m step c is = for_an_operation c.asked c.asks (subst (λ (o : Outcome). IsOperation o.0) (sym c.is) is)
 
 -- ---- the nonce
 

@@ -1,7 +1,8 @@
 -- What becomes of a walk, name by name.
-use Rattle.std.proofs.Common.{◌≡◌, ◌∙◌, ◌+◌, inl, inr, ◌≤◌, ℕ, Bool, List, [], ◌∷◌, ◌++◌, length, map, Option, Some, None, IfSome, unwrap_or, refl, sym, ap, subst, arith, append_assoc, append-nil}
+use Rattle.std.proofs.Common.{◌≡◌, ◌∙◌, ◌+◌, inl, inr, ◌≤◌, ℕ, Bool, List, [], ◌∷◌, ◌++◌, length, map, Option, Some, None, IsSome, IfSome, unwrap_or, refl, sym, ap, subst, arith, append_assoc, append-nil}
 use Rattle.std.specs.Prelude.{ℤ}
 use Rattle.std.proofs.lemmas.List.{length-map}
+use Rattle.std.proofs.lemmas.Bool.{false≢true}
 use Rattle.std.proofs.lemmas.Option.{none-some}
 use mathlib.Core.List.{IsPrefix}
 use Rattle.tree_lock.specs.Seen.{PassView}
@@ -92,7 +93,8 @@ module _ {D : Type 0} (gives : List StoreEntry → ℤ → Type 0) (purse : List
     count = 0;
     turns = no_turn 0 old.turns;
     known = λ some. absurd (some refl);
-    placed = λ from within. record { to = from; within = within; latest = inr (refl, (refl, refl)); placed = λ opening entries begins. (all_found from node, refl) };
+    still = λ none. refl;
+    placed = λ from within. record { to = from; within = within; latest = inr (refl, (refl, refl)); still = λ none. refl; placed = λ opening entries begins. (all_found from node, refl) };
   }
 
   -- no procap fits
@@ -103,18 +105,20 @@ module _ {D : Type 0} (gives : List StoreEntry → ℤ → Type 0) (purse : List
     count = 0;
     turns = no_turn 0 old.turns;
     known = λ some. absurd (some refl);
-    placed = λ from within. record { to = from; within = within; latest = inr (refl, (refl, refl)); placed = λ opening entries begins. (no_procap from node name names none, refl) };
+    still = λ none. refl;
+    placed = λ from within. record { to = from; within = within; latest = inr (refl, (refl, refl)); still = λ none. refl; placed = λ opening entries begins. (no_procap from node name names none, refl) };
   }
 
   -- memory ran out before the turn
-  pub walked_without_memory : (node : NodeId) (name : List ℕ) (names : List (List ℕ)) (old : PassView (LockEntry D)) → HasWalked gives purse who old old node (name ∷ names) [] (Some (reply_text lines.NoMemory))
-  walked_without_memory node name names old = record {
+  pub walked_without_memory : (node : NodeId) (name : List ℕ) (names : List (List ℕ)) (q : Procap) (old : PassView (LockEntry D)) → fitting purse who node perms.Execute ≡ Some q → HasWalked gives purse who old old node (name ∷ names) [] (Some (reply_text lines.NoMemory))
+  walked_without_memory node name names q old fits = record {
     given = [];
     goes_on = stays old;
     count = 0;
     turns = no_turn 0 old.turns;
     known = λ some. absurd (some refl);
-    placed = λ from within. record { to = from; within = within; latest = inr (refl, (refl, refl)); placed = λ opening entries begins. (lacks_memory from node name names, refl) };
+    still = λ none. refl;
+    placed = λ from within. record { to = from; within = within; latest = inr (refl, (refl, refl)); still = λ none. refl; placed = λ opening entries begins. (lacks_memory from node name names q fits, refl) };
   }
 
   -- the turn named no node
@@ -126,10 +130,12 @@ module _ {D : Type 0} (gives : List StoreEntry → ℤ → Type 0) (purse : List
     count = 1;
     turns = one_turn old.turns new.turns l.asked.turns;
     known = λ some. seen_history gives (look_of who node name q) old new replied l.asked;
+    still = λ none. absurd (omega (arith, none));
     placed = λ from within. record {
       to = entries_seen new;
       within = omega arith;
       latest = inl refl;
+      still = λ none. absurd (omega (arith, none));
       placed = λ opening entries begins. (
         ends from (entries_seen new) node name names q replied kind line l.asked.given fits
             (look_earlier gives (pass_at opening old.number) entries from (entries_seen old) (look_of who node name q) replied kind (entries_seen new) l.asked.given within (l.placed opening entries begins)) none says,
@@ -140,7 +146,7 @@ module _ {D : Type 0} (gives : List StoreEntry → ℤ → Type 0) (purse : List
   walked_to_end node name names q old new replied kind line fits (inr lacks) none says =
       let told : line ≡ lines.NoMemory = subst (λ (r : TurnReply). IsReplyOf r line) lacks.1 says in
       subst (λ (l : LineReply). HasWalked gives purse who old new node (name ∷ names) [] (Some (reply_text l))) (sym told)
-      (subst (λ (n : PassView (LockEntry D)). HasWalked gives purse who old n node (name ∷ names) [] (Some (reply_text lines.NoMemory))) (sym lacks.0) (walked_without_memory node name names old))
+      (subst (λ (n : PassView (LockEntry D)). HasWalked gives purse who old n node (name ∷ names) [] (Some (reply_text lines.NoMemory))) (sym lacks.0) (walked_without_memory node name names q old fits))
 
   -- the turn named a node
   pub found_node : (node child : NodeId) (name : List ℕ) (q : Procap) (old new : PassView (LockEntry D)) (replied : TurnReply) (kind : Bool) →
@@ -163,10 +169,12 @@ module _ {D : Type 0} (gives : List StoreEntry → ℤ → Type 0) (purse : List
         known = λ some.
             let seen = seen_history gives (look_of who node name f.procap) old mid f.replied a in
             (seen.0, w.goes_on.history seen.0 seen.1);
+        still = λ none. absurd (omega (arith, none));
         placed = λ from within. record {
           to = rest.to;
           within = rest.within;
           latest = inl (came_last mid new w.count rest.to rest.latest);
+          still = λ none. absurd (omega (arith, none));
           placed = λ opening entries begins.
               let left =
               subst (λ (n : ℕ). (walk : WalksPlaced gives (pass_at opening n) entries purse who (entries_seen mid) child names found end rest.to w.given) × (length (walk_turns walk) ≡ w.count))
@@ -191,12 +199,14 @@ module _ {D : Type 0} (faults : D → ℕ) (gives : List StoreEntry → ℤ → 
     count = w.count;
     turns = w.turns;
     known = w.known;
+    still = w.still;
     placed = λ from within.
         let p = w.placed from within in
         record {
           to = p.to;
           within = p.within;
           latest = λ some. latest_turn old new w.count from p.to some p.latest;
+          still = p.still;
           placed = λ opening entries begins.
               let walk = p.placed opening entries begins in
               (walks fid newfid names node who found end p.to w.given refl (walk_decided s fid newfid names node c) caller walk.0, walk.1);
@@ -215,6 +225,15 @@ walk_fits (file ∷ found) end few fits = omega (arith, few, length-map (file �
 -- what fits who is logged in
 pub fitting_somebody : (s : Connection) (who : List ℕ) (node : NodeId) (permission : Perm) (found : Option Procap) → s.caller ≡ Some who → found ≡ fitting_of s s.caller node permission → fitting s.purse who node permission ≡ found
 fitting_somebody s who node permission found caller is = sym (is ∙ ap (λ (c : Option (List ℕ)). fitting_of s c node permission) caller)
+
+some_procap : (found : Option Procap) → IsSome found → (q : Procap) × (found ≡ Some q)
+some_procap None some = absurd (false≢true some)
+some_procap (Some q) some = (q, refl)
+
+pub fitting_there : (s : Connection) (who : List ℕ) (node : NodeId) (permission : Perm) → s.caller ≡ Some who → IsSome (fitting_of s s.caller node permission) → (q : Procap) × (fitting s.purse who node permission ≡ Some q)
+fitting_there s who node permission caller some =
+    let found = some_procap (fitting_of s s.caller node permission) some in
+    (found.0, fitting_somebody s who node permission (Some found.0) caller (sym found.1))
 
 -- the text with which a walk ended early
 pub no_end : (text : List ℕ) → walk_end None ≡ Some text → ⊥

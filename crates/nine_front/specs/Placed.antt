@@ -13,7 +13,7 @@ use Rattle.session_history.specs.declared.reply.TurnReply.{TurnReply}
 use Rattle.session_history.specs.Turn.{StorePass, TurnPlaced}
 use Rattle.session_history.specs.Placed.{IsReplyOf}
 use Rattle.shared_store.specs.Looking.{node_named, LookPlaced}
-use Rattle.nine_messages.specs.Requests.{RequestView, tversion, tattach, tflush, twalk, topen, tread, twrite, tclunk, tother, MessageView}
+use Rattle.nine_messages.specs.Requests.{RequestView, twalk, MessageView}
 use Rattle.nine_messages.specs.Replies.{ReplyView, rwalk, rerror}
 use Rattle.nine_fids.specs.declared.connection.Connection.{Connection}
 use Rattle.nine_fids.specs.declared.control.Control.{Control}
@@ -26,6 +26,7 @@ use Rattle.nine_fids.specs.declared.step.Step.{Step}
 use Rattle.nine_fids.specs.declared.step.Step.TheVariants as steps
 use Rattle.nine_fids.specs.Errors.{error_text}
 use Rattle.nine_fids.specs.Files.{qid_of}
+use Rattle.nine_fids.specs.Memory.{MayLackMemory}
 use Rattle.nine_fids.specs.Purse.{fitting}
 use Rattle.nine_fids.specs.Steps.{answer_view, decided}
 use Rattle.nine_fids.specs.Tests.{IsAskedBy}
@@ -62,8 +63,9 @@ pub data WalksPlaced (gives : List StoreEntry → ℤ → Type 0) (p : StorePass
   no_procap : (from : ℕ) (node : NodeId) (name : List ℕ) (names : List (List ℕ)) →
       fitting purse who node perms.Execute ≡ None →
       WalksPlaced gives p history purse who from node (name ∷ names) [] (Some (error_text errors.NoProcap)) from []
-  -- memory ran out before the turn
-  lacks_memory : (from : ℕ) (node : NodeId) (name : List ℕ) (names : List (List ℕ)) →
+  -- a procap fits, and memory ran out before the turn
+  lacks_memory : (from : ℕ) (node : NodeId) (name : List ℕ) (names : List (List ℕ)) (q : Procap) →
+      fitting purse who node perms.Execute ≡ Some q →
       WalksPlaced gives p history purse who from node (name ∷ names) [] (Some (reply_text lines.NoMemory)) from []
 
 -- the error of the first name; else the qids of what was found, of a walk that ended early too
@@ -73,18 +75,6 @@ walk_reply [] None = rwalk []
 walk_reply (file ∷ found) end = rwalk (map qid_of (file ∷ found))
 
 -- ---- messages
-
--- memory is taken for a reading or a writing; a walk says by which name it ran out
-abbrev pub MayLackMemory : RequestView → Type 0
-MayLackMemory (tversion msize version) = ⊥
-MayLackMemory (tattach fid afid uname aname) = ⊥
-MayLackMemory (tflush oldtag) = ⊥
-MayLackMemory (twalk fid newfid names) = ⊥
-MayLackMemory (topen fid mode) = ⊥
-MayLackMemory (tread fid offset count) = Unit {0}
-MayLackMemory (twrite fid offset bytes) = Unit {0}
-MayLackMemory (tclunk fid) = ⊥
-MayLackMemory (tother kind body) = ⊥
 
 -- The reply to a request, from the first `from` entries of the history on and in this state of the
 -- connection; the state after it, how many entries there are after its last turn, and those that it
@@ -113,8 +103,8 @@ pub data MessagePlaced (gives : List StoreEntry → ℤ → Type 0) (p : StorePa
       s.caller ≡ Some who →
       WalksPlaced gives p history s.purse who from node names found end to given →
       MessagePlaced gives p history from s m (walk_reply found end) (walked s newfid (length names) found) to given
-  -- memory ran out before any turn
-  without_memory : MayLackMemory m →
+  -- memory ran out before any turn, after the tests
+  without_memory : MayLackMemory s m →
       MessagePlaced gives p history from s m (rerror (reply_text lines.NoMemory)) s from []
 
 -- The messages of a connection are placed in a history, from the first `from` entries on and from

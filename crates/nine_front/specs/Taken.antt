@@ -1,13 +1,13 @@
 -- The messages of what was taken of an input, and what is written for them. If the input does not
 -- tell what it has, these are some messages (this project's own).
-use Rattle.std.specs.Prelude.{◌≡◌, ◌≤◌, ℕ, List, [], ◌∷◌, ◌++◌, length, Option}
+use Rattle.std.specs.Prelude.{◌≡◌, ◌≤◌, ◌<◌, ℕ, List, [], ◌∷◌, ◌++◌, length, Option}
 use Rattle.pcfs_ports.specs.Observable.{with_front, ReadsToEnd, TakesFirst, HoldsSome}
 use Rattle.nine_messages.specs.Requests.{MessageView}
 use Rattle.nine_messages.specs.Replies.{ReplyView, reply_spelling}
 use Rattle.nine_messages.specs.Cutting.{Cuts, IsOpen, IsBad}
 
 -- these messages were taken, of which the first may have 65,536 bytes, and then some rest, which a
--- piece more than a message holds
+-- piece more than a message holds; in all no more than the limit of an input
 pub record AreTaken (left left_after : Option (List ℕ)) (messages : List MessageView) : Type 0 where
   pub bytes : List ℕ
   pub rest : List ℕ
@@ -15,8 +15,9 @@ pub record AreTaken (left left_after : Option (List ℕ)) (messages : List Messa
   pub taken : left ≡ with_front bytes left_after
   pub cut : Cuts 65536 bytes messages agreed rest
   pub few : length rest ≤ 131072
+  pub limit : length bytes ≤ 1073741824
 
--- these messages were taken, and then less than a message
+-- these messages were taken, and then less than a message, in all no more than that limit
 pub record AreAllTaken (left left_after : Option (List ℕ)) (messages : List MessageView) : Type 0 where
   pub bytes : List ℕ
   pub rest : List ℕ
@@ -24,8 +25,10 @@ pub record AreAllTaken (left left_after : Option (List ℕ)) (messages : List Me
   pub taken : left ≡ with_front bytes left_after
   pub cut : Cuts 65536 bytes messages agreed rest
   pub is_open : IsOpen agreed rest
+  pub limit : length bytes ≤ 1073741824
 
--- these messages were taken, and what comes after them is no message, whatever else comes
+-- these messages were taken, and what comes after them is no message, whatever else comes; of that no
+-- more was taken than a message and a piece
 pub record IsCutAtBad (left left_after : Option (List ℕ)) (messages : List MessageView) : Type 0 where
   pub bytes : List ℕ
   pub rest : List ℕ
@@ -33,15 +36,18 @@ pub record IsCutAtBad (left left_after : Option (List ℕ)) (messages : List Mes
   pub taken : left ≡ with_front bytes left_after
   pub cut : Cuts 65536 bytes messages agreed rest
   pub is_bad : IsBad agreed rest
+  pub few : length rest ≤ 131072
+  pub limit : length bytes ≤ 1073741824
 
--- the input was read to its end, and these are its messages
+-- the input, which has fewer bytes than the limit, was read to its end, and these are its messages
 pub record IsReadWhole (left left_after : Option (List ℕ)) (messages : List MessageView) : Type 0 where
   pub bytes : List ℕ
   pub agreed : ℕ
   pub read : ReadsToEnd left left_after bytes
   pub cut : Cuts 65536 bytes messages agreed []
+  pub limit : length bytes < 1073741824
 
--- the input was read to its end, which is within the message after these
+-- such an input was read to its end, which is within the message after these
 pub record IsCutOff (left left_after : Option (List ℕ)) (messages : List MessageView) : Type 0 where
   pub bytes : List ℕ
   pub rest : List ℕ
@@ -50,6 +56,7 @@ pub record IsCutOff (left left_after : Option (List ℕ)) (messages : List Messa
   pub cut : Cuts 65536 bytes messages agreed rest
   pub some : 1 ≤ length rest
   pub is_open : IsOpen agreed rest
+  pub limit : length bytes < 1073741824
 
 -- ---- what is written
 

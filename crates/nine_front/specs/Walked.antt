@@ -56,6 +56,7 @@ module _ {D : Type 0} (gives : List StoreEntry → ℤ → Type 0) where
     pub to : ℕ
     pub within : to ≤ entries_seen new
     pub latest : IsLatest old new count from to
+    pub still : count ≡ 0 → to ≡ from
     pub placed : InEachHistory new (λ opening entries.
         (walk : WalksPlaced gives (pass_at opening old.number) entries purse who from node names found end to given)
         × (length (walk_turns walk) ≡ count))
@@ -69,6 +70,7 @@ module _ {D : Type 0} (gives : List StoreEntry → ℤ → Type 0) where
     pub count : ℕ
     pub turns : CountsTurns count count old.turns new.turns
     pub known : count ≢ 0 → (opening : StoreView D) × HasHistory opening new
+    pub still : count ≡ 0 → new ≡ old
     pub placed : (from : ℕ) → from ≤ entries_seen old →
         IsWalkedFrom purse who old new node names found end given count from
 

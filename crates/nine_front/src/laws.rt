@@ -1,7 +1,9 @@
 //! Laws of the definitions. The functions do nothing: each contract is a law. It holds of each clock.
 
-ghost use Rattle.nine_front.specs.Laws.{MessagesStayPlaced, GivenAreOfPass, PlacesGoOn, MessagesAreAnswered, LimitsAreKept, StoppedAfterStop, RequestsAskOneThing, StepsAreOneTurn, RepliesAreToldInOneWay, MessagesHaveOneEnd, MessagesHaveAnEnd};
+ghost use Rattle.nine_front.specs.Asked.{EntriesAreAskedFor, LoginsAreAccepted, CallersAreAccepted};
+ghost use Rattle.nine_front.specs.Laws.{MessagesStayPlaced, GivenAreOfPass, PlacesGoOn, MessagesAreAnswered, EntriesAreFew, ConnectionsArePlaced, TurnsArePlaced, LaterConnectionsArePlacedAfter, StrangersAreToldAlike, LimitsAreKept, StoppedAfterStop, RequestsAskOneThing, StepsAreOneTurn, RepliesAreToldInOneWay, MessagesHaveOneEnd, MessagesHaveAnEnd};
 
+use pcfs_ports::Disk;
 use session_history::TurnClock;
 
 /// The messages of a connection stay in their places when the history grows at its end.
@@ -25,6 +27,50 @@ pub fn places_go_on<C: TurnClock>(clock: &C)
 {
     let _ = clock;
 }
+
+/// Each turn adds one entry at most. A message has at most one turn, or one for each name of a walk.
+pub fn entries_are_few<C: TurnClock>(clock: &C)
+    ensures { EntriesAreFew (C.gives clock.now) }
+{
+    let _ = clock;
+}
+
+/// Each entry that a connection is given is one that a message of it asks for, where it stands.
+pub fn entries_are_asked_for<C: TurnClock>(clock: &C)
+    ensures { EntriesAreAskedFor (C.gives clock.now) }
+{
+    let _ = clock;
+}
+
+/// Somebody is logged in only by a message with a signature over the connection's nonce that the ring accepts; and each entry
+/// is an operation by somebody who was.
+pub fn callers_are_accepted<C: TurnClock>(clock: &C)
+    ensures logins { LoginsAreAccepted (C.gives clock.now) }
+    ensures callers { CallersAreAccepted (C.gives clock.now) }
+{
+    let _ = clock;
+}
+
+/// What a connection's pass has seen at the end is a history, if it was one at first or a turn was taken, and the connection's
+/// replies are placed in it.
+pub fn connections_are_placed<D: Disk, C: TurnClock>(clock: &C)
+    ensures placed { ConnectionsArePlaced D D.faults (C.gives clock.now) }
+    ensures known { TurnsArePlaced D D.faults (C.gives clock.now) }
+{
+    let _ = clock;
+}
+
+/// The replies of a connection whose pass was made after another had left are placed after all that the other had seen.
+pub fn later_connections_are_placed_after<D: Disk, C: TurnClock>(clock: &C)
+    ensures { LaterConnectionsArePlacedAfter D D.faults (C.gives clock.now) }
+{
+    let _ = clock;
+}
+
+/// Somebody who is not logged in is told what a session would be told.
+pub fn strangers_are_told_alike()
+    ensures { StrangersAreToldAlike }
+{}
 
 /// A connection stays within its limits, whatever its messages.
 pub fn limits_are_kept<C: TurnClock>(clock: &C)

@@ -1,8 +1,9 @@
 //! Files of a shared store over 9P2000.
 //!
-//! Each reading, writing, name of a walk and login is one turn at the store, under the first procap of the purse that fits.
-//! Whatever others do, each reply is placed in each history that begins with what the pass has seen then. The definitions are
-//! in `specs/`: `Asking`, `Placed`, `Said`, `Taken`, `Ends`; `Walked`, `Short`, `Views`, `Framing`, `Spoken` serve the code.
+//! Each reading, writing, name of a walk and login takes one turn at the store, under the first procap of the purse that fits,
+//! unless memory runs out before it. Whatever others do, each reply is placed in each history that begins with what the pass
+//! has seen then. The definitions are in `specs/`: `Asking`, `Placed`, `Turns`, `Said`, `Taken`, `Ends`, and `Asked`, `Laws` of
+//! the laws; `Walked`, `Short`, `Views`, `Framing`, `Spoken` serve the code.
 #![tactic(auto)]
 
 mod answering;

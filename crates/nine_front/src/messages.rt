@@ -1,4 +1,4 @@
-//! Messages that are answered, each with its reply written before the next.
+//! Messages that are answered, and their replies as they are written.
 
 ghost use Rattle.std.specs.Prelude.{◌≡◌, ◌≤◌, ◌∷◌, [], length, IfOk, OnOk, OnErr, IsErrOf};
 ghost use Rattle.pcfs_ports.specs.Faults.{HasRisen};

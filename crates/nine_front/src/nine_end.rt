@@ -3,10 +3,10 @@
 /// How a connection ends.
 #[derive(Clone, Copy, Debug, PartialEq, Eq)]
 pub enum NineEnd {
-    /// The input was read to its end, and each message was answered.
+    /// The input, of fewer than 1,073,741,824 bytes, was read to its end, and each message was answered.
     Done,
-    /// What came is no message, or the input ended within one. The messages before it were answered, and nothing was read
-    /// after it.
+    /// What came is no message, or the input ended within one. The messages before it were answered, and of what came after
+    /// them no more was taken than a message and a piece of the input.
     BadMessage,
     /// The input failed.
     ReadFault,

@@ -82,7 +82,8 @@ fn end_of(framer: &MessageFramer) -> NineEnd
 ///
 /// At `Done` the input was read to its end and each of its messages was answered. Each reply has its place in each history
 /// that begins with what the pass has seen at the end, after what it had seen at first, and places do not go back; what the
-/// pass was given by the replies is what its own entries grew by.
+/// pass was given by the replies is what its own entries grew by. If it took turns, what it has seen is a history, and the last
+/// of them came to the end of that.
 pub fn serve_nine<R: Wait, I: Source, O: Sink, D: Disk, C: TurnClock>(
     rt: &R,
     alloc: Global,

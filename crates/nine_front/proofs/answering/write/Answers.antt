@@ -7,11 +7,11 @@ use Rattle.nine_fids.specs.declared.step.Step.TheVariants as steps
 use Rattle.nine_front.specs.Asking.{act_of}
 use Rattle.nine_front.specs.Views.{reply_view_of}
 use Rattle.nine_front.proofs.AnsweredLemmas.{answered_without_memory, was_written, write_short, asked_lock}
-use Rattle.nine_front.proofs.StepLemmas.{comes_to}
+use Rattle.nine_front.proofs.StepLemmas.{comes_to, may_lack}
 use Rattle.nine_front.proofs.answering.write.Goals as goal
 
 pub caller_of-who-requires : goal.caller_of-who-requires
-caller_of-who-requires g c = (comes_to c.args.connection.now (request_view c.args.request.now) (steps.Write c.args.node c.args.p c.args.offset) c.requires.step).1.0
+caller_of-who-requires g c = (comes_to c.args.connection.now (request_view c.args.request.now) (steps.Write c.args.node c.args.p c.args.offset) c.requires.step).1
 
 pub act-replied-requires-clause-few : goal.act-replied-requires-clause-few
 act-replied-requires-clause-few g c = omega (arith, c.requires.few, ap length (c.in-Ok.ensures ∙ c.bytes_of.ensures))
@@ -34,4 +34,4 @@ returns-in-Ok-clause-same_lock g c =
 
 pub returns-in-Err-clause-answered : goal.returns-in-Err-clause-answered
 returns-in-Err-clause-answered g c =
-    answered_without_memory g.D.Disk.faults (g.C.TurnClock.gives c.args.clock.now) c.args.connection.now (request_view c.args.request.now) c.args.pass.now (comes_to c.args.connection.now (request_view c.args.request.now) (steps.Write c.args.node c.args.p c.args.offset) c.requires.step).1.1
+    answered_without_memory g.D.Disk.faults (g.C.TurnClock.gives c.args.clock.now) c.args.connection.now (request_view c.args.request.now) c.args.pass.now (may_lack c.args.connection.now (request_view c.args.request.now) (steps.Write c.args.node c.args.p c.args.offset) c.requires.step tt)

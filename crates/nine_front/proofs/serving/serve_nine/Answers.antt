@@ -1,5 +1,5 @@
 -- The messages that came whole are answered, piece by piece.
-use Rattle.std.proofs.Common.{◌≡◌, ◌≤◌, length, take, Err, ap, ◌∙◌, refl, arith}
+use Rattle.std.proofs.Common.{◌≡◌, ◌≤◌, ◌<◌, ◌+◌, length, take, Err, ap, ◌∙◌, refl, arith}
 use Rattle.pcfs_session.proofs.StoredLemmas.{HasRisen-earlier}
 use Rattle.pcfs_session.proofs.TakenLemmas.{nothing_taken, IsShown-front, taken_shown, room_stays}
 use Rattle.nine_front.proofs.StillLemmas.{NothingFailedBefore-still, NothingFailedBefore-then}
@@ -26,12 +26,13 @@ returns-in-Err-new_piece-clause-ends g c = NineEnds-unbegun g.D.Disk.faults (g.C
 
 pub returns-in-Err-read_piece-clause-ends : goal.returns-in-Err-read_piece-clause-ends
 returns-in-Err-read_piece-clause-ends g c =
-    NineEnds-read_fault g.D.Disk.faults (g.C.TurnClock.gives c.args.clock.now) c.args.nonce _ _ _ _ _ _ _ _ c.loop-taken.invariant.reading c.in-Err-read_piece.ensures.err
+    NineEnds-read_fault g.D.Disk.faults (g.C.TurnClock.gives c.args.clock.now) c.args.nonce _ _ _ _ _ _ _ _ c.loop-taken.invariant.within c.loop-taken.invariant.reading c.in-Err-read_piece.ensures.err
     (HasRisen-earlier _ _ _ c.loop-taken.invariant.read_never_falls c.in-Err-read_piece.ensures.risen)
 
 pub returns-then-count-eq0-clause-ends : goal.returns-then-count-eq0-clause-ends
 returns-then-count-eq0-clause-ends g c =
-    NineEnds-last g.D.Disk.faults (g.C.TurnClock.gives c.args.clock.now) c.args.nonce _ _ _ _ _ _ _ _ _ c.loop-taken.invariant.reading
+    let below : c.loop-taken.taken < 1073741824 = omega arith in
+    NineEnds-last g.D.Disk.faults (g.C.TurnClock.gives c.args.clock.now) c.args.nonce _ _ _ _ _ _ _ _ _ below c.loop-taken.invariant.reading
     (nothing_taken _ _ _ _ c.if-count-eq0.true c.in-Ok-read_piece.ensures.taken) (c.in-Ok-read_piece.ensures.end c.if-count-eq0.true) c.end_of.ensures
 
 pub returns-in-Err-speak_piece-clause-ends : goal.returns-in-Err-speak_piece-clause-ends
@@ -39,7 +40,8 @@ returns-in-Err-speak_piece-clause-ends g c =
     let fits : length c.read_piece.new.piece ≤ c.loop-taken.piece.len = omega (arith, c.loop-taken.piece.ok.0, c.deref_mut.ensures.len, c.read_piece.auto.piece) in
     let shown = IsShown-front c.in-Ok-read_piece.count c.loop-taken.piece.len c.read_piece.new.piece c.loop-taken.piece.items c.deref.result.now c.deref.ensures.value c.in-Ok-read_piece.ensures.bound fits in
     let small : length (take c.in-Ok-read_piece.count c.deref.result.now) ≤ 65536 = omega (arith, shown.len, c.in-Ok-read_piece.ensures.bound, fits, c.loop-taken.piece.ok.0, c.loop-taken.invariant.room) in
-    NineEnds-piece g.D.Disk.faults (g.C.TurnClock.gives c.args.clock.now) c.args.nonce _ _ _ _ _ _ _ _ _ _ _ _ c.loop-taken.invariant.reading (taken_shown _ _ _ _ _ shown c.in-Ok-read_piece.ensures.taken) _ small
+    let fits_all : c.loop-taken.taken + length (take c.in-Ok-read_piece.count c.deref.result.now) ≤ 1073741824 = omega (arith, shown.len, c.in-Ok-read_piece.ensures.few, c.loop-taken.invariant.within) in
+    NineEnds-piece g.D.Disk.faults (g.C.TurnClock.gives c.args.clock.now) c.args.nonce _ _ _ _ _ _ _ _ _ _ _ _ c.loop-taken.invariant.reading (taken_shown _ _ _ _ _ shown c.in-Ok-read_piece.ensures.taken) small fits_all _
     (λ is. HasRisen-earlier _ _ _ c.loop-taken.invariant.write_never_falls (c.in-Err-speak_piece.ensures.risen (ap Err is))) c.in-Err-speak_piece.ensures.ends
 
 pub loop-taken-preserved : goal.loop-taken-preserved

@@ -4,10 +4,11 @@ use Rattle.std.proofs.lemmas.Result.{IfOk-weaker, on_err_weaker}
 use Rattle.nine_messages.specs.declared.request.Request.{Request}
 use Rattle.nine_messages.specs.Requests.{IsRequest}
 use Rattle.nine_messages.specs.Views.{request_view}
+use Rattle.nine_fids.specs.Memory.{MayLackMemory}
 use Rattle.nine_fids.specs.Steps.{outcome_of}
-use Rattle.nine_fids.specs.Taking.{IsTaken, MayTakeMemory}
+use Rattle.nine_fids.specs.Taking.{IsTaken}
 use Rattle.nine_fids.specs.Tests.{tests_of}
-use Rattle.nine_fids.proofs.TakingLemmas.{taken_write, on_err_always}
+use Rattle.nine_fids.proofs.TakingLemmas.{taken_write, lacks_for_read}
 use Rattle.nine_fids.proofs.connection.Connection.take.Goals as goal
 
 pub returns-in-Version-clause-ok : goal.returns-in-Version-clause-ok
@@ -44,10 +45,11 @@ pub returns-in-Read-clause-ok : goal.returns-in-Read-clause-ok
 unfolding tests_of outcome_of
 returns-in-Read-clause-ok c =
     IfOk-weaker c.read.result _ _ (λ step is.
-    subst (λ (r : Request). IsTaken c.args.self.now (request_view r) step c.args.self.now) (sym c.in-Read.is) (record { asked = None; asks = refl; is = is })) c.read.ensures
+    subst (λ (r : Request). IsTaken c.args.self.now (request_view r) step c.args.self.now) (sym c.in-Read.is) (record { asked = None; asks = refl; is = is })) c.read.ensures.ok
 
 pub returns-in-Read-clause-err : goal.returns-in-Read-clause-err
-returns-in-Read-clause-err c = on_err_always c.read.result (refl, subst (λ (r : Request). MayTakeMemory (request_view r)) (sym c.in-Read.is) tt)
+returns-in-Read-clause-err c =
+    on_err_weaker c.read.result (λ is. (refl, subst (λ (r : Request). MayLackMemory c.args.self.now (request_view r)) (sym c.in-Read.is) (lacks_for_read _ _ _ _ is))) c.read.ensures.err
 
 pub write-requires : goal.write-requires
 write-requires c = let fits = subst (λ (r : Request). IsRequest (request_view r)) c.in-Write.is c.requires in fits.1.1
@@ -59,7 +61,7 @@ returns-in-Write-clause-ok c =
 
 pub returns-in-Write-clause-err : goal.returns-in-Write-clause-err
 returns-in-Write-clause-err c =
-    on_err_weaker c.write.result (λ same. (same, subst (λ (r : Request). MayTakeMemory (request_view r)) (sym c.in-Write.is) tt)) c.write.ensures.err
+    on_err_weaker c.write.result (λ lacks. (lacks.0, subst (λ (r : Request). MayLackMemory c.args.self.now (request_view r)) (sym c.in-Write.is) lacks.1)) c.write.ensures.err
 
 pub returns-in-Other-clause-ok : goal.returns-in-Other-clause-ok
 unfolding tests_of outcome_of

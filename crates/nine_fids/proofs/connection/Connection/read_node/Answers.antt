@@ -1,0 +1,12 @@
+-- Memory is taken for the procap that fits.
+use Rattle.bl_syntax.specs.declared.terms.Perm.TheVariants as perms
+use Rattle.nine_fids.specs.declared.step.Step.TheVariants as steps
+use Rattle.nine_fids.specs.Steps.{read_len}
+use Rattle.nine_fids.specs.Tests.{fitting_of}
+use Rattle.nine_fids.proofs.TakingLemmas.{procap_operation, on_err_always}
+use Rattle.nine_fids.proofs.connection.Connection.read_node.Goals as goal
+
+pub returns-in_err-fitting-clause-err : goal.returns-in_err-fitting-clause-err
+returns-in_err-fitting-clause-err c =
+    on_err_always c.from_residual.result
+    (procap_operation c.args.self.now (fitting_of c.args.self.now c.args.self.now.caller c.args.node perms.Read) (λ p. steps.Read c.args.node p c.args.offset (read_len c.args.self.now.msize c.args.count)) (λ p. tt) c.in_err-fitting.ensures.err)
