@@ -1,5 +1,6 @@
 -- Which entries of a history are those of one connection that speaks 9P2000 (this project's own).
 use Rattle.std.specs.Prelude.{◌≡◌, ℕ, ℤ, List, [], Bool, true, false, Option, IfSome}
+use Rattle.std.specs.List.{AllByRecursion}
 use mathlib.Core.List.{IsPrefix}
 use Rattle.tree_lock.specs.Seen.{PassView}
 use Rattle.pcfs_store.specs.Entries.{StoreEntry}
@@ -16,6 +17,7 @@ use Rattle.nine_messages.specs.Replies.{ReplyView}
 use Rattle.nine_fids.specs.declared.connection.Connection.{Connection}
 use Rattle.nine_fids.specs.States.{begun_with}
 use Rattle.nine_front.specs.Placed.{MessagesPlaced}
+use Rattle.nine_service.specs.Asked.{IsByLogin, AreAskedByMessages}
 
 -- what connections take from the ports: which moments the clock gives after how many events; and
 -- which messages the connection of a number may send, under which nonce
@@ -54,7 +56,9 @@ nine_sources_of gives left inputs nonces = record { gives = gives; may_send = Ma
 -- its number sent these messages, under this nonce, and at first nobody was logged in; each message
 -- has its place in the history with its reply, after the first `from` entries, and places do not go
 -- back; and the entries are exactly those that were added in the turns of these messages, in this
--- order. `from` is some place.
+-- order. So each is what one of the messages asks for, at a moment that the clock gives over the
+-- entries that stand before it, and an operation, or the mark of a disk that failed under one, of
+-- somebody whom one of the messages logged in. `from` is some place.
 pub record AreOfNine (sources : NineSources) (p : StorePass) (history own : List StoreEntry) : Type 0 where
   pub nonce : List ℕ
   pub messages : List MessageView
@@ -65,6 +69,8 @@ pub record AreOfNine (sources : NineSources) (p : StorePass) (history own : List
   pub sent : sources.may_send p.number nonce messages
   pub placed : MessagesPlaced sources.gives p history (begun_with nonce) from messages replies end to own
   pub of_pass : AllOfPass p.number own
+  pub asked : AreAskedByMessages sources.gives p history nonce from messages own
+  pub callers : AllByRecursion (IsByLogin p.root.ring nonce messages) own
 
 module _ {D : Type 0} where
   -- These are the own entries of the pass with this number at a lock: in each history that begins

@@ -7,6 +7,7 @@
 
 mod commands;
 pub mod laws;
+pub mod nine_laws;
 mod nine_serving;
 mod serving;
 mod status_lines;
