@@ -3,13 +3,13 @@
 use bl_syntax::{Bytes, Grant, Numbers, Sequence, Statement};
 use issue_standings::Bearing;
 use policy_statement::Registered;
-use proof_term::ProofTree;
+use record_parts::ProofRecord;
 
-/// A grant that was issued, its proof, and the numbers of the statements that the proof cites.
+/// A grant that was issued, its proof, which is kept as its bytes, and the numbers of the statements that the proof cites.
 #[derive(Debug, Drop)]
 pub struct Issue {
     pub cited: Numbers,
-    pub proof: ProofTree,
+    pub proof: ProofRecord,
     pub grant: Grant,
 }
 

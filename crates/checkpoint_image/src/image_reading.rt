@@ -19,7 +19,7 @@ use bl_syntax::{CodecFault, Sequence};
 use node_rows::{MetaRows, TreeRows};
 use policy_statement::Registered;
 use record_parts::fields::moment_field_at;
-use record_parts::{issued_at, registered_at};
+use record_parts::{ProofRecord, issued_at, registered_at};
 use std::alloc::Global;
 
 /// The number of the last event, and the number of the next node.
@@ -99,7 +99,7 @@ fn statements_at(
     }
 }
 
-/// An issue.
+/// An issue. The bytes of its proof are kept.
 #[tactic(auto, using(bl_syntax::proofs::ReportsFaultLemmas::hands_on))]
 fn issue_at(alloc: Global, input: usize, bytes: &[u8]) -> Result<(Issue, &[u8]), CodecFault>
     ensures { GivesReadingOrReports (λ x. (x.0, x.1.now)) result (issue_at input bytes.now) }
@@ -109,7 +109,7 @@ fn issue_at(alloc: Global, input: usize, bytes: &[u8]) -> Result<(Issue, &[u8]),
         Ok((cited, proof, grant, rest)) => Ok((
             Issue {
                 cited,
-                proof,
+                proof: ProofRecord::of(alloc, &proof)?,
                 grant,
             },
             rest,

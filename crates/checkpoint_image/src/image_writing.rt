@@ -18,7 +18,7 @@ use bl_syntax::{Bytes, NoMemory};
 use node_rows::{MetaRow, TreeRow};
 use policy_statement::Registered;
 use record_parts::fields::{put_moment, put_number};
-use record_parts::{write_issued, write_registered};
+use record_parts::{write_issued_record, write_registered};
 
 /// The version of images.
 pub(crate) const VERSION: u8 = 2;
@@ -154,7 +154,7 @@ fn add_issue(issue: &Issue, out: &mut Bytes) -> Result<(), NoMemory>
     ensures spelled { OnOk result (IsSpellableIssue issue.now) }
     ensures err { OnErr result (out.new ≡ out.old) }
 {
-    write_issued(issue.cited.as_slice(), &issue.proof, &issue.grant, out)
+    write_issued_record(issue.cited.as_slice(), &issue.proof, &issue.grant, out)
 }
 
 /// Adds how many nodes there are, fewer than 2^32, and each. The rows are of the same nodes, and the lengths of their names

@@ -7,6 +7,7 @@ ghost use Rattle.history_table.specs.Following.{Keeps, MayKeep};
 use access_history::{Addition, History, Issue};
 use bl_syntax::NoMemory;
 use journal_records::{Event, EventRecord};
+use record_parts::ProofRecord;
 use std::alloc::Global;
 
 // What the state keeps of an event, in memory of its own.
@@ -27,7 +28,7 @@ fn addition_for(alloc: Global, event: &Event) -> Result<Addition, NoMemory>
             grant,
         } => Ok(Addition::Issue(Issue {
             cited: cited.copy(alloc)?,
-            proof: proof.copy(alloc)?,
+            proof: ProofRecord::of(alloc, proof)?,
             grant: grant.copy(alloc)?,
         })),
         Event::Acted { .. } => Ok(Addition::Operation),

@@ -19,7 +19,7 @@ pub record BasisView : Type 0 where
 
 -- what the references point to
 abbrev pub shown : Basis → BasisView
-shown basis = record { number = basis.number; grant = basis.grant.now; proof = basis.proof.now; cited = basis.cited.now }
+shown basis = record { number = basis.number; grant = basis.grant.now; proof = basis.proof; cited = basis.cited.now }
 
 abbrev pub with_number : ℕ → Issue → BasisView
 with_number number issue = record { number = number; grant = issue.grant; proof = issue.proof; cited = issue.cited }

@@ -45,7 +45,7 @@ fn put_proof_line(out: &mut Bytes, basis: &Basis) -> Result<(), NoMemory>
 {
     put_counted(out, "issue ", basis.number)?;
     put_text(out, " ")?;
-    print_proof(basis.proof, out)?;
+    print_proof(&basis.proof, out)?;
     put_text(out, "\n")
 }
 
@@ -68,11 +68,19 @@ fn put_found(out: &mut Bytes, basis: &Option<Basis>) -> Result<(), NoMemory>
 }
 
 // Writes the issue of that number, or that there is none.
-fn put_issue(out: &mut Bytes, history: &History, issue: Option<u64>) -> Result<(), NoMemory>
+fn put_issue(
+    alloc: Global,
+    out: &mut Bytes,
+    history: &History,
+    issue: Option<u64>,
+) -> Result<(), NoMemory>
     ensures { OnOk result (out.new ≡ out.old ++ issue_line (state_of history.now).issues issue) }
 {
     match issue {
-        Some(number) => put_found(out, &issue_numbered(history, number)),
+        Some(number) => {
+            let basis = issue_numbered(alloc, history, number)?;
+            put_found(out, &basis)
+        }
         None => put_text(out, "unissued\n"),
     }
 }
@@ -109,21 +117,21 @@ fn put_need(out: &mut Bytes, one: &Use) -> Result<(), NoMemory>
 }
 
 // Writes what a procap was brought for, and what it rests on.
-fn put_use(out: &mut Bytes, history: &History, one: &Use) -> Result<(), NoMemory>
+fn put_use(alloc: Global, out: &mut Bytes, history: &History, one: &Use) -> Result<(), NoMemory>
     ensures { OnOk result (out.new ≡ out.old ++ use_text (state_of history.now) one.now) }
 {
     put_need(out, one)?;
     put_text(out, " ")?;
-    put_issue(out, history, one.issue)?;
+    put_issue(alloc, out, history, one.issue)?;
     put_all_cited(out, history, one.cited.as_slice())
 }
 
 // Writes what all procaps were brought for.
-fn put_uses(out: &mut Bytes, history: &History, uses: &[Use]) -> Result<(), NoMemory>
+fn put_uses(alloc: Global, out: &mut Bytes, history: &History, uses: &[Use]) -> Result<(), NoMemory>
     ensures { OnOk result (out.new ≡ out.old ++ flat_map (use_text (state_of history.now)) uses.now) }
 {
     for one in uses {
-        put_use(out, history, one)?;
+        put_use(alloc, out, history, one)?;
     }
     Ok(())
 }
@@ -180,8 +188,9 @@ pub fn put_event_lines(
     put_text(out, " ")?;
     put_words(alloc, out, before, event, row.about)?;
     put_text(out, "\n")?;
-    put_made(out, before, &issue_made(before, event))?;
-    put_uses(out, before, row.uses.as_slice())
+    let made = issue_made(alloc, before, event)?;
+    put_made(out, before, &made)?;
+    put_uses(alloc, out, before, row.uses.as_slice())
 }
 
 /// Writes the lines of an issue that would admit its principal.

@@ -161,7 +161,7 @@ fn put_issued_proof(alloc: Global, out: &mut Bytes, basis: &Basis) -> Result<(),
 {
     put_counted(out, ",\"issue\":", basis.number)?;
     put_text(out, ",\"proof\":")?;
-    put_proof_string(alloc, out, basis.proof)
+    put_proof_string(alloc, out, &basis.proof)
 }
 
 // Writes the members of an issue.
@@ -212,7 +212,10 @@ fn put_issue(
     ensures { OnOk result (out.new ≡ out.old ++ issue_members (state_of history.now).issues issue) }
 {
     match issue {
-        Some(number) => put_found(alloc, out, &issue_numbered(history, number)),
+        Some(number) => {
+            let basis = issue_numbered(alloc, history, number)?;
+            put_found(alloc, out, &basis)
+        }
         None => Ok(()),
     }
 }
@@ -387,7 +390,10 @@ fn put_about(
             put_text(out, "]")
         }
         Event::Withdrawn { number, .. } => put_statements(alloc, out, before, &[*number]),
-        Event::Issued { .. } => put_made(alloc, out, before, &issue_made(before, event)),
+        Event::Issued { .. } => {
+            let made = issue_made(alloc, before, event)?;
+            put_made(alloc, out, before, &made)
+        }
         Event::Acted { .. } => {
             put_text(out, ",\"uses\":[")?;
             put_uses(alloc, out, before, row.uses.as_slice())?;

@@ -64,7 +64,7 @@ fn test_issue(alloc: Global, entries: &[Registered], issue: &Issue) -> Result<()
 {
     let cited = issue.cited.as_slice();
     match find_cited(alloc, entries, Among::Registered, cited) {
-        Ok(cites) => match issue.proof.copy(alloc) {
+        Ok(cites) => match issue.proof.proof(alloc) {
             Ok(proof) => match check_again(alloc, cites, proof, cited, &issue.grant) {
                 Ok(_) => Ok(()),
                 Err(fault) => Err(fault),

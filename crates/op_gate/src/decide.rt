@@ -22,6 +22,7 @@ use journal_records::Event;
 use policy_statement::{RegisterFault as RegistryFault, WithdrawFault};
 use procap::Procap;
 use proof_verifier::Checked;
+use record_parts::ProofRecord;
 use std::alloc::Global;
 
 // The answer to a statement that may not be registered, or out of memory.
@@ -217,7 +218,7 @@ fn issue_of(alloc: Global, checked: &Checked, named: &Numbers) -> Result<Issue, 
     ensures { IfOk result (λ issue. issue ≡ issue_naming checked.now named.now) }
 {
     let cited = cited_numbers(alloc, checked.cited().as_slice())?;
-    let proof = checked.proof().copy(alloc)?;
+    let proof = ProofRecord::of(alloc, checked.proof())?;
     let grant = checked.grant().copy(alloc)?;
     let named = named.copy(alloc)?;
     Ok(Issue {

@@ -210,7 +210,7 @@ fn write_number<O: Sink>(
         HasRisen (O.faults output.old) (O.faults output.new) }
     ensures never_falls { O.faults output.old ≤ O.faults output.new }
 {
-    let basis = issue_numbered(history, number);
+    let basis = issue_numbered(alloc, history, number)?;
     add_admitting(alloc, made, json, history, &basis)?;
     Ok(flush_if_enough(made, ENOUGH, output)?)
 }
@@ -296,7 +296,7 @@ fn write_rest<O: Sink>(
         HasRisen (O.faults output.old) (O.faults output.new) }
     ensures never_falls { O.faults output.old ≤ O.faults output.new }
 {
-    let basis = issue_numbered(history, rest.issue);
+    let basis = issue_numbered(alloc, history, rest.issue)?;
     add_rest(alloc, made, json, history, rest.gone, &basis)?;
     Ok(flush_if_enough(made, ENOUGH, output)?)
 }

@@ -19,6 +19,8 @@ pub struct CallPlan {
     fuse: Option<u64>,
     made: u64,
     faults: u64,
+    // Whether the last call failed.
+    broken: bool,
 }
 
 impl Model for CallPlan {
@@ -26,7 +28,7 @@ impl Model for CallPlan {
 
     ghost Value = { CallPlanView };
 
-    ghost view = { λ s. record { failing = s.failing; fuse = s.fuse; made = s.made; faults = s.faults } };
+    ghost view = { λ s. record { failing = s.failing; fuse = s.fuse; made = s.made; faults = s.faults; broken = s.broken } };
 }
 
 impl CallPlan {
@@ -39,6 +41,7 @@ impl CallPlan {
             fuse: None,
             made: 0,
             faults: 0,
+            broken: false,
         }
     }
 
@@ -51,6 +54,7 @@ impl CallPlan {
             fuse: Some(first),
             made: 0,
             faults: 0,
+            broken: false,
         }
     }
 
@@ -73,6 +77,7 @@ impl CallPlan {
         ensures { self.new ≡ after_call self.old }
     {
         self.made = self.made.saturating_add(1);
+        self.broken = false;
     }
 
     /// Counts a call that fails.
@@ -82,5 +87,6 @@ impl CallPlan {
     {
         self.made = self.made.saturating_add(1);
         self.faults = self.faults.saturating_add(1);
+        self.broken = true;
     }
 }

@@ -1,7 +1,7 @@
 //! Listeners: where connections come from.
 
-ghost use Rattle.std.specs.Prelude.{◌≡◌, ◌≢◌, ℕ, ◌≤◌, ◌↔◌, [], ◌∷◌, ◌++◌, List, Option, Some, IfSome, IsErr, OnOk, OnErr, length};
-ghost use Rattle.pcfs_ports.specs.Faults.{HasRisen};
+ghost use Rattle.std.specs.Prelude.{◌≡◌, ◌≢◌, ℕ, ◌≤◌, ◌↔◌, true, false, [], ◌∷◌, ◌++◌, List, Option, Some, Bool, IfSome, IsErr, OnOk, OnErr, length, is_err, refl};
+ghost use Rattle.pcfs_ports.specs.Faults.{HasRisen, raise};
 ghost use Rattle.pcfs_ports.specs.Calls.{no_calls, FailsNext, after_call, after_failed_call};
 ghost use Rattle.pcfs_ports.specs.Accepted.{connections_of, count_of, FallsBy};
 ghost use Rattle.pcfs_ports.specs.Telling.{IfGiven, IsAt, AreTakenOff, AreAllGiven};
@@ -19,7 +19,8 @@ use std::marker::Model;
 ///
 /// Its meaning is which connections are still to come, in their order, each with its input and its output as they are when
 /// it is accepted, and how many come; it may tell both, the number alone, or nothing, and does so after each call as before.
-/// Further whether it is over; and a count of faults that never falls, and counts as risen if it stands at `u64::MAX`.
+/// Further whether it is over; a count of faults that never falls, and counts as risen if it stands at `u64::MAX`; and
+/// whether its last call failed.
 pub trait Listener {
     /// Where a connection's bytes come from.
     type In: Source + Send + Drop;
@@ -39,16 +40,24 @@ pub trait Listener {
     // How many faults it has had.
     ghost faults: { Self → ℕ };
 
-    /// Begins to listen on a port. It gives no connection. `Failed` comes only if the count of faults rose.
+    // Whether its last call failed.
+    ghost broken: { Self → Bool };
+
+    /// Begins to listen on a port. It gives no connection. `Failed` comes only if the count of faults rose, by one; at each
+    /// other answer it stands still.
     fn listen(&mut self, port: u16) -> Result<(), Failed>
         ensures queue { queue self.new ≡ queue self.old }
         ensures waiting { waiting self.new ≡ waiting self.old }
         ensures risen { OnErr result (HasRisen (faults self.old) (faults self.new)) }
-        ensures never_falls { faults self.old ≤ faults self.new };
+        ensures never_falls { faults self.old ≤ faults self.new }
+        ensures steady { OnOk result (faults self.new ≡ faults self.old) }
+        ensures by_one { OnErr result (faults self.new ≡ raise (faults self.old)) }
+        ensures broken { broken self.new ≡ is_err result };
 
     /// The next connection, the first of those that are told. It may wait for one.
     ///
-    /// `Closed` comes only if it is over, and none is still to come. `Failed` comes only if the count of faults rose.
+    /// `Closed` comes only if it is over, and none is still to come. `Failed` comes only if the count of faults rose, by
+    /// one; at each other answer it stands still.
     fn accept(&mut self, alloc: Global) -> Accepted<Self::In, Self::Out>
         ensures first { IfGiven result (λ input output. IsAt (queue self.old) 0 input output) }
         ensures queue { AreTakenOff (count_of result) (queue self.old) (queue self.new) }
@@ -58,7 +67,14 @@ pub trait Listener {
             IfSome (waiting self.new) (λ left. left ≡ 0) }
         ensures all_given { result ≡ Accepted.Closed → AreAllGiven (queue self.new) }
         ensures risen { result ≡ Accepted.Failed → HasRisen (faults self.old) (faults self.new) }
-        ensures never_falls { faults self.old ≤ faults self.new };
+        ensures never_falls { faults self.old ≤ faults self.new }
+        ensures steady { result ≢ Accepted.Failed → faults self.new ≡ faults self.old }
+        ensures by_one { result ≡ Accepted.Failed → faults self.new ≡ raise (faults self.old) }
+        ensures broken { result ≡ Accepted.Failed → broken self.new ≡ true }
+        ensures whole { result ≢ Accepted.Failed → broken self.new ≡ false };
+
+    // If it tells which connections are still to come, it tells how many.
+    ghost waiting_is_length: { (listener : Self) → IfSome (queue listener) (λ told. waiting listener ≡ Some (length told)) };
 }
 
 /// A listener that gives connections from memory, in the order in which they were added, and is over if none is left.
@@ -110,6 +126,10 @@ impl Listener for MemoryListener {
     ghost over = { λ s. s.queue ≡ [] };
 
     ghost faults = { λ s. s.calls.faults };
+
+    ghost broken = { λ s. s.calls.broken };
+
+    ghost waiting_is_length = { λ _. refl };
 
     fn listen(&mut self, _port: u16) -> Result<(), Failed>
         ensures planned { IsErr result ↔ FailsNext self.old.calls }

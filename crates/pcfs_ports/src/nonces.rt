@@ -1,6 +1,6 @@
 //! Nonces: sixteen bytes at a time that a client has to sign.
 
-ghost use Rattle.std.specs.Prelude.{◌≡◌, ℕ, ◌<◌, ◌≤◌, ◌↔◌, ◌⊎◌, List, Option, Some, None, IfOk, IsErr, OnOk, OnErr, length, take, is_ok, if◌then◌else◌};
+ghost use Rattle.std.specs.Prelude.{◌≡◌, ℕ, ◌<◌, ◌≤◌, ◌↔◌, ◌⊎◌, false, List, Option, Some, None, Bool, IfOk, IsErr, OnOk, OnErr, length, take, is_ok, is_err, if◌then◌else◌};
 ghost use Rattle.pcfs_ports.specs.Faults.{HasRisen, raise};
 ghost use Rattle.pcfs_ports.specs.Calls.{no_calls, FailsNext};
 ghost use Rattle.pcfs_ports.specs.MemorySource.{after_read, after_failed_read};
@@ -20,7 +20,8 @@ pub const NONCE_LEN: usize = 16;
 /// Where nonces come from.
 ///
 /// Its meaning is of which bytes they are made, sixteen at a time, which it tells or does not tell, after each call as
-/// before; and a count of faults that never falls, and counts as risen if it stands at `u64::MAX`. Asking takes no memory.
+/// before; a count of faults that never falls, and counts as risen if it stands at `u64::MAX`; and whether its last call
+/// failed. Asking takes no memory.
 pub trait Nonces {
     // The bytes that are still to be given, if it tells them.
     ghost coming: { Self → Option (List ℕ) };
@@ -28,13 +29,20 @@ pub trait Nonces {
     // How many faults it has had.
     ghost faults: { Self → ℕ };
 
-    /// The next nonce: the first sixteen of the bytes that are told. `Failed` comes only if the count of faults rose.
+    // Whether its last call failed.
+    ghost broken: { Self → Bool };
+
+    /// The next nonce: the first sixteen of the bytes that are told. `Failed` comes only if the count of faults rose, by one;
+    /// at each other answer it stands still.
     fn next(&mut self) -> Result<[u8; 16], Failed>
         ensures sixteen { IfOk result (λ nonce. length nonce ≡ NONCE_LEN) }
         ensures first { IfOk result (λ nonce. IsNextNonce (coming self.old) nonce) }
         ensures coming { AreTakenOff (bytes_taken (is_ok result)) (coming self.old) (coming self.new) }
         ensures risen { OnErr result (HasRisen (faults self.old) (faults self.new)) }
-        ensures never_falls { faults self.old ≤ faults self.new };
+        ensures never_falls { faults self.old ≤ faults self.new }
+        ensures steady { OnOk result (faults self.new ≡ faults self.old) }
+        ensures by_one { OnErr result (faults self.new ≡ raise (faults self.old)) }
+        ensures broken { broken self.new ≡ is_err result };
 }
 
 /// Nonces from a list of bytes, sixteen at a time. It fails at the calls that are to fail, which take no byte, and if
@@ -76,6 +84,8 @@ impl Nonces for ListNonces {
 
     ghost faults = { λ s. s.calls.faults };
 
+    ghost broken = { λ s. s.calls.broken };
+
     fn next(&mut self) -> Result<[u8; 16], Failed>
         ensures cause { IsErr result ↔ (FailsNext self.old.calls ⊎ (length self.old.left < NONCE_LEN)) }
         ensures failed { OnErr result (self.new ≡ after_failed_read self.old) }
@@ -109,26 +119,29 @@ pub struct UrandomNonces<'a, R: Files> {
     rt: &'a R,
     file: Option<R::File>,
     faults: u64,
+    // Whether the last call failed.
+    broken: bool,
 }
 
 impl<'a, R: Files> Model for UrandomNonces<'a, R> {
-    ghost use Rattle.std.specs.Prelude.{ℕ};
+    ghost use Rattle.std.specs.Prelude.{ℕ, Bool};
 
-    // the count of faults
-    ghost Value = { ℕ };
+    // the count of faults, and whether the last call failed
+    ghost Value = { ℕ × Bool };
 
-    ghost view = { λ s. s.faults };
+    ghost view = { λ s. (s.faults, s.broken) };
 }
 
 impl<'a, R: Files> UrandomNonces<'a, R> {
     /// Nonces of this runtime's system, without a fault. It opens no file yet.
     pub fn new(rt: &'a R) -> Self
-        ensures { result ≡ 0 }
+        ensures { result ≡ (0, false) }
     {
         UrandomNonces {
             rt,
             file: None,
             faults: 0,
+            broken: false,
         }
     }
 }
@@ -148,20 +161,29 @@ fn read_nonce<R: Files>(rt: &R, file: &mut Option<R::File>) -> io::Result<[u8; 1
 impl<'a, R: Files + Eprint> Nonces for UrandomNonces<'a, R> {
     ghost coming = { λ _. None };
 
-    ghost faults = { λ s. s };
+    ghost faults = { λ s. s.0 };
+
+    ghost broken = { λ s. s.1 };
 
     fn next(&mut self) -> Result<[u8; 16], Failed>
         ensures sixteen { IfOk result (λ nonce. length nonce ≡ NONCE_LEN) }
         ensures first { IfOk result (λ nonce. IsNextNonce None nonce) }
-        ensures faults { self.new ≡ (if is_ok result then self.old else raise self.old) }
-        ensures risen { OnErr result (HasRisen self.old self.new) }
-        ensures never_falls { self.old ≤ self.new }
+        ensures faults { self.new.0 ≡ (if is_ok result then self.old.0 else raise self.old.0) }
+        ensures risen { OnErr result (HasRisen self.old.0 self.new.0) }
+        ensures never_falls { self.old.0 ≤ self.new.0 }
+        ensures steady { OnOk result (self.new.0 ≡ self.old.0) }
+        ensures by_one { OnErr result (self.new.0 ≡ raise self.old.0) }
+        ensures broken { self.new.1 ≡ is_err result }
     {
         match read_nonce(self.rt, &mut self.file) {
-            Ok(nonce) => Ok(nonce),
+            Ok(nonce) => {
+                self.broken = false;
+                Ok(nonce)
+            }
             Err(error) => {
                 let _ = eprintln!(self.rt; "{RANDOM_FILE}: {error}");
                 self.faults = self.faults.saturating_add(1);
+                self.broken = true;
                 Err(Failed)
             }
         }

@@ -1,7 +1,7 @@
 //! An input taken in pieces.
 
-ghost use Rattle.std.specs.Prelude.{◌≡◌, ◌<◌, ◌≤◌, IfOk, OnOk, OnErr, length, take};
-ghost use Rattle.pcfs_ports.specs.Faults.{HasRisen};
+ghost use Rattle.std.specs.Prelude.{◌≡◌, ◌<◌, ◌≤◌, IfOk, OnOk, OnErr, length, take, is_err};
+ghost use Rattle.pcfs_ports.specs.Faults.{HasRisen, raise};
 ghost use Rattle.pcfs_ports.specs.Observable.{with_front, IsAtEnd};
 
 use super::faults::Failed;
@@ -21,7 +21,7 @@ pub fn new_piece(alloc: Global) -> Result<Vec<u8>, AllocError>
 /// Takes bytes from the input into the front of the piece by one read, no more than this many, and returns how many: none
 /// at the end.
 ///
-/// `Failed` comes only if the input's count of faults rose, and takes nothing; at each other answer it stands still.
+/// `Failed` comes only if the input's count of faults rose, by one, and takes nothing; at each other answer it stands still.
 pub fn read_piece<I: Source>(input: &mut I, piece: &mut [u8], most: usize) -> Result<usize, Failed>
     requires room { 0 < length piece.old }
     requires some { 0 < most }
@@ -34,6 +34,8 @@ pub fn read_piece<I: Source>(input: &mut I, piece: &mut [u8], most: usize) -> Re
     ensures steady { OnOk result (I.faults input.new ≡ I.faults input.old) }
     ensures risen { OnErr result (HasRisen (I.faults input.old) (I.faults input.new)) }
     ensures never_falls { I.faults input.old ≤ I.faults input.new }
+    ensures by_one { OnErr result (I.faults input.new ≡ raise (I.faults input.old)) }
+    ensures broken { I.broken input.new ≡ is_err result }
 {
     let room = piece.len().min(most);
     input.read(&mut piece[..room])

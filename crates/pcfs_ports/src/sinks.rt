@@ -1,6 +1,6 @@
 //! Sinks: where bytes go.
 
-ghost use Rattle.std.specs.Prelude.{◌≡◌, ℕ, ◌<◌, ◌≤◌, ◌⊎◌, List, [], Option, None, Some, IfOk, IsErr, OnOk, OnErr, length, take, is_ok, if◌then◌else◌};
+ghost use Rattle.std.specs.Prelude.{◌≡◌, ℕ, ◌<◌, ◌≤◌, ◌⊎◌, false, List, [], Option, None, Some, Bool, IfOk, IsErr, OnOk, OnErr, length, take, is_ok, is_err, if◌then◌else◌};
 ghost use Rattle.std.specs.Io.KnownBytes.{WriteAppends};
 ghost use Rattle.pcfs_ports.specs.Faults.{HasRisen, raise};
 ghost use Rattle.pcfs_ports.specs.Observable.{with_back};
@@ -16,8 +16,8 @@ use std::marker::Model;
 /// Where bytes go, in order.
 ///
 /// Its meaning is the bytes that it holds, which it tells or does not tell, and a count of faults that
-/// never falls, and counts as risen if it stands at `u64::MAX`. Whether it tells its bytes is the
-/// same after each call as before.
+/// never falls, and counts as risen if it stands at `u64::MAX`; and whether its last call failed. Whether
+/// it tells its bytes is the same after each call as before.
 pub trait Sink {
     // The bytes that it holds, if it tells them.
     ghost held: { Self → Option (List ℕ) };
@@ -25,10 +25,13 @@ pub trait Sink {
     // How many faults it has had.
     ghost faults: { Self → ℕ };
 
+    // Whether its last call failed.
+    ghost broken: { Self → Bool };
+
     /// Adds the first bytes of `piece` after those that are held, and returns how many: at least one
     /// of a piece that is not empty.
     ///
-    /// `Failed` comes only if the count of faults rose, and adds nothing; at each other answer it stands still.
+    /// `Failed` comes only if the count of faults rose, by one, and adds nothing; at each other answer it stands still.
     fn write(&mut self, piece: &[u8]) -> Result<usize, Failed>
         ensures bound { IfOk result (λ count. count ≤ length piece.now) }
         ensures progress { IfOk result (λ count. 0 < length piece.now → 0 < count) }
@@ -37,7 +40,9 @@ pub trait Sink {
         ensures err { OnErr result (held self.new ≡ held self.old) }
         ensures steady { OnOk result (faults self.new ≡ faults self.old) }
         ensures risen { OnErr result (HasRisen (faults self.old) (faults self.new)) }
-        ensures never_falls { faults self.old ≤ faults self.new };
+        ensures never_falls { faults self.old ≤ faults self.new }
+        ensures by_one { OnErr result (faults self.new ≡ raise (faults self.old)) }
+        ensures broken { broken self.new ≡ is_err result };
 }
 
 /// A sink that holds its bytes in memory. It fails at the calls that are to fail, and if a growth
@@ -90,6 +95,8 @@ impl Sink for MemorySink {
 
     ghost faults = { λ s. s.calls.faults };
 
+    ghost broken = { λ s. s.calls.broken };
+
     fn write(&mut self, piece: &[u8]) -> Result<usize, Failed>
         // It fails if it is to, and else only if a growth is refused.
         ensures planned { FailsNext self.old.calls →
@@ -127,23 +134,29 @@ impl Sink for MemorySink {
 pub struct StdSink<W> {
     writer: W,
     faults: u64,
+    // Whether the last call failed.
+    broken: bool,
 }
 
 impl<W> Model for StdSink<W> {
-    ghost use Rattle.std.specs.Prelude.{ℕ};
+    ghost use Rattle.std.specs.Prelude.{ℕ, Bool};
 
-    // the writer, and the count of faults
-    ghost Value = { W × ℕ };
+    // the writer, the count of faults, and whether the last call failed
+    ghost Value = { W × ℕ × Bool };
 
-    ghost view = { λ s. (s.writer, s.faults) };
+    ghost view = { λ s. (s.writer, s.faults, s.broken) };
 }
 
 impl<W: Write> StdSink<W> {
     /// A sink over this writer, without a fault.
     pub fn new(writer: W) -> Self
-        ensures { result ≡ (writer, 0) }
+        ensures { result ≡ (writer, 0, false) }
     {
-        StdSink { writer, faults: 0 }
+        StdSink {
+            writer,
+            faults: 0,
+            broken: false,
+        }
     }
 }
 
@@ -151,6 +164,8 @@ impl<W: Write> Sink for StdSink<W> {
     ghost held = { λ _. None };
 
     ghost faults = { λ s. s.1 };
+
+    ghost broken = { λ s. s.2 };
 
     fn write(&mut self, piece: &[u8]) -> Result<usize, Failed>
         ensures bound { IfOk result (λ count. count ≤ length piece.now) }
@@ -160,11 +175,16 @@ impl<W: Write> Sink for StdSink<W> {
         ensures bytes { WriteAppends (W.contents self.old.0) (W.contents self.new.0) result piece.now }
         ensures faults { self.new.1 ≡ (if is_ok result then self.old.1 else raise self.old.1) }
         ensures never_falls { self.old.1 ≤ self.new.1 }
+        ensures broken { self.new.2 ≡ is_err result }
     {
         match self.writer.write(piece) {
-            Ok(count) if count > 0 || piece.is_empty() => Ok(count),
+            Ok(count) if count > 0 || piece.is_empty() => {
+                self.broken = false;
+                Ok(count)
+            }
             _ => {
                 self.faults = self.faults.saturating_add(1);
+                self.broken = true;
                 Err(Failed)
             }
         }

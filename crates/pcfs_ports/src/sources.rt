@@ -1,6 +1,6 @@
 //! Sources: where bytes come from.
 
-ghost use Rattle.std.specs.Prelude.{◌≡◌, ℕ, ◌<◌, ◌≤◌, ◌↔◌, List, Option, None, Some, IfOk, IsErr, OnOk, OnErr, length, take, min, is_ok, if◌then◌else◌};
+ghost use Rattle.std.specs.Prelude.{◌≡◌, ℕ, ◌<◌, ◌≤◌, ◌↔◌, false, List, Option, None, Some, Bool, IfOk, IsErr, OnOk, OnErr, length, take, min, is_ok, is_err, if◌then◌else◌};
 ghost use Rattle.std.specs.Io.KnownBytes.{ReadConsumes};
 ghost use Rattle.pcfs_ports.specs.Faults.{HasRisen, raise};
 ghost use Rattle.pcfs_ports.specs.Observable.{with_front, IsAtEnd};
@@ -16,8 +16,8 @@ use std::marker::Model;
 /// Where bytes come from, in order.
 ///
 /// Its meaning is the bytes that are still to come, which it tells or does not tell, and a count of
-/// faults that never falls, and counts as risen if it stands at `u64::MAX`. Whether it tells its
-/// bytes is the same after each call as before.
+/// faults that never falls, and counts as risen if it stands at `u64::MAX`; and whether its last call
+/// failed. Whether it tells its bytes is the same after each call as before.
 pub trait Source {
     // The bytes that are still to come, if it tells them.
     ghost left: { Self → Option (List ℕ) };
@@ -25,10 +25,13 @@ pub trait Source {
     // How many faults it has had.
     ghost faults: { Self → ℕ };
 
+    // Whether its last call failed.
+    ghost broken: { Self → Bool };
+
     /// Takes the next bytes into the front of `buf`, and returns how many.
     ///
     /// No byte for a `buf` that is not empty is the end of the input. `Failed` comes only if the
-    /// count of faults rose, and takes nothing; at each other answer it stands still. What stands in
+    /// count of faults rose, by one, and takes nothing; at each other answer it stands still. What stands in
     /// `buf` after the bytes that were taken, or at `Failed`, is left open.
     fn read(&mut self, buf: &mut [u8]) -> Result<usize, Failed>
         ensures bound { IfOk result (λ count. count ≤ length buf.new) }
@@ -39,7 +42,9 @@ pub trait Source {
         ensures err { OnErr result (left self.new ≡ left self.old) }
         ensures steady { OnOk result (faults self.new ≡ faults self.old) }
         ensures risen { OnErr result (HasRisen (faults self.old) (faults self.new)) }
-        ensures never_falls { faults self.old ≤ faults self.new };
+        ensures never_falls { faults self.old ≤ faults self.new }
+        ensures by_one { OnErr result (faults self.new ≡ raise (faults self.old)) }
+        ensures broken { broken self.new ≡ is_err result };
 }
 
 /// A source over bytes in memory. It fails exactly at the calls that are to fail.
@@ -80,6 +85,8 @@ impl Source for MemorySource {
 
     ghost faults = { λ s. s.calls.faults };
 
+    ghost broken = { λ s. s.calls.broken };
+
     fn read(&mut self, buf: &mut [u8]) -> Result<usize, Failed>
         // It fails exactly if it is to, and else gives as many bytes as there are and fit.
         ensures planned { IsErr result ↔ FailsNext self.old.calls }
@@ -108,23 +115,29 @@ impl Source for MemorySource {
 pub struct StdSource<R> {
     reader: R,
     faults: u64,
+    // Whether the last call failed.
+    broken: bool,
 }
 
 impl<R> Model for StdSource<R> {
-    ghost use Rattle.std.specs.Prelude.{ℕ};
+    ghost use Rattle.std.specs.Prelude.{ℕ, Bool};
 
-    // the reader, and the count of faults
-    ghost Value = { R × ℕ };
+    // the reader, the count of faults, and whether the last call failed
+    ghost Value = { R × ℕ × Bool };
 
-    ghost view = { λ s. (s.reader, s.faults) };
+    ghost view = { λ s. (s.reader, s.faults, s.broken) };
 }
 
 impl<R: Read> StdSource<R> {
     /// A source over this reader, without a fault.
     pub fn new(reader: R) -> Self
-        ensures { result ≡ (reader, 0) }
+        ensures { result ≡ (reader, 0, false) }
     {
-        StdSource { reader, faults: 0 }
+        StdSource {
+            reader,
+            faults: 0,
+            broken: false,
+        }
     }
 }
 
@@ -133,6 +146,8 @@ impl<R: Read> Source for StdSource<R> {
 
     ghost faults = { λ s. s.1 };
 
+    ghost broken = { λ s. s.2 };
+
     fn read(&mut self, buf: &mut [u8]) -> Result<usize, Failed>
         ensures bound { IfOk result (λ count. count ≤ length buf.new) }
 
@@ -140,11 +155,16 @@ impl<R: Read> Source for StdSource<R> {
         ensures bytes { ReadConsumes (R.remaining self.old.0) (R.remaining self.new.0) result buf.new }
         ensures faults { self.new.1 ≡ (if is_ok result then self.old.1 else raise self.old.1) }
         ensures never_falls { self.old.1 ≤ self.new.1 }
+        ensures broken { self.new.2 ≡ is_err result }
     {
         match self.reader.read(buf) {
-            Ok(count) => Ok(count),
+            Ok(count) => {
+                self.broken = false;
+                Ok(count)
+            }
             Err(_) => {
                 self.faults = self.faults.saturating_add(1);
+                self.broken = true;
                 Err(Failed)
             }
         }

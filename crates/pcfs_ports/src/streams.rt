@@ -1,7 +1,7 @@
 //! Whole streams: a source read to its end, and all of some bytes written.
 
-ghost use Rattle.std.specs.Prelude.{◌≡◌, ◌≢◌, ◌+◌, ◌<◌, ◌≤◌, IfOk, OnOk, OnErr, IsErrOf, length};
-ghost use Rattle.pcfs_ports.specs.Faults.{HasRisen};
+ghost use Rattle.std.specs.Prelude.{◌≡◌, ◌≢◌, ◌+◌, ◌<◌, ◌≤◌, true, IfOk, OnOk, OnErr, IsErrOf, length};
+ghost use Rattle.pcfs_ports.specs.Faults.{HasRisen, raise};
 ghost use Rattle.pcfs_ports.specs.Observable.{with_front, with_back, IsAtEnd, ReadsToEnd, TakesFirst, TakesSome, HoldsSome};
 ghost use Rattle.pcfs_ports.specs.declared.streams.TakeFault.TheVariants.{NoMemory as OutOfMemory, Failed as SourceFailed};
 
@@ -52,14 +52,16 @@ impl From<Failed> for TakeFault {
 
 /// Writes all of the bytes, in as many calls as the sink takes for it.
 ///
-/// `Failed` comes only if the sink's count of faults rose. Some first part may have been written
-/// then. If all were written, the count stands still.
+/// `Failed` comes only if the sink's count of faults rose, by one, in the last call of the sink. Some first
+/// part may have been written then. If all were written, the count stands still.
 pub fn write_all<O: Sink>(output: &mut O, bytes: &[u8]) -> Result<(), Failed>
     ensures ok { OnOk result (O.held output.new ≡ with_back (O.held output.old) bytes.now) }
     ensures err { OnErr result (HoldsSome (O.held output.old) (O.held output.new) bytes.now) }
     ensures steady { OnOk result (O.faults output.new ≡ O.faults output.old) }
     ensures risen { OnErr result (HasRisen (O.faults output.old) (O.faults output.new)) }
     ensures never_falls { O.faults output.old ≤ O.faults output.new }
+    ensures by_one { OnErr result (O.faults output.new ≡ raise (O.faults output.old)) }
+    ensures broken { OnErr result (O.broken output.new ≡ true) }
 {
     let mut at: usize = 0;
     while at < bytes.len() {
@@ -87,6 +89,9 @@ fn take_piece<I: Source>(
     ensures risen { IsErrOf result TakeFault.Failed →
         HasRisen (I.faults input.old) (I.faults input.new) }
     ensures never_falls { I.faults input.old ≤ I.faults input.new }
+    ensures steady { result ≢ Err TakeFault.Failed → I.faults input.new ≡ I.faults input.old }
+    ensures by_one { IsErrOf result TakeFault.Failed → I.faults input.new ≡ raise (I.faults input.old) }
+    ensures broken { IsErrOf result TakeFault.Failed → I.broken input.new ≡ true }
 {
     let count = read_piece(input, piece, INPUT_LIMIT - bytes.len())?;
     bytes.extend(&piece[..count])?;
@@ -96,8 +101,9 @@ fn take_piece<I: Source>(
 /// Reads a source to its end.
 ///
 /// `TooLong` comes if `INPUT_LIMIT` bytes were taken and the end was not met before; it is not
-/// asked whether more follow. `Failed` comes only if the source's count of faults rose. `NoMemory`
-/// may come at any time. After a fault the bytes that were taken are lost.
+/// asked whether more follow. `Failed` comes only if the source's count of faults rose, by one, in the
+/// last call of the source; at each other answer it stands still. `NoMemory` may come at any time. After
+/// a fault the bytes that were taken are lost.
 pub fn read_to_end<I: Source>(alloc: Global, input: &mut I) -> Result<Bytes, TakeFault>
     ensures ok { IfOk result (λ bytes. ReadsToEnd (I.left input.old) (I.left input.new) bytes) }
     ensures short { IfOk result (λ bytes. length bytes < INPUT_LIMIT) }
@@ -107,6 +113,9 @@ pub fn read_to_end<I: Source>(alloc: Global, input: &mut I) -> Result<Bytes, Tak
     ensures risen { IsErrOf result TakeFault.Failed →
         HasRisen (I.faults input.old) (I.faults input.new) }
     ensures never_falls { I.faults input.old ≤ I.faults input.new }
+    ensures steady { result ≢ Err TakeFault.Failed → I.faults input.new ≡ I.faults input.old }
+    ensures by_one { IsErrOf result TakeFault.Failed → I.faults input.new ≡ raise (I.faults input.old) }
+    ensures broken { IsErrOf result TakeFault.Failed → I.broken input.new ≡ true }
 {
     let mut piece = new_piece(alloc)?;
     let mut bytes = Bytes::new(alloc);

@@ -1,6 +1,6 @@
 //! A port of the system, on the loopback address.
 
-ghost use Rattle.std.specs.Prelude.{◌≡◌, ◌≢◌, ℕ, ◌≤◌, None, OnErr, is_ok, if◌then◌else◌};
+ghost use Rattle.std.specs.Prelude.{◌≡◌, ◌≢◌, ℕ, ◌≤◌, true, false, None, OnOk, OnErr, is_ok, is_err, if◌then◌else◌};
 ghost use Rattle.pcfs_ports.specs.Faults.{raise, HasRisen};
 ghost use Rattle.pcfs_ports.specs.Telling.{IfGiven, IsAt};
 
@@ -26,26 +26,29 @@ pub struct TcpPort<'a, R: Net> {
     rt: &'a R,
     listener: Option<R::Listener>,
     faults: u64,
+    // Whether the last call failed.
+    broken: bool,
 }
 
 impl<'a, R: Net> Model for TcpPort<'a, R> {
-    ghost use Rattle.std.specs.Prelude.{ℕ};
+    ghost use Rattle.std.specs.Prelude.{ℕ, Bool};
 
-    // the count of faults
-    ghost Value = { ℕ };
+    // the count of faults, and whether the last call failed
+    ghost Value = { ℕ × Bool };
 
-    ghost view = { λ s. s.faults };
+    ghost view = { λ s. (s.faults, s.broken) };
 }
 
 impl<'a, R: Net> TcpPort<'a, R> {
     /// A port of this runtime's system, without a fault. It does not listen yet.
     pub fn new(rt: &'a R) -> Self
-        ensures { result ≡ 0 }
+        ensures { result ≡ (0, false) }
     {
         TcpPort {
             rt,
             listener: None,
             faults: 0,
+            broken: false,
         }
     }
 }
@@ -85,22 +88,31 @@ where
 
     ghost over = { λ _. ⊥ };
 
-    ghost faults = { λ s. s };
+    ghost faults = { λ s. s.0 };
+
+    ghost broken = { λ s. s.1 };
+
+    ghost waiting_is_length = { λ _. tt };
 
     fn listen(&mut self, port: u16) -> Result<(), Failed>
-        ensures faults { self.new ≡ (if is_ok result then self.old else raise self.old) }
-        ensures risen { OnErr result (HasRisen self.old self.new) }
-        ensures never_falls { self.old ≤ self.new }
+        ensures faults { self.new.0 ≡ (if is_ok result then self.old.0 else raise self.old.0) }
+        ensures risen { OnErr result (HasRisen self.old.0 self.new.0) }
+        ensures never_falls { self.old.0 ≤ self.new.0 }
+        ensures steady { OnOk result (self.new.0 ≡ self.old.0) }
+        ensures by_one { OnErr result (self.new.0 ≡ raise self.old.0) }
+        ensures broken { self.new.1 ≡ is_err result }
     {
         match TcpListener::bind(self.rt, (Ipv4Addr::LOCALHOST, port)) {
             Ok(listener) => {
                 self.listener = Some(listener);
+                self.broken = false;
                 let _ = eprintln!(self.rt; "listening on 127.0.0.1:{port}");
                 Ok(())
             }
             Err(error) => {
                 let _ = eprintln!(self.rt; "port {port}: {error}");
                 self.faults = self.faults.saturating_add(1);
+                self.broken = true;
                 Err(Failed)
             }
         }
@@ -110,16 +122,24 @@ where
         ensures first { IfGiven result (λ input output. IsAt None 0 input output) }
         ensures never_closed { result ≢ Accepted.Closed }
         ensures memory { result ≢ Accepted.NoMemory }
-        ensures failed { result ≡ Accepted.Failed → self.new ≡ raise self.old }
-        ensures ok { result ≢ Accepted.Failed → self.new ≡ self.old }
-        ensures risen { result ≡ Accepted.Failed → HasRisen self.old self.new }
-        ensures never_falls { self.old ≤ self.new }
+        ensures failed { result ≡ Accepted.Failed → self.new ≡ (raise self.old.0, true) }
+        ensures ok { result ≢ Accepted.Failed → self.new ≡ (self.old.0, false) }
+        ensures risen { result ≡ Accepted.Failed → HasRisen self.old.0 self.new.0 }
+        ensures never_falls { self.old.0 ≤ self.new.0 }
+        ensures steady { result ≢ Accepted.Failed → self.new.0 ≡ self.old.0 }
+        ensures by_one { result ≡ Accepted.Failed → self.new.0 ≡ raise self.old.0 }
+        ensures broken { result ≡ Accepted.Failed → self.new.1 ≡ true }
+        ensures whole { result ≢ Accepted.Failed → self.new.1 ≡ false }
     {
         match next_stream(&self.listener) {
-            Ok((input, output)) => Accepted::Conn(StdSource::new(input), StdSink::new(output)),
+            Ok((input, output)) => {
+                self.broken = false;
+                Accepted::Conn(StdSource::new(input), StdSink::new(output))
+            }
             Err(error) => {
                 let _ = eprintln!(self.rt; "port: {error}");
                 self.faults = self.faults.saturating_add(1);
+                self.broken = true;
                 Accepted::Failed
             }
         }

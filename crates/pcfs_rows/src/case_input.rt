@@ -20,6 +20,8 @@ pub struct CaseInput {
     at: usize,
     reads: u32,
     faults: u64,
+    // Whether the last read failed.
+    broken: bool,
 }
 
 impl CaseInput {
@@ -33,6 +35,7 @@ impl CaseInput {
             at: 0,
             reads: 0,
             faults: 0,
+            broken: false,
         }
     }
 
@@ -47,7 +50,8 @@ impl CaseInput {
 
     // Begins anew, if all bytes were given and are to be given again.
     fn begin_again(&mut self)
-        ensures { self.new.faults ≡ self.old.faults }
+        ensures same { self.new.faults ≡ self.old.faults }
+        ensures broken { self.new.broken ≡ self.old.broken }
     {
         if self.bytes.len() <= self.at && 1 < self.times {
             self.times -= 1;
@@ -61,11 +65,15 @@ impl Source for CaseInput {
 
     ghost faults = { λ s. s.faults };
 
+    ghost broken = { λ s. s.broken };
+
     fn read(&mut self, buf: &mut [u8]) -> Result<usize, Failed> {
         if self.is_to_fail() {
             self.faults = self.faults.saturating_add(1);
+            self.broken = true;
             return Err(Failed);
         }
+        self.broken = false;
         self.begin_again();
         let at = self.at.min(self.bytes.len());
         let left = &self.bytes.as_slice()[at..];

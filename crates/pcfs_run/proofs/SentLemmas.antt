@@ -16,6 +16,7 @@ use Rattle.file_world.proofs.operation.Op.TheSendSync as op
 use Rattle.bl_syntax.proofs.lists.Sequence.TheSendSync as sequence
 use Rattle.bl_syntax.proofs.grant.Grant.TheSendSync as grant
 use Rattle.procap.proofs.procap.Procap.TheSendSync as procap
+use Rattle.record_parts.proofs.proof_record.ProofRecord.TheSendSync as proof_record
 use Rattle.bl_syntax.proofs.names.Principal.TheSendSync as principal
 use Rattle.bl_syntax.specs.contracts.formula.Formula as Formula
 use Rattle.bl_syntax.specs.contracts.statement.Statement as Statement
@@ -80,10 +81,10 @@ record_send : IsSend EventRecord.the_row
 record_send = search (sendable, crosses, sequence.the_send) depth 100 fits 20000
 
 issue_send : IsSend Issue.the_row
-issue_send = search (sendable, crosses, tree_send) depth 100 fits 20000
+issue_send = search (sendable, crosses, proof_record.the_send) depth 100 fits 20000
 
 addition_send : IsSend Addition.the_row
-addition_send = search (sendable, crosses, statement_send, tree_send) depth 100 fits 20000
+addition_send = search (sendable, crosses, statement_send, proof_record.the_send) depth 100 fits 20000
 
 base_send : IsSend Base.the_row
 base_send = search (sendable, crosses, world_send, statement_send, issue_send) depth 100 fits 20000
@@ -127,7 +128,7 @@ event_field : IsSend Event.the_field.row
 event_field = search (sendable, crosses, statement_send, tree_send, op.the_field_send, sequence.the_send, grant.the_send, procap.the_send, principal.the_send) depth 100 fits 20000
 
 addition_field : IsSend Addition.the_field.row
-addition_field = search (sendable, crosses, statement_send, tree_send) depth 100 fits 20000
+addition_field = search (sendable, crosses, statement_send, proof_record.the_send) depth 100 fits 20000
 
 pending_field : IsSend Pending.the_field.row
 pending_field = search (sendable, crosses, event_field, addition_field) depth 100 fits 20000

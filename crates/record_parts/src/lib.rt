@@ -2,7 +2,7 @@
 //! issued and done.
 //!
 //! What is written is the one spelling of its value, and what is read is spelled so. Any other bytes give their first
-//! fault from the left. What is read is copied once, out of the input.
+//! fault from the left. What is read is copied once, out of the input. A proof may be kept as its bytes.
 #![tactic(auto)]
 
 pub mod fields;
@@ -10,10 +10,14 @@ pub mod laws;
 mod operation_reading;
 mod operation_writing;
 mod parts;
+mod proof_record;
 mod record_reading;
 mod record_writing;
 
 pub use operation_reading::operation_at;
 pub use operation_writing::write_operation;
+pub use proof_record::ProofRecord;
 pub use record_reading::{acted_at, issued_at, registered_at, withdrawn_at};
-pub use record_writing::{write_acted, write_issued, write_registered, write_withdrawn};
+pub use record_writing::{
+    write_acted, write_issued, write_issued_record, write_registered, write_withdrawn,
+};

@@ -7,6 +7,8 @@ mod events;
 #[cfg(test)]
 mod operations;
 #[cfg(test)]
+mod proofs;
+#[cfg(test)]
 mod rows;
 #[cfg(test)]
 mod texts;

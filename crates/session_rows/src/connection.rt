@@ -1,7 +1,7 @@
 //! Connections that say the steps of a board.
 
-ghost use Rattle.std.specs.Prelude.{◌≡◌, ◌≤◌, None, IfOk, OnOk, OnErr, length};
-ghost use Rattle.pcfs_ports.specs.Faults.{HasRisen};
+ghost use Rattle.std.specs.Prelude.{◌≡◌, ◌≤◌, None, IfOk, OnOk, OnErr, length, is_err};
+ghost use Rattle.pcfs_ports.specs.Faults.{HasRisen, raise};
 
 use crate::board::{Board, Taken, Turn};
 use bl_syntax::Numbers;
@@ -30,6 +30,8 @@ pub struct RowSource<'b> {
     step: usize,
     given: usize,
     faults: u64,
+    // Whether the last read failed.
+    broken: bool,
 }
 
 impl<'b> RowSource<'b> {
@@ -68,6 +70,7 @@ impl<'b> RowSource<'b> {
     fn give_line(&mut self, made: usize, line: &[u8], buf: &mut [u8]) -> usize
         ensures some { result ≤ length buf.new }
         ensures same { self.new.faults ≡ self.old.faults }
+        ensures broken { self.new.broken ≡ self.old.broken }
     {
         let at = self.given_of(made).min(line.len());
         let count = give(&line[at..], buf);
@@ -82,7 +85,10 @@ impl<'b> RowSource<'b> {
         ensures steady { OnOk result (self.new.faults ≡ self.old.faults) }
         ensures risen { OnErr result (HasRisen self.old.faults self.new.faults) }
         ensures never_falls { self.old.faults ≤ self.new.faults }
+        ensures by_one { OnErr result (self.new.faults ≡ raise self.old.faults) }
+        ensures broken { self.new.broken ≡ is_err result }
     {
+        self.broken = false;
         let board = self.board;
         let (made, step) = match board.next_step() {
             Some((made, step)) => (made, step),
@@ -92,6 +98,7 @@ impl<'b> RowSource<'b> {
             Turn::ReadFails => {
                 board.advance();
                 self.faults = self.faults.saturating_add(1);
+                self.broken = true;
                 Err(Failed)
             }
             Turn::Ends => {
@@ -111,7 +118,10 @@ impl<'b> Source for RowSource<'b> {
 
     ghost faults = { λ s. s.faults };
 
+    ghost broken = { λ s. s.broken };
+
     fn read(&mut self, buf: &mut [u8]) -> Result<usize, Failed> {
+        self.broken = false;
         if self.board.goes_on_after_fault(self.connection) {
             return Ok(0);
         }
@@ -129,6 +139,8 @@ pub struct RowSink<'b> {
     board: &'b Board,
     connection: u64,
     faults: u64,
+    // Whether the last write failed.
+    broken: bool,
 }
 
 impl<'b> RowSink<'b> {
@@ -150,7 +162,10 @@ impl<'b> Sink for RowSink<'b> {
 
     ghost faults = { λ s. s.faults };
 
+    ghost broken = { λ s. s.broken };
+
     fn write(&mut self, piece: &[u8]) -> Result<usize, Failed> {
+        self.broken = false;
         if self.board.goes_on_after_fault(self.connection) {
             return Ok(piece.len());
         }
@@ -158,6 +173,7 @@ impl<'b> Sink for RowSink<'b> {
             Taken::Replied => Ok(piece.len()),
             Taken::Fails => {
                 self.faults = self.faults.saturating_add(1);
+                self.broken = true;
                 Err(Failed)
             }
             Taken::NotYet => {
@@ -177,6 +193,8 @@ pub struct RowListener<'b> {
     failing: Numbers,
     calls: u32,
     faults: u64,
+    // Whether the last call failed.
+    broken: bool,
 }
 
 impl<'b> RowListener<'b> {
@@ -189,15 +207,18 @@ impl<'b> RowListener<'b> {
             failing,
             calls: 0,
             faults: 0,
+            broken: false,
         }
     }
 
     // Whether the next call fails. It is counted.
     fn is_to_fail(&mut self) -> bool
-        ensures { self.new.faults ≡ self.old.faults }
+        ensures same { self.new.faults ≡ self.old.faults }
+        ensures broken { self.new.broken ≡ result }
     {
         let fails = self.failing.as_slice().contains(&self.calls);
         self.calls = self.calls.saturating_add(1);
+        self.broken = fails;
         fails
     }
 }
@@ -214,6 +235,10 @@ impl<'b> Listener for RowListener<'b> {
     ghost over = { λ _. Unit {0} };
 
     ghost faults = { λ s. s.faults };
+
+    ghost broken = { λ s. s.broken };
+
+    ghost waiting_is_length = { λ _. tt };
 
     fn listen(&mut self, _port: u16) -> Result<(), Failed> {
         if self.is_to_fail() {
@@ -238,11 +263,13 @@ impl<'b> Listener for RowListener<'b> {
             step: 0,
             given: 0,
             faults: 0,
+            broken: false,
         };
         let output = RowSink {
             board: self.board,
             connection: self.accepted,
             faults: 0,
+            broken: false,
         };
         Accepted::Conn(input, output)
     }

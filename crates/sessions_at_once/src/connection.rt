@@ -1,6 +1,6 @@
 //! Connections of a meeting.
 
-ghost use Rattle.std.specs.Prelude.{◌≡◌, ◌≤◌, None, length};
+ghost use Rattle.std.specs.Prelude.{◌≡◌, ◌≤◌, false, None, length};
 
 use crate::meeting::Meeting;
 use bl_syntax::Bytes;
@@ -56,6 +56,8 @@ impl<'b> Source for Speaker<'b> {
 
     ghost faults = { λ _. 0 };
 
+    ghost broken = { λ _. false };
+
     fn read(&mut self, buf: &mut [u8]) -> Result<usize, Failed> {
         let reads = self.reads;
         self.reads = reads.saturating_add(1);
@@ -88,6 +90,8 @@ impl<'b> Sink for Hearer<'b> {
     ghost held = { λ _. None };
 
     ghost faults = { λ _. 0 };
+
+    ghost broken = { λ _. false };
 
     fn write(&mut self, piece: &[u8]) -> Result<usize, Failed> {
         if let Ok(reply) = str::from_utf8(piece) {
@@ -128,6 +132,10 @@ impl<'b> Listener for TwoConnections<'b> {
     ghost over = { λ _. Unit {0} };
 
     ghost faults = { λ _. 0 };
+
+    ghost broken = { λ _. false };
+
+    ghost waiting_is_length = { λ _. tt };
 
     fn listen(&mut self, _port: u16) -> Result<(), Failed> {
         Ok(())

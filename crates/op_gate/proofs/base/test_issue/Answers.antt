@@ -24,9 +24,9 @@ returns-after-check_again c =
     let issue = c.args.issue.now in
     elim c.match-check_again.branch [
       | in-Ok-check_again w ↦ subst (λ (r : Result (Unit {0}) AdmitFault). TellsTest (IsGoodIssue statements issue) Unproved r) (sym w.result-is)
-          (issue_good statements issue c.as_slice-cited.result.now c.in-Ok-copy.proof c.in-Ok.cites w.in-Ok-check_again.field-0 c.as_slice-cited.ensures c.in-Ok-copy.ensures c.in-Ok.ensures w.in-Ok-check_again.ensures)
+          (issue_good statements issue c.as_slice-cited.result.now c.in-Ok-proof.proof c.in-Ok.cites w.in-Ok-check_again.field-0 c.as_slice-cited.ensures c.in-Ok-proof.ensures c.in-Ok.ensures w.in-Ok-check_again.ensures)
       | in-Err-check_again w ↦ subst (λ (r : Result (Unit {0}) AdmitFault). TellsTest (IsGoodIssue statements issue) Unproved r) (sym w.result-is)
-          (issue_unchecked statements issue c.as_slice-cited.result.now c.in-Ok-copy.proof c.in-Ok.cites w.in-Err-check_again.fault c.as_slice-cited.ensures c.in-Ok-copy.ensures c.in-Ok.ensures w.in-Err-check_again.ensures)
+          (issue_unchecked statements issue c.as_slice-cited.result.now c.in-Ok-proof.proof c.in-Ok.cites w.in-Err-check_again.fault c.as_slice-cited.ensures c.in-Ok-proof.ensures c.in-Ok.ensures w.in-Err-check_again.ensures)
     ]
 
 pub returns-in-Err : goal.returns-in-Err

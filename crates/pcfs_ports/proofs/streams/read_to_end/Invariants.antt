@@ -9,6 +9,7 @@ invariant-loop-input g l = record {
   room : length l.piece.items ≡ 65536;
   moved : g.I.Source.left l.fn.input ≡ with_front l.bytes (g.I.Source.left l.input);
   never_falls : g.I.Source.faults l.fn.input ≤ g.I.Source.faults l.input;
+  steady : g.I.Source.faults l.input ≡ g.I.Source.faults l.fn.input;
 }
 
 abbrev pub decreases-loop-input : goal.decreases-loop-input

@@ -10,4 +10,4 @@ taken : (bytes : List ℕ) (at : ℕ) (old new : CallPlanView) → new ≡ after
 taken bytes at old new counted = rw (counted, drop-drop 16 at bytes) refl
 
 pub returns-clause-taken : goal.returns-clause-taken
-returns-clause-taken c = rw (← c.self.view_is) (taken c.self.inside.bytes c.self.inside.at _ _ c.count.ensures)
+returns-clause-taken c = rw (← c.self.view_is) (taken c.self.inside.bytes c.self.inside.at c.self.inside.plan _ c.count.ensures)
