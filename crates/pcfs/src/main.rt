@@ -1,7 +1,7 @@
 //! The file server as a program: `pcfs script` answers the lines of its standard input on its standard output, over a
 //! store in memory, or with `--stored` over the one in the files `pcfs.a` and `pcfs.b` of the current folder, which
 //! `pcfs init` makes, and of which `pcfs checkpoint` makes a checkpoint. `pcfs serve PORT COUNT` gives each of so many
-//! connections to that port of 127.0.0.1 a session over that store.
+//! connections to that port of 127.0.0.1 a session over that store, and `pcfs serve9 PORT COUNT` each 9P2000.
 //!
 //! It ends with the status that `pcfs_run::run` returns, or with 19, if the secrets file is bad or cannot be read. If there is
 //! no memory for its words or its secrets, that is 9. Words that are not UTF-8 count as none. The secrets stand in the file

@@ -4,5 +4,6 @@ pub mod SentLemmas
 pub mod ServedLemmas
 pub mod WordsLemmas
 pub mod UnsaidLemmas
+pub mod NineLawLemmas
 pub mod HealthyLemmas
 mod GoneLemmas

@@ -31,7 +31,7 @@ first_of_none : (lines : List (List ℕ)) → AreFirstLines (Some []) lines → 
 first_of_none [] first = refl
 first_of_none (line ∷ lines) first = absurd cc
 
-get_empty : (inputs : List (Option (List ℕ))) (k : ℕ) (left : Option (List ℕ)) → AllByRecursion (λ left. left ≡ Some []) inputs → slice_get inputs k ≡ Some left → left ≡ Some []
+pub get_empty : (inputs : List (Option (List ℕ))) (k : ℕ) (left : Option (List ℕ)) → AllByRecursion (λ left. left ≡ Some []) inputs → slice_get inputs k ≡ Some left → left ≡ Some []
 get_empty [] k left empty found = absurd cc
 get_empty (first ∷ inputs) zero left empty found = let both : Some first ≡ Some left = found in let same : first ≡ left = cc in sym same ∙ empty.0
 get_empty (first ∷ inputs) (suc k) left empty found = get_empty inputs k left empty.1 found

@@ -2,4 +2,5 @@ pub mod Passes
 pub mod ServeWords
 pub mod Served
 pub mod Laws
+pub mod NineLaws
 pub mod Healthy
