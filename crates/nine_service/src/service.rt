@@ -179,6 +179,8 @@ impl<'a, D: Disk + Send, C: TurnClock, N: Nonces + 'a, L: Listener> Service<L::I
 
     ghost faults = { λ door. N.faults door.nonces.now };
 
+    ghost broken = { λ door. N.broken door.nonces.now };
+
     // The entries that were there at first, and which reference to the nonces it is.
     ghost kept = { λ door. (door.door.opening, door.nonces.ghost_name) };
 

@@ -13,6 +13,7 @@ use denote.Param.{param}
 use Rattle.pcfs_run.proofs.SentLemmas.{opened_send, nine_sync}
 use Rattle.session_service.proofs.SourceLemmas.{input_of, nonce_first}
 use Rattle.pcfs_run.proofs.PassLemmas.{nobody_yet}
+use Rattle.pcfs_run.proofs.ServedLemmas.{one_of_two}
 use Rattle.pcfs_run.proofs.nine_serving.attend_all.Goals as goal
 
 pub serve_conns-requires-send-H-Token : goal.serve_conns-requires-send-H-Token
@@ -44,7 +45,14 @@ pub returns-clause-every : goal.returns-clause-every
 returns-clause-every g c = omega (arith, c.serve_conns.ensures.admitted, c.requires.unmade)
 
 pub returns-clause-attended : goal.returns-clause-attended
-returns-clause-attended g c = record { taken = c.serve_conns.ensures.taken; cause = c.serve_conns.ensures.cause; risen = c.serve_conns.ensures.risen }
+returns-clause-attended g c = record {
+  taken = c.serve_conns.ensures.taken;
+  cause = c.serve_conns.ensures.cause;
+  risen = c.serve_conns.ensures.risen;
+  one_failed = λ failed. one_of_two (c.serve_conns.ensures.one_failed failed);
+  faults_stay = c.serve_conns.ensures.listener_steady;
+  nonce_faults_stay = c.serve_conns.ensures.door_steady;
+}
 
 pub returns-clause-of_connections : goal.returns-clause-of_connections
 returns-clause-of_connections g c =
