@@ -2,7 +2,7 @@
 _pcfs() {
     local word=${COMP_WORDS[COMP_CWORD]}
     case $COMP_CWORD in
-    1) COMPREPLY=($(compgen -W 'audit check checkpoint export follow init load modes rootsign script serve' -- "$word")) ;;
+    1) COMPREPLY=($(compgen -W 'audit check checkpoint export follow init load modes rootsign script serve serve9' -- "$word")) ;;
     2)
         case ${COMP_WORDS[1]} in
         script) COMPREPLY=($(compgen -W '--stored' -- "$word")) ;;
