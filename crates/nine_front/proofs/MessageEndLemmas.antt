@@ -181,7 +181,7 @@ module _ (gives : List StoreEntry → ℤ → Type 0) (p : StorePass) (always : 
             given = t.given;
             placed = (
               places.ends (length before) (length before + length t.given) node name names q t.reply (names_directory (state_of_entries p.root (before ++ t.given)) t.reply) told.line t.given fits
-              (record { placed = placed_last before t.given (look_of who node name q) t.reply t.turn; told = refl }) none told.told,
+                  (record { placed = placed_last before t.given (look_of who node name q) t.reply t.turn; told = refl }) none told.told,
               (tt, (t.calm, tt)),
             );
             calm = told.calm;
@@ -202,7 +202,7 @@ module _ (gives : List StoreEntry → ℤ → Type 0) (p : StorePass) (always : 
             given = t.given ++ rest.given;
             placed = (
               goes_on (length before) (length before + length t.given) (length before + length (t.given ++ rest.given)) node child name names q t.reply kind rest.found rest.end t.given rest.given fits
-              (record { placed = placed_front before t.given rest.given (look_of who node name q) t.reply t.turn; told = refl }) is others.0,
+                  (record { placed = placed_front before t.given rest.given (look_of who node name q) t.reply t.turn; told = refl }) is others.0,
               (others.1.0, (t.calm, others.1.1)),
             );
             calm = calm_without (walk_reply (files.Node child kind ∷ rest.found) rest.end) refl;
