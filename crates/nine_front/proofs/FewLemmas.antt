@@ -1,5 +1,5 @@
 -- Each turn adds one entry at most, and messages have no more turns than their kinds and names.
-use Rattle.std.proofs.Common.{◌≡◌, ◌≤◌, ◌+◌, ℕ, List, [], ◌∷◌, ◌++◌, length, Bool, Option, refl, sym, ap, subst, arith, length-append}
+use Rattle.std.proofs.Common.{◌≡◌, ◌≤◌, ◌+◌, ℕ, List, [], ◌∷◌, ◌++◌, length, Bool, Option, sym, ap, subst, arith, length-append, zero-add}
 use Rattle.std.specs.Prelude.{ℤ}
 use Rattle.bl_syntax.specs.declared.terms.NodeId.{NodeId}
 use Rattle.procap.specs.declared.procap.Procap.{Procap}
@@ -52,7 +52,7 @@ walk_turns_most m fid newfid names same = ap most_turns same
 
 -- those of more messages
 most_turns-append : (messages others : List MessageView) → most_turns_of (messages ++ others) ≡ most_turns_of messages + most_turns_of others
-most_turns-append [] others = refl
+most_turns-append [] others = sym (zero-add (most_turns_of others))
 most_turns-append (m ∷ messages) others = let rest = most_turns-append messages others in omega (arith, rest)
 
 module _ (gives : List StoreEntry → ℤ → Type 0) (p : StorePass) where
