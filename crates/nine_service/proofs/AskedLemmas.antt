@@ -160,7 +160,7 @@ module _ (gives : List StoreEntry → ℤ → Type 0) (p : StorePass) (history :
       walk_asked earlier _ _ _ _ _ _ _ all (places.ends place to node name rest q replied kind line given fits turn named told_so) =
           turn_asked place (look_of who node name q) replied to given (by_a_name fid newfid names earlier rest first node who name q same is caller all fits) turn.placed
       walk_asked earlier _ _ _ _ _ _ _ all (no_procap place node name rest none) = tt
-      walk_asked earlier _ _ _ _ _ _ _ all (places.lacks_memory place node name rest) = tt
+      walk_asked earlier _ _ _ _ _ _ _ all (places.lacks_memory place node name rest q fits) = tt
 
     message_asked : (place : ℕ) (reply : ReplyView) (after : Connection) (to : ℕ) (given : List StoreEntry) → MessagePlaced gives p history place s m.request reply after to given → Are (heard ++ m ∷ []) given
     message_asked place _ _ _ _ (refused asked error asks is) = tt
