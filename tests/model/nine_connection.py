@@ -150,10 +150,15 @@ class Connection:
         return reply_bytes(tag, "error", what.encode().hex()).hex() if what in ERRORS else what
 
 
-for row in sys.stdin.read().splitlines():
-    print(row)
-    kind, number, *words = row.split(" ")
-    connection = Connection(int(number))
-    for word in words:
-        message, _, given = word.partition("/")
-        print(connection.take(bytes_of(message), given.split(",") if given else []))
+def main():
+    for row in sys.stdin.read().splitlines():
+        print(row)
+        kind, number, *words = row.split(" ")
+        connection = Connection(int(number))
+        for word in words:
+            message, _, given = word.partition("/")
+            print(connection.take(bytes_of(message), given.split(",") if given else []))
+
+
+if __name__ == "__main__":
+    main()

@@ -9,7 +9,7 @@ use Rattle.command_words.specs.Commands.{program}
 use Rattle.command_words.specs.CommandWords.{GivesNumber}
 use Rattle.command_words.specs.Tasks.{AsksFor, Finds, IsTaskOf, texts_of}
 use Rattle.command_words.specs.declared.words.Task.{Task}
-use Rattle.command_words.specs.declared.words.Task.TheVariants.{Script, Stored, Init, Checkpoint, Audit, Export, Follow, Check, Load, Modes, RootSign, Serve}
+use Rattle.command_words.specs.declared.words.Task.TheVariants.{Script, Stored, Init, Checkpoint, Audit, Export, Follow, Check, Load, Modes, RootSign, Serve, Serve9}
 use Rattle.command_words.proofs.GivenLemmas.{given_once}
 
 -- ---- whether a script is stored
@@ -41,6 +41,7 @@ first_number (Load rounds seed) = Some rounds
 first_number (Modes from to) = Some from
 first_number (RootSign height from) = Some height
 first_number (Serve port count) = Some port
+first_number (Serve9 port count) = Some port
 
 abbrev second_number : Task → ℕ
 second_number Script = 0
@@ -55,6 +56,7 @@ second_number (Load rounds seed) = seed
 second_number (Modes from to) = to
 second_number (RootSign height from) = from
 second_number (Serve port count) = count
+second_number (Serve9 port count) = count
 
 -- under which names they are given to a command
 abbrev first_name : Text → Option Text
@@ -65,6 +67,7 @@ first_name name =
     else if bytes_eq name (codes "modes") then Some (codes "from")
     else if bytes_eq name (codes "rootsign") then Some (codes "height")
     else if bytes_eq name (codes "serve") then Some (codes "port")
+    else if bytes_eq name (codes "serve9") then Some (codes "port")
     else None
 
 abbrev second_name : Text → Option Text
@@ -73,6 +76,7 @@ second_name name =
     else if bytes_eq name (codes "modes") then Some (codes "to")
     else if bytes_eq name (codes "rootsign") then Some (codes "from")
     else if bytes_eq name (codes "serve") then Some (codes "count")
+    else if bytes_eq name (codes "serve9") then Some (codes "count")
     else None
 
 -- the number that is given under a name, if there is such a name; nothing may be said of it
@@ -117,7 +121,8 @@ task_by name stored one other =
     else if bytes_eq name (codes "load") then Load (number_of one) other
     else if bytes_eq name (codes "modes") then Modes (number_of one) other
     else if bytes_eq name (codes "rootsign") then RootSign (number_of one) other
-    else Serve (number_of one) other
+    else if bytes_eq name (codes "serve") then Serve (number_of one) other
+    else Serve9 (number_of one) other
 
 module _ (name : Text) (given : List Row) where
   abbrev is_stored : Bool
@@ -136,6 +141,7 @@ module _ (name : Text) (given : List Row) where
   named (Modes from to) is = ap (λ (n : Text). task_by n is_stored (Some from) to) is.0
   named (RootSign height from) is = ap (λ (n : Text). task_by n is_stored (Some height) from) is.0
   named (Serve port count) is = ap (λ (n : Text). task_by n is_stored (Some port) count) is.0
+  named (Serve9 port count) is = ap (λ (n : Text). task_by n is_stored (Some port) count) is.0
 
   -- the numbers of a task are given under their names
   abbrev Firsts : Option Text → Option ℕ → Type 0
@@ -158,6 +164,7 @@ module _ (name : Text) (given : List Row) where
   first_given (Modes from to) is = subst (λ (n : Text). Firsts (first_name n) (Some from)) (sym is.0) (0, 253402300799, is.1)
   first_given (RootSign height from) is = subst (λ (n : Text). Firsts (first_name n) (Some height)) (sym is.0) (0, 8, is.1)
   first_given (Serve port count) is = subst (λ (n : Text). Firsts (first_name n) (Some port)) (sym is.0) (1, 65535, is.1)
+  first_given (Serve9 port count) is = subst (λ (n : Text). Firsts (first_name n) (Some port)) (sym is.0) (1, 65535, is.1)
 
   abbrev Seconds : Option Text → ℕ → Type 0
   Seconds o number = GivesSecond o given number
@@ -175,6 +182,7 @@ module _ (name : Text) (given : List Row) where
   second_given (Modes from to) is = subst (λ (n : Text). Seconds (second_name n) to) (sym is.0) (0, 253402300799, is.2)
   second_given (RootSign height from) is = subst (λ (n : Text). Seconds (second_name n) from) (sym is.0) (0, 2 ^ height, is.2)
   second_given (Serve port count) is = subst (λ (n : Text). Seconds (second_name n) count) (sym is.0) (1, 1000000, is.2)
+  second_given (Serve9 port count) is = subst (λ (n : Text). Seconds (second_name n) count) (sym is.0) (1, 1000000, is.2)
 
   task_once : (first second : Task) → IsTaskOf name given first → IsTaskOf name given second → first ≡ second
   task_once first second one other =

@@ -16,7 +16,7 @@ use Rattle.command_words.specs.Commands.{program}
 use Rattle.command_words.specs.CommandWords.{GivesNumber, GivesPieces}
 use Rattle.command_words.specs.Tasks.{AreKnown, AskForNoRun, AsksFor, Finds, IsFit, IsServing, IsTaskOf, texts_of}
 use Rattle.command_words.specs.declared.words.Task.{Task}
-use Rattle.command_words.specs.declared.words.Task.TheVariants.{Script, Stored, Init, Checkpoint, Audit, Export, Follow, Check, Load, Modes, RootSign, Serve}
+use Rattle.command_words.specs.declared.words.Task.TheVariants.{Script, Stored, Init, Checkpoint, Audit, Export, Follow, Check, Load, Modes, RootSign, Serve, Serve9}
 
 -- ---- names
 
@@ -40,6 +40,7 @@ module _ (given : List Row) where
   no_audit none (Modes from to) is = absurd (differ (codes "audit") (codes "modes") refl is.0)
   no_audit none (RootSign height from) is = absurd (differ (codes "audit") (codes "rootsign") refl is.0)
   no_audit none (Serve port count) is = absurd (differ (codes "audit") (codes "serve") refl is.0)
+  no_audit none (Serve9 port count) is = absurd (differ (codes "audit") (codes "serve9") refl is.0)
 
   -- pieces are given, but as no such number
   pub no_pieces : (text : Text) → first_of (codes "pieces") given ≡ Some text → ((n : ℕ) → GivesNumber 1 64 (codes "pieces") given n → ⊥) → (pieces : Option ℕ) → GivesPieces given pieces → ⊥
@@ -59,6 +60,7 @@ module _ (given : List Row) where
   no_export none (Modes from to) is = absurd (differ (codes "export") (codes "modes") refl is.0)
   no_export none (RootSign height from) is = absurd (differ (codes "export") (codes "rootsign") refl is.0)
   no_export none (Serve port count) is = absurd (differ (codes "export") (codes "serve") refl is.0)
+  no_export none (Serve9 port count) is = absurd (differ (codes "export") (codes "serve9") refl is.0)
 
   pub no_load : ((rounds seed : ℕ) → GivesNumber 0 20000 (codes "rounds") given rounds → GivesNumber 0 (2 ^ 64 - 1) (codes "seed") given seed → ⊥) → (task : Task) → IsTaskOf (codes "load") given task → ⊥
   no_load none Script is = absurd (differ (codes "load") (codes "script") refl is.0)
@@ -73,6 +75,7 @@ module _ (given : List Row) where
   no_load none (Modes from to) is = absurd (differ (codes "load") (codes "modes") refl is.0)
   no_load none (RootSign height from) is = absurd (differ (codes "load") (codes "rootsign") refl is.0)
   no_load none (Serve port count) is = absurd (differ (codes "load") (codes "serve") refl is.0)
+  no_load none (Serve9 port count) is = absurd (differ (codes "load") (codes "serve9") refl is.0)
 
   pub no_modes : ((from to : ℕ) → GivesNumber 0 253402300799 (codes "from") given from → GivesNumber 0 253402300799 (codes "to") given to → ⊥) → (task : Task) → IsTaskOf (codes "modes") given task → ⊥
   no_modes none Script is = absurd (differ (codes "modes") (codes "script") refl is.0)
@@ -87,6 +90,7 @@ module _ (given : List Row) where
   no_modes none (Modes from to) is = none from to is.1 is.2
   no_modes none (RootSign height from) is = absurd (differ (codes "modes") (codes "rootsign") refl is.0)
   no_modes none (Serve port count) is = absurd (differ (codes "modes") (codes "serve") refl is.0)
+  no_modes none (Serve9 port count) is = absurd (differ (codes "modes") (codes "serve9") refl is.0)
 
   pub no_rootsign : ((height from : ℕ) → GivesNumber 0 8 (codes "height") given height → GivesNumber 0 (2 ^ height) (codes "from") given from → ⊥) → (task : Task) → IsTaskOf (codes "rootsign") given task → ⊥
   no_rootsign none Script is = absurd (differ (codes "rootsign") (codes "script") refl is.0)
@@ -101,6 +105,7 @@ module _ (given : List Row) where
   no_rootsign none (Modes from to) is = absurd (differ (codes "rootsign") (codes "modes") refl is.0)
   no_rootsign none (RootSign height from) is = none height from is.1 is.2
   no_rootsign none (Serve port count) is = absurd (differ (codes "rootsign") (codes "serve") refl is.0)
+  no_rootsign none (Serve9 port count) is = absurd (differ (codes "rootsign") (codes "serve9") refl is.0)
 
   pub no_serve : ((port count : ℕ) → GivesNumber 1 65535 (codes "port") given port → GivesNumber 1 1000000 (codes "count") given count → ⊥) → (task : Task) → IsTaskOf (codes "serve") given task → ⊥
   no_serve none Script is = absurd (differ (codes "serve") (codes "script") refl is.0)
@@ -115,21 +120,38 @@ module _ (given : List Row) where
   no_serve none (Modes from to) is = absurd (differ (codes "serve") (codes "modes") refl is.0)
   no_serve none (RootSign height from) is = absurd (differ (codes "serve") (codes "rootsign") refl is.0)
   no_serve none (Serve port count) is = none port count is.1 is.2
+  no_serve none (Serve9 port count) is = absurd (differ (codes "serve") (codes "serve9") refl is.0)
+
+  pub no_serve9 : ((port count : ℕ) → GivesNumber 1 65535 (codes "port") given port → GivesNumber 1 1000000 (codes "count") given count → ⊥) → (task : Task) → IsTaskOf (codes "serve9") given task → ⊥
+  no_serve9 none Script is = absurd (differ (codes "serve9") (codes "script") refl is.0)
+  no_serve9 none Stored is = absurd (differ (codes "serve9") (codes "script") refl is.0)
+  no_serve9 none Init is = absurd (differ (codes "serve9") (codes "init") refl is)
+  no_serve9 none Checkpoint is = absurd (differ (codes "serve9") (codes "checkpoint") refl is)
+  no_serve9 none (Audit pieces) is = absurd (differ (codes "serve9") (codes "audit") refl is.0)
+  no_serve9 none (Export from) is = absurd (differ (codes "serve9") (codes "export") refl is.0)
+  no_serve9 none Follow is = absurd (differ (codes "serve9") (codes "follow") refl is)
+  no_serve9 none Check is = absurd (differ (codes "serve9") (codes "check") refl is)
+  no_serve9 none (Load rounds seed) is = absurd (differ (codes "serve9") (codes "load") refl is.0)
+  no_serve9 none (Modes from to) is = absurd (differ (codes "serve9") (codes "modes") refl is.0)
+  no_serve9 none (RootSign height from) is = absurd (differ (codes "serve9") (codes "rootsign") refl is.0)
+  no_serve9 none (Serve port count) is = absurd (differ (codes "serve9") (codes "serve") refl is.0)
+  no_serve9 none (Serve9 port count) is = none port count is.1 is.2
 
   -- the name is no command's
-  pub no_command : (name : Text) → (name ≡ codes "script" → ⊥) → (name ≡ codes "init" → ⊥) → (name ≡ codes "checkpoint" → ⊥) → (name ≡ codes "audit" → ⊥) → (name ≡ codes "export" → ⊥) → (name ≡ codes "follow" → ⊥) → (name ≡ codes "check" → ⊥) → (name ≡ codes "load" → ⊥) → (name ≡ codes "modes" → ⊥) → (name ≡ codes "rootsign" → ⊥) → (name ≡ codes "serve" → ⊥) → (task : Task) → IsTaskOf name given task → ⊥
-  no_command name no_script no_init no_checkpoint no_audit no_export no_follow no_check no_load no_modes no_rootsign no_serve Script is = no_script is.0
-  no_command name no_script no_init no_checkpoint no_audit no_export no_follow no_check no_load no_modes no_rootsign no_serve Stored is = no_script is.0
-  no_command name no_script no_init no_checkpoint no_audit no_export no_follow no_check no_load no_modes no_rootsign no_serve Init is = no_init is
-  no_command name no_script no_init no_checkpoint no_audit no_export no_follow no_check no_load no_modes no_rootsign no_serve Checkpoint is = no_checkpoint is
-  no_command name no_script no_init no_checkpoint no_audit no_export no_follow no_check no_load no_modes no_rootsign no_serve (Audit pieces) is = no_audit is.0
-  no_command name no_script no_init no_checkpoint no_audit no_export no_follow no_check no_load no_modes no_rootsign no_serve (Export from) is = no_export is.0
-  no_command name no_script no_init no_checkpoint no_audit no_export no_follow no_check no_load no_modes no_rootsign no_serve Follow is = no_follow is
-  no_command name no_script no_init no_checkpoint no_audit no_export no_follow no_check no_load no_modes no_rootsign no_serve Check is = no_check is
-  no_command name no_script no_init no_checkpoint no_audit no_export no_follow no_check no_load no_modes no_rootsign no_serve (Load rounds seed) is = no_load is.0
-  no_command name no_script no_init no_checkpoint no_audit no_export no_follow no_check no_load no_modes no_rootsign no_serve (Modes from to) is = no_modes is.0
-  no_command name no_script no_init no_checkpoint no_audit no_export no_follow no_check no_load no_modes no_rootsign no_serve (RootSign height from) is = no_rootsign is.0
-  no_command name no_script no_init no_checkpoint no_audit no_export no_follow no_check no_load no_modes no_rootsign no_serve (Serve port count) is = no_serve is.0
+  pub no_command : (name : Text) → (name ≡ codes "script" → ⊥) → (name ≡ codes "init" → ⊥) → (name ≡ codes "checkpoint" → ⊥) → (name ≡ codes "audit" → ⊥) → (name ≡ codes "export" → ⊥) → (name ≡ codes "follow" → ⊥) → (name ≡ codes "check" → ⊥) → (name ≡ codes "load" → ⊥) → (name ≡ codes "modes" → ⊥) → (name ≡ codes "rootsign" → ⊥) → (name ≡ codes "serve" → ⊥) → (name ≡ codes "serve9" → ⊥) → (task : Task) → IsTaskOf name given task → ⊥
+  no_command name no_script no_init no_checkpoint no_audit no_export no_follow no_check no_load no_modes no_rootsign no_serve no_serve9 Script is = no_script is.0
+  no_command name no_script no_init no_checkpoint no_audit no_export no_follow no_check no_load no_modes no_rootsign no_serve no_serve9 Stored is = no_script is.0
+  no_command name no_script no_init no_checkpoint no_audit no_export no_follow no_check no_load no_modes no_rootsign no_serve no_serve9 Init is = no_init is
+  no_command name no_script no_init no_checkpoint no_audit no_export no_follow no_check no_load no_modes no_rootsign no_serve no_serve9 Checkpoint is = no_checkpoint is
+  no_command name no_script no_init no_checkpoint no_audit no_export no_follow no_check no_load no_modes no_rootsign no_serve no_serve9 (Audit pieces) is = no_audit is.0
+  no_command name no_script no_init no_checkpoint no_audit no_export no_follow no_check no_load no_modes no_rootsign no_serve no_serve9 (Export from) is = no_export is.0
+  no_command name no_script no_init no_checkpoint no_audit no_export no_follow no_check no_load no_modes no_rootsign no_serve no_serve9 Follow is = no_follow is
+  no_command name no_script no_init no_checkpoint no_audit no_export no_follow no_check no_load no_modes no_rootsign no_serve no_serve9 Check is = no_check is
+  no_command name no_script no_init no_checkpoint no_audit no_export no_follow no_check no_load no_modes no_rootsign no_serve no_serve9 (Load rounds seed) is = no_load is.0
+  no_command name no_script no_init no_checkpoint no_audit no_export no_follow no_check no_load no_modes no_rootsign no_serve no_serve9 (Modes from to) is = no_modes is.0
+  no_command name no_script no_init no_checkpoint no_audit no_export no_follow no_check no_load no_modes no_rootsign no_serve no_serve9 (RootSign height from) is = no_rootsign is.0
+  no_command name no_script no_init no_checkpoint no_audit no_export no_follow no_check no_load no_modes no_rootsign no_serve no_serve9 (Serve port count) is = no_serve is.0
+  no_command name no_script no_init no_checkpoint no_audit no_export no_follow no_check no_load no_modes no_rootsign no_serve no_serve9 (Serve9 port count) is = no_serve9 is.0
 
   -- it is this command's
   pub as_named : (name literal : Text) (task : Option Task) → name ≡ literal → MatchOption task ((t : Task) → IsTaskOf literal given t → ⊥) (IsTaskOf literal given) → MatchOption task ((t : Task) → IsTaskOf name given t → ⊥) (IsTaskOf name given)
@@ -180,6 +202,7 @@ fits_found (Some f) (Load rounds seed) finds = finds.1.not_above
 fits_found (Some f) (Modes from to) finds = (finds.1.not_above, finds.2.not_above)
 fits_found (Some f) (RootSign height from) finds = (finds.1.not_above, finds.2.not_above)
 fits_found (Some f) (Serve port count) finds = (finds.2.not_below, finds.2.not_above)
+fits_found (Some f) (Serve9 port count) finds = (finds.2.not_below, finds.2.not_above)
 
 -- what is asked for has its numbers in their ranges
 pub fits : (words : List (String Global)) (task : Task) → AsksFor words task → IsFit task
@@ -203,10 +226,31 @@ serving_only (Some f) port count serves (Load rounds seed) finds = absurd (diffe
 serving_only (Some f) port count serves (Modes from to) finds = absurd (differ (codes "serve") (codes "modes") refl (sym serves.0 ∙ finds.0))
 serving_only (Some f) port count serves (RootSign height from) finds = absurd (differ (codes "serve") (codes "rootsign") refl (sym serves.0 ∙ finds.0))
 serving_only (Some f) port count serves (Serve other more) finds = tt
+serving_only (Some f) port count serves (Serve9 other more) finds = tt
+
+nine_only : (found : Option (Text × List Row)) (port count : ℕ) → Finds found (Serve9 port count) → (task : Task) → Finds found task → IsServing task
+nine_only None port count serves task finds = absurd serves
+nine_only (Some f) port count serves Script finds = absurd (differ (codes "serve9") (codes "script") refl (sym serves.0 ∙ finds.0))
+nine_only (Some f) port count serves Stored finds = absurd (differ (codes "serve9") (codes "script") refl (sym serves.0 ∙ finds.0))
+nine_only (Some f) port count serves Init finds = absurd (differ (codes "serve9") (codes "init") refl (sym serves.0 ∙ finds))
+nine_only (Some f) port count serves Checkpoint finds = absurd (differ (codes "serve9") (codes "checkpoint") refl (sym serves.0 ∙ finds))
+nine_only (Some f) port count serves (Audit pieces) finds = absurd (differ (codes "serve9") (codes "audit") refl (sym serves.0 ∙ finds.0))
+nine_only (Some f) port count serves (Export from) finds = absurd (differ (codes "serve9") (codes "export") refl (sym serves.0 ∙ finds.0))
+nine_only (Some f) port count serves Follow finds = absurd (differ (codes "serve9") (codes "follow") refl (sym serves.0 ∙ finds))
+nine_only (Some f) port count serves Check finds = absurd (differ (codes "serve9") (codes "check") refl (sym serves.0 ∙ finds))
+nine_only (Some f) port count serves (Load rounds seed) finds = absurd (differ (codes "serve9") (codes "load") refl (sym serves.0 ∙ finds.0))
+nine_only (Some f) port count serves (Modes from to) finds = absurd (differ (codes "serve9") (codes "modes") refl (sym serves.0 ∙ finds.0))
+nine_only (Some f) port count serves (RootSign height from) finds = absurd (differ (codes "serve9") (codes "rootsign") refl (sym serves.0 ∙ finds.0))
+nine_only (Some f) port count serves (Serve other more) finds = tt
+nine_only (Some f) port count serves (Serve9 other more) finds = tt
 
 -- if sessions are asked for, nothing else is
 pub serves_alone : (words : List (String Global)) (port count : ℕ) → AsksFor words (Serve port count) → AskForNoRun words
 serves_alone words port count serves task asks = serving_only (subcommand_of program (texts_of words)) port count serves.finds task asks.finds
+
+-- so it is if 9P2000 is asked for
+pub nine_alone : (words : List (String Global)) (port count : ℕ) → AsksFor words (Serve9 port count) → AskForNoRun words
+nine_alone words port count serves task asks = nine_only (subcommand_of program (texts_of words)) port count serves.finds task asks.finds
 
 pub nothing_asked : (words : List (String Global)) → (AreKnown words → ⊥) → AskForNoRun words
 nothing_asked words unknown task asks = absurd (unknown (task, asks))

@@ -50,6 +50,9 @@ rootsign_app = with_rule (with_rule (new_app (codes "rootsign")) (word_rule (cod
 abbrev pub serve_app : App
 serve_app = with_rule (with_rule (new_app (codes "serve")) (word_rule (codes "port"))) (word_rule (codes "count"))
 
+abbrev pub serve9_app : App
+serve9_app = with_rule (with_rule (new_app (codes "serve9")) (word_rule (codes "port"))) (word_rule (codes "count"))
+
 -- the program, whose words are without its name, and name a command
 abbrev pub no_commands : App
 no_commands = record { top = record (new_shape (codes "pcfs")) { no_binary_name = true; subcommand_required = true }; subs = [] }
@@ -60,6 +63,6 @@ stored_commands = with_subcommand (with_subcommand
     checkpoint_app.top) export_app.top) follow_app.top
 
 abbrev pub program : App
-program = with_subcommand (with_subcommand
+program = with_subcommand (with_subcommand (with_subcommand
     (with_subcommand (with_subcommand (with_subcommand stored_commands check_app.top) load_app.top)
-    modes_app.top) rootsign_app.top) serve_app.top
+    modes_app.top) rootsign_app.top) serve_app.top) serve9_app.top

@@ -4,7 +4,7 @@ use Rattle.std.specs.String.{string_bytes}
 use Rattle.std.specs.declared.alloc.Global.{Global}
 use Rattle.clap.specs.Words.{Row, Text, fault_of, first_of, subcommand_of}
 use Rattle.command_words.specs.declared.words.Task.{Task}
-use Rattle.command_words.specs.declared.words.Task.TheVariants.{Script, Stored, Init, Checkpoint, Audit, Export, Follow, Check, Load, Modes, RootSign, Serve}
+use Rattle.command_words.specs.declared.words.Task.TheVariants.{Script, Stored, Init, Checkpoint, Audit, Export, Follow, Check, Load, Modes, RootSign, Serve, Serve9}
 use Rattle.command_words.specs.CommandWords.{GivesNumber, GivesPieces}
 use Rattle.command_words.specs.Commands.{program}
 
@@ -31,6 +31,9 @@ IsTaskOf name given (RootSign height from) =
     (name ≡ codes "rootsign") × GivesNumber 0 8 (codes "height") given height ×
     GivesNumber 0 (2 ^ height) (codes "from") given from
 IsTaskOf name given (Serve port count) = (name ≡ codes "serve") ×
+    GivesNumber 1 65535 (codes "port") given port ×
+    GivesNumber 1 1000000 (codes "count") given count
+IsTaskOf name given (Serve9 port count) = (name ≡ codes "serve9") ×
     GivesNumber 1 65535 (codes "port") given port ×
     GivesNumber 1 1000000 (codes "count") given count
 
@@ -66,8 +69,9 @@ IsFit (Load rounds seed) = rounds ≤ 20000
 IsFit (Modes from to) = (from ≤ 253402300799) × (to ≤ 253402300799)
 IsFit (RootSign height from) = (height ≤ 8) × (from ≤ 2 ^ height)
 IsFit (Serve port count) = (1 ≤ count) × (count ≤ 1000000)
+IsFit (Serve9 port count) = (1 ≤ count) × (count ≤ 1000000)
 
--- sessions are asked for, which need more ports than a run without them
+-- sessions or 9P2000 are asked for, which need more ports than a run without them
 abbrev pub IsServing : Task → Type 0
 IsServing Script = ⊥
 IsServing Stored = ⊥
@@ -81,7 +85,8 @@ IsServing (Load rounds seed) = ⊥
 IsServing (Modes from to) = ⊥
 IsServing (RootSign height from) = ⊥
 IsServing (Serve port count) = Unit {0}
+IsServing (Serve9 port count) = Unit {0}
 
--- the words ask for nothing, unless it is sessions
+-- the words ask for nothing, unless it is sessions or 9P2000
 abbrev pub AskForNoRun : List (String Global) → Type 0
 AskForNoRun words = (task : Task) → AsksFor words task → IsServing task

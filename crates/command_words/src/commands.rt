@@ -3,7 +3,7 @@
 ghost use Rattle.std.specs.Prelude.{◌≡◌, IfOk, false};
 ghost use Rattle.clap.specs.Words.{AddsSubcommand, app_of, rule_of, with_subcommand};
 ghost use Rattle.clap.specs.declared.builder.command.Command.{Command};
-ghost use Rattle.command_words.specs.Commands.{audit_app, export_app, flag_rule, load_app, modes_app, no_commands, option_rule, program, rootsign_app, script_app, serve_app, stored_commands, word_rule};
+ghost use Rattle.command_words.specs.Commands.{audit_app, export_app, flag_rule, load_app, modes_app, no_commands, option_rule, program, rootsign_app, script_app, serve9_app, serve_app, stored_commands, word_rule};
 
 use clap::{Arg, ArgAction, Command};
 use std::alloc::{AllocError, Global};
@@ -85,6 +85,14 @@ fn serve_command<'a>(alloc: Global) -> Result<Command<'a>, AllocError>
     Ok(command)
 }
 
+fn serve9_command<'a>(alloc: Global) -> Result<Command<'a>, AllocError>
+    ensures { IfOk result (λ c. (old new : Command) → AddsSubcommand old c new → app_of new ≡ with_subcommand (app_of old) serve9_app.top) }
+{
+    let first = Command::new(alloc, "serve9").arg(word(alloc, "port"))?;
+    let command = first.arg(word(alloc, "count"))?;
+    Ok(command)
+}
+
 // The program, whose words are without its name, and name a command, before it has any.
 fn no_commands<'a>(alloc: Global) -> Command<'a>
     ensures { app_of result ≡ no_commands }
@@ -118,11 +126,13 @@ pub fn program<'a>(alloc: Global) -> Result<Command<'a>, AllocError>
     let modes = modes_command(alloc)?;
     let rootsign = rootsign_command(alloc)?;
     let serve = serve_command(alloc)?;
+    let serve9 = serve9_command(alloc)?;
     let stored = stored_commands(alloc)?;
     let with_check = stored.subcommand(Command::new(alloc, "check"))?;
     let with_load = with_check.subcommand(load)?;
     let with_modes = with_load.subcommand(modes)?;
     let with_rootsign = with_modes.subcommand(rootsign)?;
-    let command = with_rootsign.subcommand(serve)?;
+    let with_serve = with_rootsign.subcommand(serve)?;
+    let command = with_serve.subcommand(serve9)?;
     Ok(command)
 }

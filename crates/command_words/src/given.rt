@@ -162,3 +162,18 @@ pub fn serve_task(given: &ArgMatches<'_>) -> Option<Task>
         None => None,
     }
 }
+
+/// What serving 9P2000 is asked for; none if its words are no such numbers.
+pub fn serve9_task(given: &ArgMatches<'_>) -> Option<Task>
+    ensures { MatchOption result ((task : Task) →
+        IsTaskOf (codes "serve9") (rows_of (found_of given.now)) task → ⊥)
+        (IsTaskOf (codes "serve9") (rows_of (found_of given.now))) }
+{
+    match number_given(given, "port", 1, LAST_PORT) {
+        Some(port) => match number_given(given, "count", 1, MOST_CONNECTIONS) {
+            Some(count) => Some(Task::Serve9(port as u16, count)),
+            None => None,
+        },
+        None => None,
+    }
+}

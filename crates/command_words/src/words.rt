@@ -7,6 +7,7 @@ ghost use Rattle.command_words.specs.Tasks.{AreKnown, AsksFor, Finds, IsTaskOf};
 use crate::commands::program;
 use crate::given::{
     audit_task, export_task, load_task, modes_task, rootsign_task, script_task, serve_task,
+    serve9_task,
 };
 use bl_syntax::NoMemory;
 use clap::ArgMatches;
@@ -40,6 +41,8 @@ pub enum Task {
     RootSign(u8, u32),
     /// Sessions over the areas on this port, for so many connections.
     Serve(u16, u64),
+    /// 9P2000 over the areas on this port, for so many connections.
+    Serve9(u16, u64),
 }
 
 // What the command of this name asks for; none if there is no such command, or a number that is given to it is not one.
@@ -79,6 +82,9 @@ fn task_named(name: &str, given: &ArgMatches<'_>) -> Option<Task>
     }
     if name == "serve" {
         return serve_task(given);
+    }
+    if name == "serve9" {
+        return serve9_task(given);
     }
     None
 }

@@ -46,8 +46,8 @@ use Rattle.pcfs_top.specs.Run.{HasCause, EndsWith, IsOpened}
 use Rattle.pcfs_top.specs.Run as runs
 use Rattle.root_signing.specs.Signed as signing
 use Rattle.root_signing.proofs.LawLemmas.{status_of_end}
-use Rattle.session_service.specs.Sessions.{SessionSources}
-use Rattle.pcfs_run.specs.ServeWords.{IsServe}
+use Rattle.pcfs_run.specs.ServeWords.{IsServe, IsServe9}
+use Rattle.pcfs_run.specs.Passes.{PassEntries}
 use Rattle.pcfs_run.specs.Served.{ServePorts, AreAttended, IsServeLine, ServeWrites, EndsServing, RunEnds}
 use Rattle.pcfs_run.specs.Served as serving
 use Rattle.pcfs_run.specs.Healthy.{AreHealthy, EndsHealthy, IsUnfit, long_line, too_many_bytes, damaged, absent}
@@ -195,31 +195,31 @@ module _ (secrets : Secrets) (words : List (String Global)) (before after : Serv
   of_report pieces generation image start report [] is asks opened found = healthy.done
   of_report pieces generation image start report (row ∷ rows) is asks opened found = healthy.reports pieces generation image start report row rows asks opened found is
 
-  by_cause : (rests : Rests) (status : ℕ) (line : List ℕ) → ((port count : ℕ) → IsServe words port count → ⊥) → HasCause secrets words rests before.ports.disks after.ports.disks status line → Ends status
-  by_cause rests _ _ alone (runs.usage none same) = healthy.asks_nothing none alone
-  by_cause rests _ _ alone (runs.made asks is b) = healthy.done
-  by_cause rests _ _ alone (runs.exists asks is_open same) = healthy.is_there_already asks is_open
-  by_cause rests _ _ alone (runs.not_made asks failed kept) = absurd (no_disk_failed failed)
-  by_cause rests _ _ alone (runs.no_store asks none same) = healthy.unopened 4 (inl asks) (absent none)
-  by_cause rests _ _ alone (runs.damaged number damage asks found same) = healthy.unopened 3 (inl asks) (damaged number damage found)
-  by_cause rests _ _ alone (runs.not_opened asks failed kept) = absurd (no_disk_failed failed)
-  by_cause rests _ _ alone (runs.checkpointed generation image start asks opened fits stays made) = healthy.done
-  by_cause rests _ _ alone (runs.full generation image start asks opened none same rest) = healthy.has_no_room generation image start asks opened none
-  by_cause rests _ _ alone (runs.not_checkpointed generation image start asks opened fits failed stays survives) = absurd (no_disk_failed failed)
-  by_cause rests _ _ alone (runs.audited pieces generation image start report asks opened found same rest) = of_report pieces generation image start report report.rows refl asks opened found
-  by_cause rests _ _ alone (runs.loaded rounds seed told asks is same) = healthy.done
+  by_cause : (rests : Rests) (status : ℕ) (line : List ℕ) → ((port count : ℕ) → IsServe words port count → ⊥) → ((port count : ℕ) → IsServe9 words port count → ⊥) → HasCause secrets words rests before.ports.disks after.ports.disks status line → Ends status
+  by_cause rests _ _ alone apart (runs.usage none same) = healthy.asks_nothing none alone apart
+  by_cause rests _ _ alone apart (runs.made asks is b) = healthy.done
+  by_cause rests _ _ alone apart (runs.exists asks is_open same) = healthy.is_there_already asks is_open
+  by_cause rests _ _ alone apart (runs.not_made asks failed kept) = absurd (no_disk_failed failed)
+  by_cause rests _ _ alone apart (runs.no_store asks none same) = healthy.unopened 4 (inl asks) (absent none)
+  by_cause rests _ _ alone apart (runs.damaged number damage asks found same) = healthy.unopened 3 (inl asks) (damaged number damage found)
+  by_cause rests _ _ alone apart (runs.not_opened asks failed kept) = absurd (no_disk_failed failed)
+  by_cause rests _ _ alone apart (runs.checkpointed generation image start asks opened fits stays made) = healthy.done
+  by_cause rests _ _ alone apart (runs.full generation image start asks opened none same rest) = healthy.has_no_room generation image start asks opened none
+  by_cause rests _ _ alone apart (runs.not_checkpointed generation image start asks opened fits failed stays survives) = absurd (no_disk_failed failed)
+  by_cause rests _ _ alone apart (runs.audited pieces generation image start report asks opened found same rest) = of_report pieces generation image start report report.rows refl asks opened found
+  by_cause rests _ _ alone apart (runs.loaded rounds seed told asks is same) = healthy.done
 
-  of_run : (rests : Rests) (status : ℕ) → ((port count : ℕ) → IsServe words port count → ⊥) → EndsWith secrets words rests before.ports after.ports status → Ends status
-  of_run rests _ alone (runs.in_memory status asks same ends) = of_memory status asks ends
-  of_run rests _ alone (runs.stored status generation image start end asks opened back ends) = of_script status start end (inr asks) (λ met is five. no_disk_failed (back.failed met is)) ends
-  of_run rests _ alone (runs.followed status generation image start end asks opened back ends) = of_following end asks (λ met is. no_disk_failed (back.failed met is)) start status ends
-  of_run rests _ alone (runs.exported from status generation image start asks opened same rest left tells) = of_export from generation image start asks opened status tells
-  of_run rests _ alone (runs.told status line cause left out) = by_cause rests status line alone cause
-  of_run rests _ alone (runs.cut_short status line cause left risen some) = absurd (sound.output risen)
-  of_run rests _ alone (runs.inquired status asks same ends) = of_inquiry status asks ends
-  of_run rests _ alone (runs.modes_told from to status asks same ends) = of_modes from to asks status ends
-  of_run rests _ alone (runs.signing_told height from status asks same ends) = of_signing height from asks status ends
-  of_run rests _ alone (runs.out_of_memory same left out) = healthy.out_of_memory
+  of_run : (rests : Rests) (status : ℕ) → ((port count : ℕ) → IsServe words port count → ⊥) → ((port count : ℕ) → IsServe9 words port count → ⊥) → EndsWith secrets words rests before.ports after.ports status → Ends status
+  of_run rests _ alone apart (runs.in_memory status asks same ends) = of_memory status asks ends
+  of_run rests _ alone apart (runs.stored status generation image start end asks opened back ends) = of_script status start end (inr asks) (λ met is five. no_disk_failed (back.failed met is)) ends
+  of_run rests _ alone apart (runs.followed status generation image start end asks opened back ends) = of_following end asks (λ met is. no_disk_failed (back.failed met is)) start status ends
+  of_run rests _ alone apart (runs.exported from status generation image start asks opened same rest left tells) = of_export from generation image start asks opened status tells
+  of_run rests _ alone apart (runs.told status line cause left out) = by_cause rests status line alone apart cause
+  of_run rests _ alone apart (runs.cut_short status line cause left risen some) = absurd (sound.output risen)
+  of_run rests _ alone apart (runs.inquired status asks same ends) = of_inquiry status asks ends
+  of_run rests _ alone apart (runs.modes_told from to status asks same ends) = of_modes from to asks status ends
+  of_run rests _ alone apart (runs.signing_told height from status asks same ends) = of_signing height from asks status ends
+  of_run rests _ alone apart (runs.out_of_memory same left out) = healthy.out_of_memory
 
   -- ---- sessions
 
@@ -227,21 +227,22 @@ module _ (secrets : Secrets) (words : List (String Global)) (before after : Serv
   by_line count _ _ _ attended (serving.all_served n) = healthy.done
   by_line count _ _ _ attended (serving.net_failed n) = absurd (no_net_fault (attended.risen tt))
 
-  module _ (sources : SessionSources) (rests : Rests) (port count : ℕ) (serves : IsServe words port count) where
-    by_serving : (status : ℕ) (line : List ℕ) → ServeWrites sources secrets count rests before after status line → Ends status
+  module _ (is_of : PassEntries) (rests : Rests) (port count : ℕ) (serves : IsServe words port count ⊎ IsServe9 words port count) where
+    by_serving : (status : ℕ) (line : List ℕ) → ServeWrites is_of secrets count rests before after status line → Ends status
     by_serving _ _ (serving.served end status line served attended is) = by_line count end status line attended is
     by_serving _ _ (serving.disk_failed end pass served attended) = absurd (no_disk_failed (served.risen pass refl))
     by_serving _ _ (serving.no_store none same net) = healthy.unopened 4 (inr (port, count, serves)) (absent none)
     by_serving _ _ (serving.damaged number damage found same net) = healthy.unopened 3 (inr (port, count, serves)) (damaged number damage found)
     by_serving _ _ (serving.not_opened failed kept net) = absurd (no_disk_failed failed)
 
-    of_serving : (status : ℕ) → EndsServing sources secrets count rests before after status → Ends status
+    of_serving : (status : ℕ) → EndsServing is_of secrets count rests before after status → Ends status
     of_serving _ (serving.told status line writes out) = by_serving status line writes
     of_serving _ (serving.cut_short status line writes risen some) = absurd (sound.output risen)
     of_serving _ (serving.unopened same net out) = healthy.out_of_memory
     of_serving _ (serving.out_of_memory end no_fault served attended out) = healthy.out_of_memory
 
-  pub EndsHealthy-run : (sources : SessionSources) (rests : Rests) (status : ℕ) → RunEnds sources secrets words rests before after status → Ends status
-  EndsHealthy-run sources rests _ (serving.serves status port count serves left reads ends) = of_serving sources rests port count serves status ends
-  EndsHealthy-run sources rests _ (serving.unread same net left reads out) = healthy.out_of_memory
-  EndsHealthy-run sources rests _ (serving.alone status alone ends net) = of_run rests status alone ends
+  pub EndsHealthy-run : (of_session of_nine : PassEntries) (rests : Rests) (status : ℕ) → RunEnds of_session of_nine secrets words rests before after status → Ends status
+  EndsHealthy-run of_session of_nine rests _ (serving.serves status port count serves left reads ends) = of_serving of_session rests port count (inl serves) status ends
+  EndsHealthy-run of_session of_nine rests _ (serving.serves_nine status port count serves left reads ends) = of_serving of_nine rests port count (inr serves) status ends
+  EndsHealthy-run of_session of_nine rests _ (serving.unread same net left reads out) = healthy.out_of_memory
+  EndsHealthy-run of_session of_nine rests _ (serving.alone status alone apart ends net) = of_run rests status alone apart ends

@@ -16,7 +16,8 @@ use Rattle.shared_store.specs.Turning.{pass_at}
 use Rattle.shared_store.proofs.MergedLemmas.{closed_are_merged}
 use Rattle.session_service.specs.Connections.{AreOfConnections, no_more, was_attended, was_not_attended}
 use Rattle.session_service.specs.Sessions.{SessionSources, AreOfSession, AreOfSeenSession}
-use Rattle.pcfs_run.specs.Passes.{IsGrown}
+use Rattle.nine_service.specs.Passes.{NineSources, AreOfNine, AreOfSeenNine}
+use Rattle.pcfs_run.specs.Passes.{PassEntries, IsGrown}
 
 -- before the first connection no pass was taken in
 pub nobody_yet : {E : Type 0} (P : ℕ → List E → Type 0) (served : ℕ) (retired : List (ℕ × List E)) → served ≡ 0 → retired ≡ [] → AreOfConnections P served retired
@@ -51,11 +52,18 @@ module _ {D : Type 0} where
   own_of (r ∷ rs) all = (all.0, own_of rs all.1)
 
   -- what is seen of a session is so in the whole history
-  in_whole : (sources : SessionSources) (opening first : StoreView D) (entries : List StoreEntry) (seen : List (ℕ × LockEntry D)) → opening ≡ first → IsPrefix seen (lock_history opening entries) → (number : ℕ) (own : List (ℕ × LockEntry D)) → AreOfSeenSession sources seen number own →
+  pub in_whole : (sources : SessionSources) (opening first : StoreView D) (entries : List StoreEntry) (seen : List (ℕ × LockEntry D)) → opening ≡ first → IsPrefix seen (lock_history opening entries) → (number : ℕ) (own : List (ℕ × LockEntry D)) → AreOfSeenSession sources seen number own →
       AreOfSession sources (record { root = root_of first; number = number }) entries (bare own)
   in_whole sources opening first entries seen same begins number own s =
       subst (λ (o : StoreView D). AreOfSession sources (pass_at o number) entries (bare own)) same
       (subst (AreOfSession sources (pass_at opening number) entries) (sym (ap bare s.own_is ∙ bare_all D s.given)) (s.session opening entries begins))
+
+  -- so is what is seen of 9P2000
+  pub in_whole_nine : (sources : NineSources) (opening first : StoreView D) (entries : List StoreEntry) (seen : List (ℕ × LockEntry D)) → opening ≡ first → IsPrefix seen (lock_history opening entries) → (number : ℕ) (own : List (ℕ × LockEntry D)) → AreOfSeenNine sources seen number own →
+      AreOfNine sources (record { root = root_of first; number = number }) entries (bare own)
+  in_whole_nine sources opening first entries seen same begins number own s =
+      subst (λ (o : StoreView D). AreOfNine sources (pass_at o number) entries (bare own)) same
+      (subst (AreOfNine sources (pass_at opening number) entries) (sym (ap bare s.own_is ∙ bare_all D s.given)) (s.nine opening entries begins))
 
   -- without their numbers they are those of as many connections
   connections_of : (P : ℕ → List (ℕ × LockEntry D) → Type 0) (Q : ℕ → List StoreEntry → Type 0) → ((number : ℕ) (own : List (ℕ × LockEntry D)) → P number own → Q number (bare own)) → (count : ℕ) (retired : List (Retired (LockEntry D))) → AreOfConnections P count retired →
@@ -65,9 +73,10 @@ module _ {D : Type 0} where
   connections_of P Q also _ _ (was_not_attended count number passes are) = was_not_attended count number (passes_of passes) (connections_of P Q also count passes are)
 
   -- a lock was made over the first store, all its passes were taken in, and the last store came out
-  pub IsGrown-closed : (sources : SessionSources) (first last : OpenedView D) (door : DoormanView (LockEntry D)) (attended count : ℕ) → first.opening ≡ first.store → door.opening ≡ lock_entries first → IsClosed door (lock_entries last) →
-      AreOfConnections (AreOfSeenSession sources door.seen) attended door.retired → door.made ≡ attended → door.made ≤ count → IsGrown sources attended count first.store last.store
-  IsGrown-closed sources first last door attended count opened is closed of_connections every few =
+  pub IsGrown-closed : (is_of : PassEntries) (seen_of : ℕ → List (ℕ × LockEntry D) → Type 0) (first last : OpenedView D) (door : DoormanView (LockEntry D)) (attended count : ℕ) → first.opening ≡ first.store → door.opening ≡ lock_entries first → IsClosed door (lock_entries last) →
+      ((number : ℕ) (own : List (ℕ × LockEntry D)) → last.opening ≡ first.store → IsPrefix door.seen (lock_history last.opening (entries_of last.store)) → seen_of number own → is_of (record { root = root_of first.store; number = number }) (entries_of last.store) (bare own)) →
+      AreOfConnections seen_of attended door.retired → door.made ≡ attended → door.made ≤ count → IsGrown is_of attended count first.store last.store
+  IsGrown-closed is_of seen_of first last door attended count opened is closed in_all of_connections every few =
       let both = closed_are_merged first last door is closed in
       let m = both.1 in
       let all : length (passes_of door.retired) ≡ length door.retired = length-map door.retired (λ (r : Retired (LockEntry D)). (r.0, bare r.1)) in
@@ -81,18 +90,18 @@ module _ {D : Type 0} where
           own = own_of door.retired m.of_passes;
           merged = subst (λ (ls : List (List StoreEntry)). Merges ls m.rest) (sym (lists_same door.retired)) m.merged;
           of_connections =
-              subst (λ (history : List StoreEntry). AreOfConnections (λ (number : ℕ) (own : List StoreEntry). AreOfSession sources (record { root = root_of first.store; number = number }) history own) attended (passes_of door.retired)) m.parts
-              (connections_of (AreOfSeenSession sources door.seen) (λ (number : ℕ) (own : List StoreEntry). AreOfSession sources (record { root = root_of first.store; number = number }) (entries_of last.store) own)
-              (in_whole sources last.opening first.store (entries_of last.store) door.seen (both.0 ∙ opened) closed.knows.seen) attended door.retired of_connections);
+              subst (λ (history : List StoreEntry). AreOfConnections (λ (number : ℕ) (own : List StoreEntry). is_of (record { root = root_of first.store; number = number }) history own) attended (passes_of door.retired)) m.parts
+              (connections_of seen_of (λ (number : ℕ) (own : List StoreEntry). is_of (record { root = root_of first.store; number = number }) (entries_of last.store) own)
+              (λ number own. in_all number own (both.0 ∙ opened) closed.knows.seen) attended door.retired of_connections);
           every = all ∙ closed.all ∙ every;
           few = subst (λ (n : ℕ). n ≤ count) (sym (all ∙ closed.all)) few;
         };
       }
 
   -- no lock was made, and nobody had a pass
-  pub IsGrown-none : (sources : SessionSources) (s : StoreView D) (count : ℕ) → IsGrown sources 0 count s s
+  pub IsGrown-none : (is_of : PassEntries) (s : StoreView D) (count : ℕ) → IsGrown is_of 0 count s s
   unfolding IsDistinct
-  IsGrown-none sources s count = record {
+  IsGrown-none is_of s count = record {
     added = [];
     parts = sym (append-nil (entries_of s));
     of_passes = record { passes = []; distinct = tt; within = tt; own = tt; merged = ends tt; of_connections = no_more; every = refl; few = omega arith };

@@ -43,6 +43,7 @@ use Rattle.shared_store.specs.contracts.opened.OpenedStore as Opened
 use Rattle.tree_lock.specs.declared.recorded.Recorded as Recorded
 use Rattle.tree_lock.specs.contracts.parts.TreeLock as TreeLock
 use Rattle.tree_lock.proofs.parts.TreeLock.TheSendSync as lock
+use Rattle.nine_service.specs.contracts.service.NineService as Nine
 use Rattle.session_service.specs.contracts.service.SessionService as Service
 
 formula_send : IsSend Formula.the_row
@@ -178,6 +179,16 @@ opened_send D g send = view_send (opened.the_row D g) _ _ _ _ (opened_inside D g
 -- a service may be shared, whatever its nonces and its listener are: it has them for contracts alone
 pub service_sync : (κ : NamedLft) (V C N L E : RattleType) (g : Recorded.Ghosts V.Denot E.Denot) → IsSend V → IsSync C → IsSync (Service.the_row κ V C N L E g)
 service_sync κ V C N L E g send sync = declared_sync (Service.the_type κ V C N L E g) (
+  as_row_sync (shr_ref_field κ (TreeLock.the_row V E g) tt) (shr_sync κ.mir κ.lft (TreeLock.the_row V E g) (lock.the_sync V E g send)),
+  (
+    as_row_sync (row_field (ShrRef κ.mir κ.lft C)) (shr_sync κ.mir κ.lft C sync),
+    (search (sendable, crosses) depth 100 fits 20000, (search (sendable, crosses) depth 100 fits 20000, tt)),
+  ),
+)
+
+-- and so may one of 9P2000
+pub nine_sync : (κ : NamedLft) (V C N L E : RattleType) (g : Recorded.Ghosts V.Denot E.Denot) → IsSend V → IsSync C → IsSync (Nine.the_row κ V C N L E g)
+nine_sync κ V C N L E g send sync = declared_sync (Nine.the_type κ V C N L E g) (
   as_row_sync (shr_ref_field κ (TreeLock.the_row V E g) tt) (shr_sync κ.mir κ.lft (TreeLock.the_row V E g) (lock.the_sync V E g send)),
   (
     as_row_sync (row_field (ShrRef κ.mir κ.lft C)) (shr_sync κ.mir κ.lft C sync),

@@ -31,8 +31,7 @@ use Rattle.pcfs_tools.specs.LastLine.{Wrote}
 use Rattle.pcfs_top.specs.Ports.{Rests, AreBytesKept}
 use Rattle.pcfs_top.specs.Run.{IsNewestOf, TellsUnopened, damaged_text}
 use Rattle.pcfs_top.proofs.EndsWithLemmas.{disks_of, rests_of, newest_of, counts_now, closed_of, pinned_at, other_is, added_all, place_kept, place_moved, has_no_area}
-use Rattle.session_service.specs.Sessions.{SessionSources}
-use Rattle.pcfs_run.specs.Passes.{AreOfPasses, IsGrown, stop_among}
+use Rattle.pcfs_run.specs.Passes.{PassEntries, AreOfPasses, IsGrown, stop_among}
 use Rattle.pcfs_run.specs.Served.{Net, ServePorts, IsNetKept, AreAttended, root_under, IsServed, TellsServed, ServeWrites, EndsServing, all_served, net_failed}
 use Rattle.pcfs_run.specs.Served as serving
 
@@ -96,7 +95,7 @@ FallsBy-none (Some left) = ap Some (sym (add-zero left))
 pub AreAttended-none : (count : ℕ) (net : Net) → 1 ≤ count → AreAttended count net net (serve_ends.NoMemory 0)
 AreAttended-none count net some = record { taken = inl (FallsBy-none net.waiting); cause = omega (arith, some); risen = λ failed. absurd failed }
 
-module _ {D : Type 0} (sources : SessionSources) (clock : D → ℕ) (left_since : D → ℕ → List ℕ → Type 0) (image : D → Option (List ℕ)) (faults : D → ℕ) (secrets : Secrets) (a b : D) where
+module _ {D : Type 0} (is_of : PassEntries) (clock : D → ℕ) (left_since : D → ℕ → List ℕ → Type 0) (image : D → Option (List ℕ)) (faults : D → ℕ) (secrets : Secrets) (a b : D) where
   abbrev Opened : StoreView D → Type 0
   Opened s = opening.IsOpened clock left_since image faults a b secrets.seal_key secrets.ring s
 
@@ -160,11 +159,11 @@ module _ {D : Type 0} (sources : SessionSources) (clock : D → ℕ) (left_since
     )
 
     -- the mark is none of the opening
-    added_stop : (attended count : ℕ) (grown : IsGrown sources attended count s s') → stop_among grown.added ≡ s'.stop
+    added_stop : (attended count : ℕ) (grown : IsGrown is_of attended count s s') → stop_among grown.added ≡ s'.stop
     added_stop attended count grown =
         sym (stop-append (entries_of s) grown.added (stop-entries s.events s.checkpoints s.stop s.met ∙ opened.running)) ∙ ap stop_among (sym grown.parts) ∙ stop-entries s'.events s'.checkpoints s'.stop s'.met
 
-    added_checkpoints : (attended count : ℕ) (grown : IsGrown sources attended count s s') → checkpoints_among grown.added ≡ length s'.checkpoints
+    added_checkpoints : (attended count : ℕ) (grown : IsGrown is_of attended count s s') → checkpoints_among grown.added ≡ length s'.checkpoints
     added_checkpoints attended count grown =
         let before = generation-entries s store in
         let after = generation-entries s' store' in
@@ -173,7 +172,7 @@ module _ {D : Type 0} (sources : SessionSources) (clock : D → ℕ) (left_since
         omega (arith, before, after, none, parts, store'.counted)
 
     -- the entries at the end are the events of the opening, and those that were added
-    added_entries : (attended count : ℕ) (grown : IsGrown sources attended count s s') → entries_of s' ≡ map happened s.events ++ grown.added
+    added_entries : (attended count : ℕ) (grown : IsGrown is_of attended count s s') → entries_of s' ≡ map happened s.events ++ grown.added
     added_entries attended count grown = grown.parts ∙ ap (λ (l : List StoreEntry). l ++ grown.added) (entries_opened s opened.unsettled opened.running)
 
     -- the root of the store is that of the run
@@ -187,17 +186,17 @@ module _ {D : Type 0} (sources : SessionSources) (clock : D → ℕ) (left_since
         ap (λ (key : List ℕ). root_with key s.ring (s.generation - length s.checkpoints)) opened.key_is ∙ ap (λ (ring : List KeyView). root_with secrets.seal_key ring (s.generation - length s.checkpoints)) opened.ring_is
         ∙ ap (root_with secrets.seal_key secrets.ring) first
 
-    added_of_passes : (attended count : ℕ) (grown : IsGrown sources attended count s s') → AreOfPasses sources (root_under secrets s.generation s.opened s.base) (map happened s.events) attended count grown.added
+    added_of_passes : (attended count : ℕ) (grown : IsGrown is_of attended count s s') → AreOfPasses is_of (root_under secrets s.generation s.opened s.base) (map happened s.events) attended count grown.added
     added_of_passes attended count grown =
-        subst (λ (root : Root). AreOfPasses sources root (map happened s.events) attended count grown.added) root_is
-        (subst (λ (first : List StoreEntry). AreOfPasses sources (root_of s) first attended count grown.added) (entries_opened s opened.unsettled opened.running) grown.of_passes)
+        subst (λ (root : Root). AreOfPasses is_of root (map happened s.events) attended count grown.added) root_is
+        (subst (λ (first : List StoreEntry). AreOfPasses is_of (root_of s) first attended count grown.added) (entries_opened s opened.unsettled opened.running) grown.of_passes)
 
-    added_events : (attended count : ℕ) (grown : IsGrown sources attended count s s') → s'.events ≡ s.events ++ events_among grown.added
+    added_events : (attended count : ℕ) (grown : IsGrown is_of attended count s s') → s'.events ≡ s.events ++ events_among grown.added
     added_events attended count grown =
         sym (events-entries s'.events s'.checkpoints s'.stop s'.met) ∙ ap events_among grown.parts ∙ events-append (entries_of s) grown.added ∙ ap (λ (l : List Event). l ++ events_among grown.added) (events-entries s.events s.checkpoints s.stop s.met)
 
-    is_served : (attended count : ℕ) (stop : Option ℕ) → s'.stop ≡ stop → IsGrown sources attended count s s' →
-        IsServed sources secrets (rests_of clock left_since image faults a b (first_disk s') (second_disk s')) (disks_of clock left_since image faults a b) (disks_of clock left_since image faults (first_disk s') (second_disk s')) attended count stop
+    is_served : (attended count : ℕ) (stop : Option ℕ) → s'.stop ≡ stop → IsGrown is_of attended count s s' →
+        IsServed is_of secrets (rests_of clock left_since image faults a b (first_disk s') (second_disk s')) (disks_of clock left_since image faults a b) (disks_of clock left_since image faults (first_disk s') (second_disk s')) attended count stop
     is_served attended count stop is grown = record {
       generation = s.generation;
       image = s.opened;
@@ -255,34 +254,34 @@ module _ {D : Type 0} (sources : SessionSources) (clock : D → ℕ) (left_since
       Around = rests_of clock left_since image faults a b (first_disk s') (second_disk s')
 
       -- a line is told, or the output fails
-      told_as : (status : ℕ) (line : List ℕ) (result : ℕ) → ServeWrites sources secrets count Around Here There status line → Wrote status line before.held before.write_faults result after.held after.write_faults → EndsServing sources secrets count Around Here There result
-      told_as status line result writes (inl told) = subst (EndsServing sources secrets count Around Here There) (sym told.0) (serving.told status line writes told.1)
-      told_as status line result writes (inr failed) = subst (EndsServing sources secrets count Around Here There) (sym failed.0) (serving.cut_short status line writes failed.1 failed.2)
+      told_as : (status : ℕ) (line : List ℕ) (result : ℕ) → ServeWrites is_of secrets count Around Here There status line → Wrote status line before.held before.write_faults result after.held after.write_faults → EndsServing is_of secrets count Around Here There result
+      told_as status line result writes (inl told) = subst (EndsServing is_of secrets count Around Here There) (sym told.0) (serving.told status line writes told.1)
+      told_as status line result writes (inr failed) = subst (EndsServing is_of secrets count Around Here There) (sym failed.0) (serving.cut_short status line writes failed.1 failed.2)
 
-      told_running : (end : ServeEnd) (result : ℕ) → s'.stop ≡ None → IsGrown sources (number_of end) count s s' → AreAttended count net net' end → TellsServed end before.held before.write_faults result after.held after.write_faults → EndsServing sources secrets count Around Here There result
+      told_running : (end : ServeEnd) (result : ℕ) → s'.stop ≡ None → IsGrown is_of (number_of end) count s s' → AreAttended count net net' end → TellsServed end before.held before.write_faults result after.held after.write_faults → EndsServing is_of secrets count Around Here There result
       told_running (serve_ends.Done n) result runs grown attended (inl told) =
           told_as 0 (codes "served " ++ decimal n) result (serving.served (serve_ends.Done n) 0 (codes "served " ++ decimal n) (is_served n count None runs grown) attended (all_served n)) told
       told_running (serve_ends.Done n) result runs grown attended (inr untold) =
-          subst (EndsServing sources secrets count Around Here There) (sym untold.0) (serving.out_of_memory (serve_ends.Done n) (λ e. e) (is_served n count None runs grown) attended untold.1)
+          subst (EndsServing is_of secrets count Around Here There) (sym untold.0) (serving.out_of_memory (serve_ends.Done n) (λ e. e) (is_served n count None runs grown) attended untold.1)
       told_running (serve_ends.NetFault n) result runs grown attended told =
           told_as 8 (codes "netfault") result (serving.served (serve_ends.NetFault n) 8 (codes "netfault") (is_served n count None runs grown) attended (net_failed n)) told
       told_running (serve_ends.NoMemory n) result runs grown attended untold =
-          subst (EndsServing sources secrets count Around Here There) (sym untold.0) (serving.out_of_memory (serve_ends.NoMemory n) (λ e. e) (is_served n count None runs grown) attended untold.1)
+          subst (EndsServing is_of secrets count Around Here There) (sym untold.0) (serving.out_of_memory (serve_ends.NoMemory n) (λ e. e) (is_served n count None runs grown) attended untold.1)
 
-      told_end : (stop : Option ℕ) (end : ServeEnd) (result : ℕ) → s'.stop ≡ stop → IsGrown sources (number_of end) count s s' → AreAttended count net net' end →
+      told_end : (stop : Option ℕ) (end : ServeEnd) (result : ℕ) → s'.stop ≡ stop → IsGrown is_of (number_of end) count s s' → AreAttended count net net' end →
           ((pass : ℕ) → s'.stop ≡ Some pass → Wrote 5 (codes "stopped") before.held before.write_faults result after.held after.write_faults) →
-          (s'.stop ≡ None → TellsServed end before.held before.write_faults result after.held after.write_faults) → EndsServing sources secrets count Around Here There result
+          (s'.stop ≡ None → TellsServed end before.held before.write_faults result after.held after.write_faults) → EndsServing is_of secrets count Around Here There result
       told_end None end result is grown attended stops runs = told_running end result is grown attended (runs is)
       told_end (Some pass) end result is grown attended stops runs =
           told_as 5 (codes "stopped") result (serving.disk_failed end pass (is_served (number_of end) count (Some pass) is grown) attended) (stops pass is)
 
-      pub EndsServing-served : (end : ServeEnd) (result : ℕ) (a' b' : D) → IsGrown sources (number_of end) count s s' → AreAttended count net net' end →
+      pub EndsServing-served : (end : ServeEnd) (result : ℕ) (a' b' : D) → IsGrown is_of (number_of end) count s s' → AreAttended count net net' end →
           ((pass : ℕ) → s'.stop ≡ Some pass → Wrote 5 (codes "stopped") before.held before.write_faults result after.held after.write_faults) →
           (s'.stop ≡ None → TellsServed end before.held before.write_faults result after.held after.write_faults) → a' ≡ first_disk s' → b' ≡ second_disk s' →
-          EndsServing sources secrets count (rests_of clock left_since image faults a b a' b') Here (record { ports = record { streams = after; disks = disks_of clock left_since image faults a' b' }; net = net' }) result
+          EndsServing is_of secrets count (rests_of clock left_since image faults a b a' b') Here (record { ports = record { streams = after; disks = disks_of clock left_since image faults a' b' }; net = net' }) result
       EndsServing-served end result a' b' grown attended stops runs a_is b_is =
-          subst (λ (x : D). EndsServing sources secrets count (rests_of clock left_since image faults a b x b') Here (record { ports = record { streams = after; disks = disks_of clock left_since image faults x b' }; net = net' }) result) (sym a_is)
-          (subst (λ (y : D). EndsServing sources secrets count (rests_of clock left_since image faults a b (first_disk s') y) Here (record { ports = record { streams = after; disks = disks_of clock left_since image faults (first_disk s') y }; net = net' }) result) (sym b_is)
+          subst (λ (x : D). EndsServing is_of secrets count (rests_of clock left_since image faults a b x b') Here (record { ports = record { streams = after; disks = disks_of clock left_since image faults x b' }; net = net' }) result) (sym a_is)
+          (subst (λ (y : D). EndsServing is_of secrets count (rests_of clock left_since image faults a b (first_disk s') y) Here (record { ports = record { streams = after; disks = disks_of clock left_since image faults (first_disk s') y }; net = net' }) result) (sym b_is)
           (told_end s'.stop end result refl grown attended stops runs))
 
   -- ---- no store was opened
@@ -298,9 +297,9 @@ module _ {D : Type 0} (sources : SessionSources) (clock : D → ℕ) (left_since
     Between = rests_of clock left_since image faults a b a' b'
 
     abbrev Ends : ℕ → Type 0
-    Ends status = EndsServing sources secrets count Between First Last status
+    Ends status = EndsServing is_of secrets count Between First Last status
 
-    tells : (status : ℕ) (line : List ℕ) (result : ℕ) → ServeWrites sources secrets count Between First Last status line → Wrote status line before.held before.write_faults result after.held after.write_faults → Ends result
+    tells : (status : ℕ) (line : List ℕ) (result : ℕ) → ServeWrites is_of secrets count Between First Last status line → Wrote status line before.held before.write_faults result after.held after.write_faults → Ends result
     tells status line result writes (inl told) = subst Ends (sym told.0) (serving.told status line writes told.1)
     tells status line result writes (inr failed) = subst Ends (sym failed.0) (serving.cut_short status line writes failed.1 failed.2)
 

@@ -26,8 +26,8 @@ use Rattle.pcfs_top.specs.Ports.{Disks, Ports, IfTold, Rests}
 use Rattle.pcfs_top.specs.Run.{AreOfStore, HasNoArea, HasNoNextArea, IsOpened, state_of_start}
 use Rattle.recover.specs.Opening.{IsNewestDamaged}
 use Rattle.root_signing.specs.Signed as signing
-use Rattle.session_service.specs.Sessions.{SessionSources}
-use Rattle.pcfs_run.specs.ServeWords.{IsServe}
+use Rattle.pcfs_run.specs.ServeWords.{IsServe, IsServe9}
+use Rattle.pcfs_run.specs.Passes.{PassEntries}
 use Rattle.pcfs_run.specs.Served.{ServePorts, RunEnds}
 
 -- of no port the count of faults rose
@@ -64,12 +64,12 @@ pub data EndsHealthy (secrets : Secrets) (words : List (String Global)) (before 
   done : EndsHealthy secrets words before after 0
   out_of_memory : EndsHealthy secrets words before after 9
   asks_nothing : AskForNoRun words → ((port count : ℕ) → IsServe words port count → ⊥) →
-      EndsHealthy secrets words before after 1
+      ((port count : ℕ) → IsServe9 words port count → ⊥) → EndsHealthy secrets words before after 1
   script_unfit : (status : ℕ) → AsksFor words Script ⊎ AsksFor words Stored →
       IsUnfit before.ports.streams after.ports.streams status →
       EndsHealthy secrets words before after status
   unopened : (status : ℕ) → AreOfStore words ⊎
-      ((port : ℕ) × (count : ℕ) × IsServe words port count) →
+      ((port : ℕ) × (count : ℕ) × (IsServe words port count ⊎ IsServe9 words port count)) →
       IsUnopened secrets before.ports.disks status → EndsHealthy secrets words before after status
   is_there_already : AsksFor words Init → IfTold before.ports.disks (λ x y. HasNoArea x y → ⊥) →
       EndsHealthy secrets words before after 10
@@ -146,8 +146,8 @@ abbrev pub rests_between : {D L : Type 0} → (D → Type 0) → Moment D L → 
 rests_between pinned before after = record { before = pinned before.a × pinned before.b; after = pinned after.a × pinned after.b }
 
 -- so ends each run over such ports: so none ends with 5, 6, 7 or 8
-abbrev pub HealthyRunsEndSo : {D L : Type 0} → SessionSources → (D → Type 0) → (L → Type 0) → Type 0
-HealthyRunsEndSo {D} {L} sources pinned over = (secrets : Secrets) (words : List (String Global)) (before after : Moment D L) (status : ℕ) →
-    RunEnds sources secrets words (rests_between pinned before after) (ports_at over before) (ports_at over after) status →
+abbrev pub HealthyRunsEndSo : {D L : Type 0} → PassEntries → PassEntries → (D → Type 0) → (L → Type 0) → Type 0
+HealthyRunsEndSo {D} {L} of_session of_nine pinned over = (secrets : Secrets) (words : List (String Global)) (before after : Moment D L) (status : ℕ) →
+    RunEnds of_session of_nine secrets words (rests_between pinned before after) (ports_at over before) (ports_at over after) status →
     AreHealthy (ports_at over before) (ports_at over after) →
     EndsHealthy secrets words (ports_at over before) (ports_at over after) status

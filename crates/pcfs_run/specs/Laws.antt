@@ -18,13 +18,13 @@ use Rattle.pcfs_store.specs.Entries.{Root, StoreEntry}
 use Rattle.session_history.specs.Passes.{entry_pass}
 use Rattle.session_history.specs.SessionState.{guest_with}
 use Rattle.session_history.specs.Laws.{IsByAccepted, IsAskedFor}
-use Rattle.session_service.specs.Sessions.{SessionSources}
+use Rattle.session_service.specs.Sessions.{SessionSources, AreOfSession}
 use Rattle.pcfs_run.specs.Passes.{AreOfPasses}
 
 -- nothing was added
 abbrev pub AddsNothing : SessionSources → Type 0
 AddsNothing sources = (root : Root) (first : List StoreEntry) (attended count : ℕ) (added : List StoreEntry) →
-    AreOfPasses sources root first attended count added → added ≡ []
+    AreOfPasses (AreOfSession sources) root first attended count added → added ≡ []
 
 -- so it is if no connection may say a line
 abbrev pub NothingIsAddedUnsaid : SessionSources → Type 0
@@ -57,5 +57,5 @@ pub record HasLine (sources : SessionSources) (root : Root) (history : List Stor
 -- the step was keeping, which is in the mark.
 abbrev pub EachEntryHasItsLine : SessionSources → Type 0
 EachEntryHasItsLine sources = (root : Root) (first : List StoreEntry) (attended count : ℕ) (added : List StoreEntry) →
-    AreOfPasses sources root first attended count added →
+    AreOfPasses (AreOfSession sources) root first attended count added →
     AllByRecursion (HasLine sources root (first ++ added)) added

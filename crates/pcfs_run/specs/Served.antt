@@ -29,9 +29,8 @@ use Rattle.recover.specs.Opening.{IsNewestHistory, IsNewestDamaged, IsNewestClos
 use Rattle.pcfs_tools.specs.LastLine.{Wrote, WroteNothing}
 use Rattle.pcfs_top.specs.Ports.{Disks, Ports, Rests, IfTold, HasDiskFailed, AreBytesKept}
 use Rattle.pcfs_top.specs.Run.{IsNewestOf, HasNoArea, EndsWith, damaged_text}
-use Rattle.session_service.specs.Sessions.{SessionSources}
-use Rattle.pcfs_run.specs.Passes.{AreOfPasses, stop_among}
-use Rattle.pcfs_run.specs.ServeWords.{IsServe}
+use Rattle.pcfs_run.specs.Passes.{PassEntries, AreOfPasses, stop_among}
+use Rattle.pcfs_run.specs.ServeWords.{IsServe, IsServe9}
 
 -- what a listener and nonces tell at one moment: how many connections are still to come, if that is
 -- told; whether none comes any more; and how many faults the listener has had, and the nonces
@@ -99,7 +98,7 @@ root_under secrets generation image base = record {
 -- line of the session asks for it. The area that did not count is as it was, if no checkpoint was
 -- made; only if
 -- one was tried, its disk may have failed, and then the mark has no event.
-pub record IsServed (sources : SessionSources) (secrets : Secrets) (rests : Rests) (before after : Disks) (attended count : ℕ) (stop : Option ℕ) : Type 0 where
+pub record IsServed (is_of : PassEntries) (secrets : Secrets) (rests : Rests) (before after : Disks) (attended count : ℕ) (stop : Option ℕ) : Type 0 where
   pub generation : ℕ
   pub image : List ℕ
   pub base : BaseView
@@ -107,7 +106,7 @@ pub record IsServed (sources : SessionSources) (secrets : Secrets) (rests : Rest
   pub added : List StoreEntry
   pub events : List Event
   pub found : IfTold before (IsNewestHistory (authority_under secrets) generation image base opened)
-  pub of_passes : AreOfPasses sources (root_under secrets generation image base) (map happened opened) attended count added
+  pub of_passes : AreOfPasses is_of (root_under secrets generation image base) (map happened opened) attended count added
   pub checkpoints : List Checkpoint
   pub counted : checkpoints_among added ≡ length checkpoints
   pub in_order : AreInOrder 0 (length events) checkpoints
@@ -153,63 +152,70 @@ pub data IsServeLine : ServeEnd → ℕ → List ℕ → Type 0 where
 
 -- What such a run has to write that ends with this status: one line. If no store was opened, the
 -- listener and the nonces tell what they did before.
-pub data ServeWrites (sources : SessionSources) (secrets : Secrets) (count : ℕ) (rests : Rests) (before after : ServePorts) : ℕ → List ℕ → Type 0 where
+pub data ServeWrites (is_of : PassEntries) (secrets : Secrets) (count : ℕ) (rests : Rests) (before after : ServePorts) : ℕ → List ℕ → Type 0 where
   served : (end : ServeEnd) (status : ℕ) (line : List ℕ) →
-      IsServed sources secrets rests before.ports.disks after.ports.disks (number_of end) count None →
+      IsServed is_of secrets rests before.ports.disks after.ports.disks (number_of end) count None →
       AreAttended count before.net after.net end → IsServeLine end status line →
-      ServeWrites sources secrets count rests before after status line
+      ServeWrites is_of secrets count rests before after status line
   disk_failed : (end : ServeEnd) (pass : ℕ) →
-      IsServed sources secrets rests before.ports.disks after.ports.disks (number_of end) count (Some pass) →
+      IsServed is_of secrets rests before.ports.disks after.ports.disks (number_of end) count (Some pass) →
       AreAttended count before.net after.net end →
-      ServeWrites sources secrets count rests before after 5 (codes "stopped")
+      ServeWrites is_of secrets count rests before after 5 (codes "stopped")
   no_store : IfTold before.ports.disks HasNoArea →
       AreBytesKept before.ports.disks after.ports.disks → IsNetKept before.net after.net →
-      ServeWrites sources secrets count rests before after 4 (codes "nostore")
+      ServeWrites is_of secrets count rests before after 4 (codes "nostore")
   damaged : (number : ℕ) (damage : Damage) →
       IfTold before.ports.disks (IsNewestDamaged (authority_under secrets) number damage) →
       AreBytesKept before.ports.disks after.ports.disks → IsNetKept before.net after.net →
-      ServeWrites sources secrets count rests before after 3 (damaged_text number damage)
+      ServeWrites is_of secrets count rests before after 3 (damaged_text number damage)
   not_opened : HasDiskFailed before.ports.disks after.ports.disks →
       (rests.before → AreBytesKept before.ports.disks after.ports.disks) →
       IsNetKept before.net after.net →
-      ServeWrites sources secrets count rests before after 5 (codes "stopped")
+      ServeWrites is_of secrets count rests before after 5 (codes "stopped")
 
 -- The status that such a run ends with. Its line was written; or the output failed, and holds some
 -- first part of it; or memory ran out, before the store was opened or after it was served with no
 -- fault of the listener or the nonces, and nothing was written.
-pub data EndsServing (sources : SessionSources) (secrets : Secrets) (count : ℕ) (rests : Rests) (before after : ServePorts) : ℕ → Type 0 where
+pub data EndsServing (is_of : PassEntries) (secrets : Secrets) (count : ℕ) (rests : Rests) (before after : ServePorts) : ℕ → Type 0 where
   told : (status : ℕ) (line : List ℕ) →
-      ServeWrites sources secrets count rests before after status line →
+      ServeWrites is_of secrets count rests before after status line →
       after.ports.streams.held ≡ with_back before.ports.streams.held (with_line_end line) →
-      EndsServing sources secrets count rests before after status
+      EndsServing is_of secrets count rests before after status
   cut_short : (status : ℕ) (line : List ℕ) →
-      ServeWrites sources secrets count rests before after status line →
+      ServeWrites is_of secrets count rests before after status line →
       HasRisen before.ports.streams.write_faults after.ports.streams.write_faults →
       HoldsSome before.ports.streams.held after.ports.streams.held (with_line_end line) →
-      EndsServing sources secrets count rests before after 7
+      EndsServing is_of secrets count rests before after 7
   unopened : AreBytesKept before.ports.disks after.ports.disks → IsNetKept before.net after.net →
       after.ports.streams.held ≡ before.ports.streams.held →
-      EndsServing sources secrets count rests before after 9
+      EndsServing is_of secrets count rests before after 9
   out_of_memory : (end : ServeEnd) → (IsNetFault end → ⊥) →
-      IsServed sources secrets rests before.ports.disks after.ports.disks (number_of end) count None →
+      IsServed is_of secrets rests before.ports.disks after.ports.disks (number_of end) count None →
       AreAttended count before.net after.net end →
       after.ports.streams.held ≡ before.ports.streams.held →
-      EndsServing sources secrets count rests before after 9
+      EndsServing is_of secrets count rests before after 9
 
--- How a run ends: it serves, and takes nothing of its input; or it is a run of another command, and
--- the listener and the nonces tell what they did before; or memory ran out before the words were
--- read, and nothing was done.
-pub data RunEnds (sources : SessionSources) (secrets : Secrets) (words : List (String Global)) (rests : Rests) (before after : ServePorts) : ℕ → Type 0 where
+-- How a run ends: it serves sessions, or 9P2000, and takes nothing of its input; or it is a run of
+-- another command, and the listener and the nonces tell what they did before; or memory ran out
+-- before the words were read, and nothing was done.
+pub data RunEnds (of_session of_nine : PassEntries) (secrets : Secrets)
+    (words : List (String Global)) (rests : Rests) (before after : ServePorts) : ℕ → Type 0 where
   serves : (status port count : ℕ) → IsServe words port count →
       after.ports.streams.left ≡ before.ports.streams.left →
       after.ports.streams.read_faults ≡ before.ports.streams.read_faults →
-      EndsServing sources secrets count rests before after status →
-      RunEnds sources secrets words rests before after status
+      EndsServing of_session secrets count rests before after status →
+      RunEnds of_session of_nine secrets words rests before after status
+  serves_nine : (status port count : ℕ) → IsServe9 words port count →
+      after.ports.streams.left ≡ before.ports.streams.left →
+      after.ports.streams.read_faults ≡ before.ports.streams.read_faults →
+      EndsServing of_nine secrets count rests before after status →
+      RunEnds of_session of_nine secrets words rests before after status
   unread : AreBytesKept before.ports.disks after.ports.disks → IsNetKept before.net after.net →
       after.ports.streams.left ≡ before.ports.streams.left →
       after.ports.streams.read_faults ≡ before.ports.streams.read_faults →
       after.ports.streams.held ≡ before.ports.streams.held →
-      RunEnds sources secrets words rests before after 9
+      RunEnds of_session of_nine secrets words rests before after 9
   alone : (status : ℕ) → ((port count : ℕ) → IsServe words port count → ⊥) →
+      ((port count : ℕ) → IsServe9 words port count → ⊥) →
       EndsWith secrets words rests before.ports after.ports status →
-      IsNetKept before.net after.net → RunEnds sources secrets words rests before after status
+      IsNetKept before.net after.net → RunEnds of_session of_nine secrets words rests before after status

@@ -1,12 +1,14 @@
 //! A run of the program that may serve: its words, its ports, and the status that it ends with.
 
 ghost use Rattle.std.specs.Prelude.{◌≡◌, ◌≤◌, ℕ, List, MatchOption, Option, Some};
-ghost use Rattle.command_words.specs.declared.words.Task.TheVariants.{Serve};
+ghost use Rattle.command_words.specs.declared.words.Task.TheVariants.{Serve, Serve9};
 ghost use Rattle.pcfs_ports.specs.Disk.{IsPinned};
-ghost use Rattle.session_service.specs.Sessions.{sources_of, inputs_of};
+ghost use Rattle.session_service.specs.Sessions.{sources_of, inputs_of, AreOfSession};
+ghost use Rattle.nine_service.specs.Passes.{nine_sources_of, AreOfNine};
 ghost use Rattle.pcfs_run.specs.Served.{EndsServing, RunEnds, net_of};
 ghost use Rattle.pcfs_top.specs.Ports.{ports_beside, ports_of, rests_of};
 
+use crate::nine_serving::serve9;
 use crate::serving::serve_store;
 use crate::status_lines::write_end;
 use bl_syntax::limits::FIRST_MOMENT;
@@ -27,7 +29,7 @@ const DAY: i64 = 86_400;
 
 // Warns of a clock that may be wrong beside the moment of the store's last operation: a moment that was kept is one for good,
 // and every later operation is decided as of then at the earliest. A line that cannot be written is dropped.
-fn warn_of_clock<R: Eprint>(rt: &R, now: i64, last: i64) {
+pub(crate) fn warn_of_clock<R: Eprint>(rt: &R, now: i64, last: i64) {
     if now < last {
         let _ = eprintln!(rt;
             "the clock shows {now}, before the last operation at {last}: until then all is decided as of {last}"
@@ -63,8 +65,8 @@ fn serve<
     requires some { 1 ≤ count }
     requires few { count ≤ 1000000 }
     ensures { (left : Option (List ℕ)) (read_faults : ℕ) →
-        EndsServing (sources_of (C.gives clock.now) L.In.left
-        (inputs_of L.In.left (L.queue net.old)) (N.coming nonces.old)) secrets.now count
+        EndsServing (AreOfSession (sources_of (C.gives clock.now) L.In.left
+        (inputs_of L.In.left (L.queue net.old)) (N.coming nonces.old))) secrets.now count
         (rests_of (IsPinned D.clock D.left_since D.image) a b result.a result.b)
         (record {
           ports = ports_beside left read_faults O.held O.faults D.image D.faults output.old a b;
@@ -114,19 +116,32 @@ fn serving_of(asked: Option<Task>) -> Option<(u16, u64)>
     }
 }
 
+// The port and the number of connections, if 9P2000 is asked for.
+fn nine_serving_of(asked: Option<Task>) -> Option<(u16, u64)>
+    ensures { MatchOption result ((port count : ℕ) → asked ≡ Some (Serve9 port count) → ⊥) (λ s. asked ≡ Some (Serve9 s.0 s.1)) }
+{
+    match asked {
+        Some(task) => match task {
+            Task::Serve9(port, count) => Some((port, count)),
+            _ => None,
+        },
+        None => None,
+    }
+}
+
 /// Runs the program: with `serve`, a port and a number of connections, each of so many that come to that port has a session
-/// over the store on the disks, 64 at once; every other command is that of `run_alone`. The words are read first, then the
-/// store is opened, and only then the port is listened on. What is added to the history then was
-/// added in the turns of the lines of these sessions.
+/// over the store on the disks, 64 at once; with `serve9` each speaks 9P2000 with it; every other command is that of
+/// `run_alone`. The words are read first, then the store is opened, and only then the port is listened on. What is added to
+/// the history then was added in the turns of the lines of these sessions, or of these messages.
 ///
 /// The session of the pass with a number has the nonce of that number, and its lines are the first ones of what the input of
 /// the connection of that number had left when it was accepted, as far as the nonces and the listener told before the run
-/// what they were to give.
+/// what they were to give. So it is with the messages of a connection that speaks 9P2000.
 ///
-/// Returns the disks and the status to end with. With `serve` that is 0, so many were attended or no more come, and the last
-/// line is `served` with their number; 3, 4, 7 or 9 as for `run_alone`; 5, a disk failed: `stopped`, also if the listener
-/// failed too; 8, the listener failed or there was no nonce: `netfault`. A denial, a refusal and a fault of a session's own
-/// input or output leave the status as it is.
+/// Returns the disks and the status to end with. With `serve` and `serve9` that is 0, so many were attended or no more come,
+/// and the last line is `served` with their number; 3, 4, 7 or 9 as for `run_alone`; 5, a disk failed: `stopped`, also if the
+/// listener failed too; 8, the listener failed or there was no nonce: `netfault`. A denial, a refusal and a fault of a
+/// connection's own input or output leave the status as it is.
 pub fn run<
     R: Threads + Wait + Sync + Eprint,
     I: Source,
@@ -148,8 +163,12 @@ pub fn run<
     net: &mut L,
     nonces: &mut N,
 ) -> Ended<D>
-    ensures { RunEnds (sources_of (C.gives clock.now) L.In.left
-        (inputs_of L.In.left (L.queue net.old)) (N.coming nonces.old)) secrets.now words.now.items
+    ensures { RunEnds
+        (AreOfSession (sources_of (C.gives clock.now) L.In.left
+        (inputs_of L.In.left (L.queue net.old)) (N.coming nonces.old)))
+        (AreOfNine (nine_sources_of (C.gives clock.now) L.In.left
+        (inputs_of L.In.left (L.queue net.old)) (N.coming nonces.old)))
+        secrets.now words.now.items
         (rests_of (IsPinned D.clock D.left_since D.image) a b result.a result.b)
         (record {
           ports = ports_of I.left I.faults O.held O.faults D.image D.faults input.old output.old a b;
@@ -172,6 +191,11 @@ pub fn run<
         Some((port, count)) => serve(
             rt, alloc, secrets, output, a, b, port, count, clock, net, nonces,
         ),
-        None => run_asked(rt, alloc, asked, secrets, input, output, a, b),
+        None => match nine_serving_of(asked) {
+            Some((port, count)) => serve9(
+                rt, alloc, secrets, output, a, b, port, count, clock, net, nonces,
+            ),
+            None => run_asked(rt, alloc, asked, secrets, input, output, a, b),
+        },
     }
 }

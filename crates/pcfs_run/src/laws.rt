@@ -3,7 +3,8 @@
 ghost use Rattle.std.specs.Prelude.{◌≡◌, ℕ, List, [], Option, Some};
 ghost use Rattle.std.specs.List.{AllByRecursion};
 ghost use Rattle.pcfs_ports.specs.Disk.{IsPinned};
-ghost use Rattle.session_service.specs.Sessions.{sources_of};
+ghost use Rattle.session_service.specs.Sessions.{sources_of, AreOfSession};
+ghost use Rattle.nine_service.specs.Passes.{nine_sources_of, AreOfNine};
 ghost use Rattle.pcfs_run.specs.Laws.{GoneAdmitNothing, AddsNothing, NothingIsAddedUnsaid, EachEntryHasItsLine};
 ghost use Rattle.pcfs_run.specs.Healthy.{HealthyRunsEndSo};
 
@@ -49,7 +50,8 @@ pub fn healthy_runs_end_so<I: Source, D: Disk, C: TurnClock, L: Listener>(
     net: &L,
 )
     ensures { (inputs : Option (List (Option (List ℕ)))) (nonces : Option (List ℕ)) →
-        HealthyRunsEndSo (sources_of (C.gives clock.now) I.left inputs nonces) (IsPinned D.clock D.left_since D.image) L.over }
+        HealthyRunsEndSo (AreOfSession (sources_of (C.gives clock.now) I.left inputs nonces))
+        (AreOfNine (nine_sources_of (C.gives clock.now) I.left inputs nonces)) (IsPinned D.clock D.left_since D.image) L.over }
 {
     let _ = input;
     let _ = disk;

@@ -5,7 +5,7 @@ ghost use Rattle.std.specs.List.{AllByRecursion};
 ghost use Rattle.journal_records.specs.EventSpelling.{IsReadEvent};
 ghost use Rattle.pcfs_server.specs.Ends.{number_of};
 ghost use Rattle.session_service.specs.Connections.{AreOfConnections};
-ghost use Rattle.session_service.specs.Sessions.{sources_of, inputs_of, AreOfSeenSession};
+ghost use Rattle.session_service.specs.Sessions.{sources_of, inputs_of, AreOfSession, AreOfSeenSession};
 ghost use Rattle.shared_store.specs.GoesOn.{HasGoneOn};
 ghost use Rattle.pcfs_run.specs.Passes.{IsGrown};
 ghost use Rattle.pcfs_run.specs.Served.{AreAttended};
@@ -141,8 +141,8 @@ pub fn serve_store<
     requires some { 1 ≤ count }
     requires few { count ≤ 1000000 }
     ensures gone_on { HasGoneOn D.clock D.left_since D.image D.faults store result.1 }
-    ensures grown { IsGrown (sources_of (C.gives clock.now) L.In.left
-        (inputs_of L.In.left (L.queue net.old)) (N.coming nonces.old)) (number_of result.0) count
+    ensures grown { IsGrown (AreOfSession (sources_of (C.gives clock.now) L.In.left
+        (inputs_of L.In.left (L.queue net.old)) (N.coming nonces.old))) (number_of result.0) count
         store result.1 }
     ensures attended { AreAttended count
         (record { waiting = L.waiting net.old; over = L.over net.old; faults = L.faults net.old; nonce_faults = N.faults nonces.old })

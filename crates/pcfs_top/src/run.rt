@@ -415,6 +415,11 @@ fn run_task<R: Threads + Wait + Sync, I: Source, O: Sink, D: Disk>(
             a,
             b,
         },
+        Task::Serve9(_, _) => Ended {
+            status: write_last_line(output, b"usage\n", USAGE),
+            a,
+            b,
+        },
     }
 }
 

@@ -78,6 +78,14 @@ fn number_of(word: &str) -> Result<u64, RowFault> {
     }
 }
 
+// Adds the bytes of hexadecimal digits.
+fn add_bytes(alloc: Global, digits: &str, out: &mut Bytes) -> Result<(), RowFault> {
+    match hex::decode(alloc, digits) {
+        Ok(bytes) => Ok(out.extend(bytes.as_slice())?),
+        Err(_) => Err(RowFault::BadRow),
+    }
+}
+
 // Adds the text as a line with its end.
 fn add_line(text: &str, out: &mut Bytes) -> Result<(), RowFault> {
     out.extend(text.as_bytes())?;
@@ -283,7 +291,21 @@ impl Case {
         Ok(())
     }
 
-    // Adds the step, with what is told.
+    // The next step is of this connection, which says bytes.
+    fn begin_bytes(&mut self, alloc: Global, text: &str) -> Result<(), RowFault> {
+        let (number, digits) = text.split_once(' ').ok_or(RowFault::BadRow)?;
+        self.begin_step(number)?;
+        add_bytes(alloc, digits, &mut self.line)
+    }
+
+    // Adds the step, with the bytes that are told.
+    fn add_told(&mut self, alloc: Global, digits: &str) -> Result<(), RowFault> {
+        let mut reply = Bytes::new(alloc);
+        add_bytes(alloc, digits, &mut reply)?;
+        self.add_step(alloc, reply, Turn::Replied)
+    }
+
+    // Adds the step, with the line that is told.
     fn add_reply(&mut self, alloc: Global, text: &str) -> Result<(), RowFault> {
         let mut reply = Bytes::new(alloc);
         add_line(text, &mut reply)?;
@@ -333,7 +355,9 @@ impl Case {
             "." => self.add_last(alloc, text, Turn::Ends),
             "!" => self.add_last(alloc, text, Turn::ReadFails),
             "long" => self.begin_long_line(text),
+            "say" => self.begin_bytes(alloc, text),
             "<" => self.add_reply(alloc, text),
+            "told" => self.add_told(alloc, text),
             "<!" => self.add_step(alloc, Bytes::new(alloc), Turn::WriteFails),
             _ => self.begin_line(kind, text),
         }

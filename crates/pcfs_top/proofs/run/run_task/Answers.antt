@@ -1,7 +1,7 @@
 -- Each command ends as it should.
 use Rattle.std.proofs.Common.{refl, subst}
 use Rattle.command_words.specs.Tasks.{AsksFor, IsFit}
-use Rattle.command_words.proofs.TaskLemmas.{serves_alone}
+use Rattle.command_words.proofs.TaskLemmas.{serves_alone, nine_alone}
 use Rattle.pcfs_top.specs.Run as run
 use Rattle.pcfs_top.proofs.EndsWithLemmas.{EndsWith-loaded, EndsWith-usage}
 use Rattle.pcfs_top.proofs.run.run_task.Goals as goal
@@ -59,3 +59,6 @@ returns-in-RootSign g c words asks = run.signing_told _ _ _ (subst (AsksFor word
 
 pub returns-in-Serve : goal.returns-in-Serve
 returns-in-Serve g c words asks = EndsWith-usage words c.args.secrets.now _ _ _ _ (serves_alone words _ _ (subst (AsksFor words) c.in-Serve.is asks)) refl refl c.write_last_line.ensures
+
+pub returns-in-Serve9 : goal.returns-in-Serve9
+returns-in-Serve9 g c words asks = EndsWith-usage words c.args.secrets.now _ _ _ _ (nine_alone words _ _ (subst (AsksFor words) c.in-Serve9.is asks)) refl refl c.write_last_line.ensures

@@ -1,0 +1,250 @@
+//! The service that gives each connection 9P2000.
+
+ghost use Rattle.std.specs.Prelude.{◌≡◌, ◌+◌, ◌<◌, length, if◌then◌else◌};
+ghost use Rattle.tree_lock.specs.Seen.{AreNumbers};
+
+use nine_front::serve_nine;
+use pcfs_ports::{Disk, Listener, Nonces};
+use pcfs_server::{AdmitFault, Service};
+use session_history::TurnClock;
+use shared_store::{LockEntry, OpenedStore};
+use std::alloc::Global;
+use std::collections::LinkedList;
+use std::snapshot::Snapshot;
+use std::sync::Wait;
+use tree_lock::{Doorman, Pass, Recorded, TreeLock};
+
+/// 9P2000 over what a lock keeps, by a clock; and, for contracts alone, the nonces and the listener as they were before the
+/// first connection.
+#[derive(Drop)]
+pub struct NineService<'a, V: Recorded, C, N, L> {
+    lock: &'a TreeLock<V>,
+    clock: &'a C,
+    nonces: Snapshot<N>,
+    net: Snapshot<L>,
+}
+
+impl<'a, V: Recorded, C, N, L> NineService<'a, V, C, N, L> {
+    ghost use Rattle.std.specs.Prelude.{◌≡◌};
+
+    /// 9P2000 over this lock, by this clock, for the connections that this listener is to give, with the nonces that these
+    /// are to give.
+    pub fn new(
+        lock: &'a TreeLock<V>,
+        clock: &'a C,
+        nonces: &N,
+        net: &L,
+    ) -> NineService<'a, V, C, N, L>
+        ensures lock { result.lock.now ≡ lock.now }
+        ensures clock { result.clock.now ≡ clock.now }
+        ensures nonces { result.nonces.value ≡ nonces.now }
+        ensures net { result.net.value ≡ net.now }
+    {
+        NineService {
+            lock,
+            clock,
+            nonces: Snapshot::of(nonces),
+            net: Snapshot::of(net),
+        }
+    }
+}
+
+/// What admits connections: the doorman, who makes a pass for each, and where nonces come from. It counts the tokens that
+/// were attended and have left.
+pub struct NineDoor<'a, V: Recorded, N> {
+    pub door: Doorman<V>,
+    pub nonces: &'a mut N,
+    pub served: u64,
+}
+
+impl<'a, V: Recorded, N> NineDoor<'a, V, N> {
+    ghost use Rattle.std.specs.Prelude.{◌≡◌};
+
+    /// A door by which nobody has left.
+    pub fn new(door: Doorman<V>, nonces: &'a mut N) -> NineDoor<'a, V, N>
+        ensures door { result.door ≡ door }
+        ensures same_reference { result.nonces.ghost_name ≡ nonces.entry.ghost_name }
+        ensures nonces { result.nonces.now ≡ nonces.old }
+        ensures served { result.served ≡ 0 }
+    {
+        NineDoor {
+            door,
+            nonces,
+            served: 0,
+        }
+    }
+
+    /// The doorman.
+    pub fn into_doorman(self) -> Doorman<V>
+        ensures { result ≡ self.entry.door }
+    {
+        let NineDoor {
+            door,
+            nonces: _,
+            served: _,
+        } = self;
+        door
+    }
+}
+
+/// A connection before it was attended, or after it ended.
+pub struct NineToken<V: Recorded> {
+    pass: Pass<V>,
+    nonce: [u8; 16],
+    attended: bool,
+}
+
+impl<V: Recorded> NineToken<V> {
+    ghost use Rattle.std.specs.Prelude.{◌≡◌};
+
+    // The pass, and whether the connection was attended.
+    fn into_pass(self) -> (Pass<V>, bool)
+        ensures { (result.0 ≡ self.pass) × (result.1 ≡ self.attended) }
+    {
+        let NineToken {
+            pass,
+            nonce: _,
+            attended,
+        } = self;
+        (pass, attended)
+    }
+}
+
+impl<V: Recorded> Drop for NineToken<V> {
+    fn drop(self) {
+        let NineToken {
+            pass: _,
+            nonce: _,
+            attended: _,
+        } = self;
+    }
+}
+
+// How many were served, after one more pass was taken in. No more are counted than passes, so the count fits.
+fn served_after<V: Recorded>(door: &Doorman<V>, served: u64, attended: bool) -> u64
+    requires fewer { served < length door.now.retired }
+    requires numbers { AreNumbers door.now.made door.now.retired }
+    ensures { result ≡ (if attended then served + 1 else served) }
+{
+    if !attended {
+        return served;
+    }
+    let _made = door.pass_count();
+    served + 1
+}
+
+impl<'a, D: Disk + Send, C: TurnClock, N: Nonces + 'a, L: Listener> Service<L::In, L::Out>
+    for NineService<'a, OpenedStore<D>, C, N, L> {
+    type Door = NineDoor<'a, OpenedStore<D>, N>;
+
+    type Token = NineToken<OpenedStore<D>>;
+
+    type Kept = (LinkedList<(u64, LockEntry<D>)>, u64);
+
+    ghost use Rattle.std.specs.Prelude.{◌≡◌, ◌-◌, ◌*◌, ◌^◌, true, false};
+    ghost use Rattle.session_service.specs.Connections.{AreOfConnections};
+    ghost use Rattle.pcfs_ports.specs.Telling.{AreTakenOff};
+    ghost use Rattle.session_service.specs.Sessions.{inputs_of, IsInputOf, IsNonceOf};
+    ghost use Rattle.nine_service.specs.Passes.{nine_sources_of, AreOfSeenNine, IsNinePass};
+    ghost use Rattle.nine_front.specs.declared.nine_end.NineEnd.{NineEnd};
+    ghost use Rattle.pcfs_session.specs.Streams.{streams_of};
+    ghost use Rattle.nine_front.specs.Ends.{NineEnds, NothingFailedBefore};
+
+    // For each pass that was made a nonce was given. The passes that were taken in are those of the connections that are
+    // counted, with the entries of a session each, or have no entries.
+    ghost is_door = { λ service door. (door.door.lock ≡ service.lock.now)
+        × AreTakenOff (16 * door.door.made) (N.coming service.nonces.value) (N.coming door.nonces.now)
+        × AreOfConnections (AreOfSeenNine (nine_sources_of (C.gives service.clock.now) L.In.left (inputs_of L.In.left (L.queue service.net.value)) (N.coming service.nonces.value)) door.door.seen) door.served door.door.retired };
+
+    // It has the nonce of its number. Before the connection is attended, its pass has no entries; after that it has those that its
+    // messages were given.
+    ghost is_token = { λ service token. (token.pass.lock ≡ service.lock.now)
+        × IsNonceOf (N.coming service.nonces.value) token.pass.number token.nonce
+        × IsNinePass (nine_sources_of (C.gives service.clock.now) L.In.left (inputs_of L.In.left (L.queue service.net.value)) (N.coming service.nonces.value)) token.attended token.pass };
+
+    ghost attended = { λ token. token.attended };
+
+    ghost admitted = { λ door. door.door.made };
+
+    ghost number = { λ token. token.pass.number };
+
+    // If the listener told its connections, the input is that of the connection of this number.
+    ghost expects = { λ service number input _. IsInputOf (inputs_of L.In.left (L.queue service.net.value)) number (L.In.left input) };
+
+    ghost served = { λ door. door.served };
+
+    ghost out = { λ door. door.door.out };
+
+    ghost room = { λ door. 2 ^ 64 - 1 - door.door.made };
+
+    ghost faults = { λ door. N.faults door.nonces.now };
+
+    // The entries that were there at first, and which reference to the nonces it is.
+    ghost kept = { λ door. (door.door.opening, door.nonces.ghost_name) };
+
+    fn admit(
+        &self,
+        _alloc: Global,
+        door: &mut NineDoor<'a, OpenedStore<D>, N>,
+    ) -> Result<NineToken<OpenedStore<D>>, AdmitFault> {
+        match door.nonces.next() {
+            Ok(nonce) => Ok(NineToken {
+                pass: self.lock.pass(&mut door.door),
+                nonce,
+                attended: false,
+            }),
+            Err(_) => Err(AdmitFault::Failed),
+        }
+    }
+
+    fn attend<R: Wait>(
+        &self,
+        rt: &R,
+        alloc: Global,
+        token: &mut NineToken<OpenedStore<D>>,
+        input: &mut L::In,
+        output: &mut L::Out,
+    )
+        requires belongs { (token.old.pass.lock ≡ self.now.lock.now)
+            × IsNonceOf (N.coming self.now.nonces.value) token.old.pass.number token.old.nonce
+            × IsNinePass (nine_sources_of (C.gives self.now.clock.now) L.In.left
+            (inputs_of L.In.left (L.queue self.now.net.value)) (N.coming self.now.nonces.value))
+            token.old.attended token.old.pass }
+        requires once { token.old.attended ≡ false }
+        requires expected { IsInputOf (inputs_of L.In.left (L.queue self.now.net.value)) token.old.pass.number (L.In.left input.old) }
+        ensures belongs { (token.new.pass.lock ≡ self.now.lock.now)
+            × IsNonceOf (N.coming self.now.nonces.value) token.new.pass.number token.new.nonce
+            × IsNinePass (nine_sources_of (C.gives self.now.clock.now) L.In.left
+            (inputs_of L.In.left (L.queue self.now.net.value)) (N.coming self.now.nonces.value))
+            token.new.attended token.new.pass }
+        ensures attended { token.new.attended ≡ true }
+
+        // The connection's messages were answered, under the token's pass and with its nonce.
+        ensures served { (end : NineEnd) ×
+            NineEnds D.faults (C.gives self.now.clock.now) token.old.nonce token.old.pass
+            token.new.pass
+            (streams_of L.In.left L.In.faults L.Out.held L.Out.faults input.old output.old) end
+            (streams_of L.In.left L.In.faults L.Out.held L.Out.faults input.new output.new) ×
+            NothingFailedBefore
+            (streams_of L.In.left L.In.faults L.Out.held L.Out.faults input.old output.old) end
+            (streams_of L.In.left L.In.faults L.Out.held L.Out.faults input.new output.new) }
+    {
+        serve_nine(
+            rt,
+            alloc,
+            self.lock,
+            &mut token.pass,
+            input,
+            output,
+            self.clock,
+            token.nonce,
+        );
+        token.attended = true;
+    }
+
+    fn leave(&self, door: &mut NineDoor<'a, OpenedStore<D>, N>, token: NineToken<OpenedStore<D>>) {
+        let (pass, attended) = token.into_pass();
+        self.lock.retire(&mut door.door, pass);
+        door.served = served_after(&door.door, door.served, attended);
+    }
+}
