@@ -1,8 +1,8 @@
 #!/usr/bin/env bash
 # Hostile use of the built program, compared with what its definitions promise (see README.md here): random clients over
-# loopback, strangers, areas that are damaged, a server that is killed. It makes its own input, works in a folder of its own,
-# ends by itself, and exits 1 at a fault.
-# usage: tests/hostile/run.sh [SECONDS [SEED [PART..]]], by default 120, 1 and all parts: clients strangers damage kills
+# loopback, strangers, users of lines and of 9P2000 by turns, areas that are damaged, a server that is killed. It makes its own
+# input, works in a folder of its own, ends by itself, and exits 1 at a fault.
+# usage: tests/hostile/run.sh [SECONDS [SEED [PART..]]], by default 120, 1 and all parts: clients strangers nine damage kills
 # PROGRAM is the program, by default crates/pcfs/out/pcfs; FOLDER is where the folder is made, by default /tmp.
 set -euo pipefail
 here=$(cd "$(dirname "$0")" && pwd)

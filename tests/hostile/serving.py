@@ -126,11 +126,11 @@ class Store:
 
 
 class Running:
-    """A server of a store."""
+    """A server of a store, of lines or by another word of 9P2000."""
 
-    def __init__(self, store, count, port=None):
+    def __init__(self, store, count, port=None, word="serve"):
         self.port, self.count = port or free_port(), count
-        self.process = store.start("serve", str(self.port), str(count))
+        self.process = store.start(word, str(self.port), str(count))
         self.memory = self.threads = self.files = 0
 
     def runs(self):
