@@ -26,6 +26,7 @@ The status is 0 if all was done, 2 if the words are wrong, and else 1, with one 
 import argparse
 import hashlib
 import hmac
+import os
 import re
 import socket
 import struct
@@ -48,7 +49,7 @@ REFUSALS = {
 REPLIES = {
     "directory": "it is a directory", "full": "the server's history is full, until it makes a checkpoint", "purse full": f"the server holds {MOST_PROCAPS} procaps",
     "stopped": "a disk of the server failed", "nomemory": "the server has no memory for it", "rejected 1": "the login is not accepted: is that the key of this name?",
-    "rejected 4": "nobody has logged in",
+    "rejected 4": "nobody has logged in", "control": "it takes no such line",
 }
 
 
@@ -65,7 +66,7 @@ def meaning(words, right):
     if words == "no procap":
         return f"there is no procap of yours for {right}"
     if found := re.fullmatch(r"denied \d+ (.*) at \d+", words):
-        cause = re.sub(r"^(time|state) \d+ (.*)", r"\2 does not hold", found[1])
+        cause = re.sub(r"^(time|state) \d+ (.*)", r"\2 does not hold now", found[1])
         cause = re.sub(r"^withdrawn (\d+)$", r"statement \1 was withdrawn", cause)
         return f"your procap for {right} is denied: {'this server did not seal it' if cause == 'seal' else cause}"
     if found := re.fullmatch(r"refused (\d+) at \d+", words):
@@ -137,8 +138,8 @@ class Connection:
         try:
             self.socket = socket.create_connection((host.strip("[]"), int(port)), timeout)
             self.socket.setsockopt(socket.IPPROTO_TCP, socket.TCP_NODELAY, 1)
-        except OSError as fault:
-            raise Fault(f"no server at {server}: {fault.strerror or fault}") from None
+        except (OSError, UnicodeError) as fault:
+            raise Fault(f"no server at {server}: {getattr(fault, 'strerror', None) or fault}") from None
 
     def close(self):
         self.socket.close()
@@ -261,12 +262,12 @@ class Nine(Connection):
 
     def find(self, path, newfid=FILE):
         """Makes the fid stand for the file at a path: whether each name is a directory, and its node."""
-        names, found, at = [name.encode() for name in path.split("/") if name], [], ROOT
+        names, found = [os.fsencode(name) for name in path.split("/") if name], []
         self.walk(ROOT, newfid, [])
         while len(found) < len(names):
             node = found[-1][1] if found else 1
             some = names[len(found):][:MOST_NAMES]
-            here = "/" + "/".join(name.decode() for name in names[: len(found) + 1])
+            here = "/" + "/".join(map(os.fsdecode, names[: len(found) + 1]))
             more = self.told(here, f"execute on #{node}", self.walk, newfid, newfid, some)
             if len(more) < len(some):
                 # it ended on its way, and the fid is where it was: to where it came, and then the name that failed is asked for alone
@@ -307,6 +308,18 @@ class Nine(Connection):
 # ---- the command ---------------------------------------------------------------------------------------------------
 
 
+def user(word):
+    if not re.fullmatch("[a-z][a-z0-9_]{0,31}", word):
+        raise argparse.ArgumentTypeError(f"{word} is no name of a user")
+    return word
+
+
+def seconds(word):
+    if not re.fullmatch(r"[0-9]{1,6}(\.[0-9]{1,6})?", word) or float(word) == 0:
+        raise argparse.ArgumentTypeError(f"{word} is no time to wait")
+    return float(word)
+
+
 def natural(word):
     if not re.fullmatch("[0-9]{1,19}", word):
         raise argparse.ArgumentTypeError(f"{word} is no number from 0 on")
@@ -317,27 +330,46 @@ def words_of(given):
     reader = argparse.ArgumentParser(prog="nine_client.py", description=__doc__, formatter_class=argparse.RawDescriptionHelpFormatter,
                                      usage="nine_client.py --name NAME --key FILE --procaps FILE [OPTION].. walk|cat|write PATH", add_help=False)
     reader.add_argument("--help", action="help", help=argparse.SUPPRESS)
-    for option in ("--name", "--key", "--procaps"):
-        reader.add_argument(option, required=True, help=argparse.SUPPRESS)
+    reader.add_argument("--name", type=user, required=True, help=argparse.SUPPRESS)
+    reader.add_argument("--key", required=True, help=argparse.SUPPRESS)
+    reader.add_argument("--procaps", required=True, help=argparse.SUPPRESS)
     reader.add_argument("--server", default="127.0.0.1:4041", help=argparse.SUPPRESS)
     reader.add_argument("--at", type=natural, default=0, help=argparse.SUPPRESS)
     reader.add_argument("--count", type=natural, default=MOST_FILE, help=argparse.SUPPRESS)
-    reader.add_argument("--timeout", type=float, default=30, help=argparse.SUPPRESS)
+    reader.add_argument("--timeout", type=seconds, default=30, help=argparse.SUPPRESS)
     reader.add_argument("command", choices=("walk", "cat", "write"), help=argparse.SUPPRESS)
     reader.add_argument("path", help=argparse.SUPPRESS)
     return reader.parse_args(given)
 
 
+def given_input():
+    """The standard input, or so much of it that it is more than a file holds."""
+    try:
+        return sys.stdin.buffer.read(MOST_FILE + 1)
+    except (OSError, AttributeError) as fault:
+        raise Fault(f"the input cannot be read: {getattr(fault, 'strerror', None) or 'it is closed'}") from None
+
+
+def put_out(data):
+    """Writes bytes to the standard output."""
+    try:
+        sys.stdout.buffer.write(data)
+        sys.stdout.buffer.flush()
+    except (OSError, AttributeError) as fault:
+        sys.stdout = None  # it is not tried again at the end
+        raise Fault(f"the output failed: {getattr(fault, 'strerror', None) or 'it is closed'}") from None
+
+
 def walk(nine, path):
     names = [name for name in path.split("/") if name]
     for name, (is_directory, node) in zip(names or ["/"], nine.find(path) or [(True, 1)]):
-        print(name, "directory" if is_directory else "file", f"#{node}")
+        put_out(os.fsencode(f"{name} {'directory' if is_directory else 'file'} #{node}\n"))
 
 
 def run(words):
     key = key_in(contents_of(words.key), words.name, words.key)
     procaps = procaps_in(contents_of(words.procaps), words.name, words.procaps)
-    given = sys.stdin.buffer.read(MOST_FILE + 1) if words.command == "write" else b""
+    given = given_input() if words.command == "write" else b""
     try:
         nine = Nine(words.server, words.name, key, procaps, words.timeout)
     except Refused as refused:
@@ -348,8 +380,7 @@ def run(words):
         nine.put(words.path, given, words.at)
     else:
         for piece in nine.cat(words.path, words.at, words.count):
-            sys.stdout.buffer.write(piece)
-    sys.stdout.flush()
+            put_out(piece)
     nine.close()
 
 
@@ -359,8 +390,8 @@ def main():
         run(words)
     except Fault as fault:
         sys.exit(f"nine_client: {fault}")
-    except OSError as fault:
-        sys.exit(f"nine_client: the output failed: {fault.strerror or fault}")
+    except KeyboardInterrupt:
+        sys.exit(130)
 
 
 if __name__ == "__main__":

@@ -422,6 +422,24 @@ def try_vanishing(world):
     world.probe("after those who were gone")
 
 
+def try_unread(world):
+    """One who says much and reads no reply: others are answered meanwhile. What it says takes no turn."""
+    deaf = world.talk("one who does not read").greeted()
+    deaf.connection.settimeout(2)
+    many = read(CONTROL_FID, 0, 64) * 1000
+    try:
+        for _ in range(1000):
+            deaf.connection.sendall(many)
+        fault("a server takes 23 MB of one who reads no reply")
+    except TimeoutError:
+        pass
+    begin = time.monotonic()
+    world.boss("beside one who does not read").says(walk(ROOT_FID, FILE, b"folder", b"file"), opened(FILE, 0), read(FILE, 0, 9)).ends()
+    if time.monotonic() - begin > PATIENCE / 2:
+        fault("others wait for one who does not read")
+    deaf.breaks()
+
+
 def try_ended_right(world):
     """A right that ends between the opening of a file and a reading."""
     lead = world.talk("a right that ends").logged_in("lead", world.of("lead"))
@@ -491,9 +509,10 @@ class Client:
     def put(self, name, text):
         Path(self.folder.name, name).write_text(text)
 
-    def run(self, *words, name="boss", key="key", procaps="procaps", given=b"", server=None):
+    def run(self, *words, name="boss", key="key", procaps="procaps", given=b"", server=None, how=""):
+        """The status, the output and the errors; `how` redirects some of these."""
         options = ["--name", name, "--key", key, "--procaps", procaps, "--server", server or f"127.0.0.1:{self.world.port}", "--timeout", str(PATIENCE)]
-        ran = subprocess.run([sys.executable, str(CLIENT), *options, *words], cwd=self.folder.name, input=given, capture_output=True, check=False, timeout=300)
+        ran = subprocess.run(["sh", "-c", f'exec "$@" {how}', "sh", sys.executable, str(CLIENT), *options, *words], cwd=self.folder.name, input=given, capture_output=True, check=False, timeout=300)
         return ran.returncode, ran.stdout, ran.stderr.decode()
 
     def same(self, what, words, wanted, **more):
@@ -524,7 +543,7 @@ def try_client(world):
     same("a directory", ["cat", "folder"], (1, b"", "folder: it is a directory (directory)"))
     same("no right to write", ["write", "empty"], (0, b"", ""), given=b"x")
     same("no right to read", ["cat", "empty"], (1, b"", "empty: there is no procap of yours for read on #5 (no procap)"))
-    same("a right that ended", ["cat", "folder/file"], (1, b"", f"folder/file: your procap for read on #3 is denied: ctime <= {world.until} does not hold (denied 1 time "), name="lead")
+    same("a right that ended", ["cat", "folder/file"], (1, b"", f"folder/file: your procap for read on #3 is denied: ctime <= {world.until} does not hold now (denied 1 time "), name="lead")
     client_errors(client, same)
     client.folder.cleanup()
     walk_through(world)
@@ -551,7 +570,10 @@ def client_errors(client, same):
     same("too many procaps", ["walk", "folder"], (1, b"", "many has 66 rights of boss, and the server holds 64"), procaps="many")
     same("no server", ["walk", "folder"], (1, b"", "no server at 127.0.0.1:1: "), server="127.0.0.1:1")
     same("no port", ["walk", "folder"], (1, b"", "127.0.0.1 is no HOST:PORT"), server="127.0.0.1")
-    for words in ([], ["walk"], ["fly", "folder"], ["cat", "folder", "--at", "x"], ["cat", "folder", "--at", "-1"], ["cat", "a", "b"]):
+    same("no input", ["write", "empty"], (1, b"", "the input cannot be read: "), how="<&-")
+    same("no output", ["cat", "folder/big"], (1, b"", "the output failed: it is closed"), how=">&-")
+    same("a full output", ["cat", "folder/big"], (1, b"", "the output failed: No space left on device"), how="> /dev/full")
+    for words in ([], ["walk"], ["fly", "folder"], ["walk", "folder", "--name", "No"], ["walk", "folder", "--timeout", "nan"], ["walk", "folder", "--timeout", "0"], ["cat", "folder", "--at", "x"], ["cat", "folder", "--at", "-1"], ["cat", "a", "b"]):
         status, out, errors = client.run(*words)
         if status != 2 or out or "usage: nine_client.py" not in errors:
             fault(f"the client, words {words}: {status}, {out!r}, {errors!r}")
@@ -589,7 +611,7 @@ def main():
     begin = time.monotonic()
     world = World(program)
     lead = try_ended_right(world)
-    for part in (try_rows, try_sizes, try_counts, try_writes, try_names, try_fids, try_versions, try_kinds, try_tags, try_control, try_purse, try_pieces, try_vanishing, try_many):
+    for part in (try_rows, try_sizes, try_counts, try_writes, try_names, try_fids, try_versions, try_kinds, try_tags, try_control, try_purse, try_pieces, try_vanishing, try_unread, try_many):
         part(world)
         print(f"{part.__name__.removeprefix('try_')}: {time.monotonic() - begin:.0f} s, {len(failed)} differences", flush=True)
     connections, replies = try_random(world, float(seconds), seed)

@@ -19,8 +19,8 @@ from several import PROCESSES
 from talking import PATIENCE, Session, Unanswered, connected
 
 USERS = 64
-PHASE = 8  # seconds with one server
-MOST_SAID = 400_000  # how often users say something in all, at most
+PHASE = 10  # seconds with one server
+MOST_SAID = 300_000  # how often users say something in all, at most
 STRAYS = 4  # who speak the other language, in each phase
 LINES, NINE = "serve", "serve9"
 
