@@ -31,14 +31,13 @@ from pcfs_model import Server  # noqa: E402
 
 SECRETS = TOP / "examples" / "pcfs.secrets"
 CLIENT = TOP / "examples" / "nine_client.py"
-PATIENCE = 60  # seconds for a reply
-SOON = 40  # seconds after the begin, when a right ends
+PATIENCE = 120  # seconds for a reply
 CONNECTIONS = 1_000_000  # for which the program serves
 FILE = 3
 BIG = 1_048_576
 
 # A folder #2, in it #3 of 70,000 bytes and #4 of 1 MiB, and #5, an empty file of the root. boss may walk, read and write, deputy may
-# walk from the root alone, and lead may read #3 until soon.
+# walk from the root alone, and lead may read #3 until some moment after the begin.
 GIVEN = [("admin", 1, "write"), ("admin", 2, "write"), ("admin", 3, "write"), ("admin", 4, "write"), ("boss", 1, "execute"), ("boss", 2, "execute"), ("boss", 3, "read"), ("boss", 3, "write"),
          ("boss", 4, "read"), ("boss", 4, "write"), ("deputy", 1, "execute"), ("lead", 1, "execute"), ("lead", 2, "execute"), ("lead", 3, "read"), ("boss", 5, "write"), ("boss", 1, "identity")]
 ROWS = [  # worked by hand
@@ -194,10 +193,7 @@ class Talk:
 
     def logged_in(self, who, procaps=()):
         self.greeted()
-        self.says(control(login(who, self.front.nonce) + "\n"))
-        for procap in procaps:
-            self.says(control(f"procap {procap}"))
-        return self
+        return self.says(control(login(who, self.front.nonce) + "\n"), *[control(f"procap {procap}") for procap in procaps])
 
     def ends(self):
         """Compares the end: it comes by itself after bytes that are no message, and else once no more is said."""
@@ -217,7 +213,10 @@ class World:
     """A server, and a model with the same history."""
 
     def __init__(self, program):
-        self.until = int(time.time()) + SOON
+        begin = time.time()
+        if program != "plain":
+            subprocess.run([program, "script"], input="\n".join(making(0)), text=True, check=False, stdout=subprocess.PIPE, cwd=SECRETS.parent)
+        self.until = int(time.time() + 10 + 8 * (time.time() - begin))
         lines = making(self.until)
         self.server = Plain(lines) if program == "plain" else Program(os.path.realpath(program), lines)
         self.port = self.server.port
@@ -589,15 +588,16 @@ def walk_through(world):
     """The commands that docs/NINE.md shows, with what it says that they write."""
     if isinstance(world.server, Plain):
         return
-    text = (TOP / "docs" / "NINE.md").read_text()
-    block = next(block for block in re.findall(r"(?ms)^```sh\n(.*?)^```$", text) if "serve9" in block)
     with socket.create_server(("127.0.0.1", 0)) as free:
         port = str(free.getsockname()[1])
+    text = (TOP / "docs" / "NINE.md").read_text()
+    block = next(block for block in re.findall(r"(?ms)^```sh\n(.*?)^```$", text) if "serve9" in block).replace("4041", port)
+    commands = block.replace("nine_client.py", f"nine_client.py --server 127.0.0.1:{port} --timeout {PATIENCE}").replace("sleep 2", "sleep 9")
     with tempfile.TemporaryDirectory() as folder:
         Path(folder, "bin").mkdir()
         Path(folder, "bin", "pcfs").symlink_to(world.server.program)
         Path(folder, "examples").symlink_to(TOP / "examples")
-        Path(folder, "commands").write_text(block.replace("4041", port).replace("nine() { python3 ../examples/nine_client.py", f"nine() {{ python3 ../examples/nine_client.py --server 127.0.0.1:{port}").replace("sleep 2", "sleep 6"))
+        Path(folder, "commands").write_text(commands)
         environment = {**os.environ, "PATH": f"{folder}/bin:{os.environ['PATH']}"}
         ran = subprocess.run(["bash", "commands"], cwd=folder, env=environment, stdin=subprocess.DEVNULL, stdout=subprocess.PIPE, stderr=subprocess.STDOUT, text=True, check=False, timeout=300)
     wanted = [line.partition("  # ")[2] for line in block.splitlines() if "  # " in line]

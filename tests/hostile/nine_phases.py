@@ -16,10 +16,11 @@ from nine_talking import Closed, NineSession
 from said import SHARED, Board, Speaker, login, secrets_of
 from serving import Running, Store
 from several import PROCESSES
-from talking import PATIENCE, Session, Unanswered, connected
+from talking import Session, Unanswered, connected
 
 USERS = 64
-PHASE = 10  # seconds with one server
+PHASE = 60  # seconds with one server
+PATIENCE = 180  # seconds for a greeting or a reply
 MOST_SAID = 300_000  # how often users say something in all, at most
 STRAYS = 4  # who speak the other language, in each phase
 LINES, NINE = "serve", "serve9"
@@ -147,7 +148,7 @@ class Phases:
         self.run, self.part, self.draw = run, part, random.Random(f"{run.seed} {part}")
         self.turns = max(2, round(seconds / 2 / PHASE))
         self.seconds = seconds / 2 / self.turns
-        self.plan = Plan(0, f"{run.seed}.{part}", run.folder, 0, 0, USERS, self.turns, label="n", think=USERS * seconds / MOST_SAID)
+        self.plan = Plan(0, f"{run.seed}.{part}", run.folder, 0, 0, USERS, self.turns, label="n", patience=PATIENCE, think=USERS * seconds / MOST_SAID)
         self.plan.phase, self.plan.done, self.plan.port_now = (multiprocessing.Value("i", one) for one in (-1, 0, 0))
         self.plan.until = multiprocessing.Value("d", 0.0)
         names = [name + more for name in self.plan.names() for more in ("", "v")]
@@ -167,11 +168,13 @@ class Phases:
         processes = [multiprocessing.get_context("fork").Process(target=work, args=(part, self.plan)) for part in parts]
         for process in processes:
             process.start()
-        for phase in range(2 * self.turns):
-            self.one_phase(phase, NINE if phase % 2 else LINES, generations)
-        self.plan.phase.value = 2 * self.turns
-        for process in processes:
-            process.join()
+        try:
+            for phase in range(2 * self.turns):
+                self.one_phase(phase, NINE if phase % 2 else LINES, generations)
+        finally:
+            self.plan.phase.value = 2 * self.turns
+            for process in processes:
+                process.join()
         return generations
 
     def one_phase(self, phase, word, generations):
@@ -180,13 +183,13 @@ class Phases:
         server = Running(self.store, USERS + keepers + operators + STRAYS, word=word)
         try:
             if keepers:
-                self.logs.append(keeper(server))
+                self.logs.append(keeper(server, PATIENCE))
             self.plan.done.value, self.plan.port_now.value = 0, server.port
             self.plan.until.value = time.monotonic() + self.seconds
             self.plan.phase.value = phase
             others = [threading.Thread(target=self.stray, args=(server.port, word, random.Random(f"{phase} {number} {self.part}"))) for number in range(STRAYS)]
             if operators:
-                others.append(Operator(server.port, random.Random(f"{phase} operator"), generations, [self.draw.random() * self.seconds]))
+                others.append(Operator(server.port, random.Random(f"{phase} operator"), generations, [self.draw.random() * self.seconds], PATIENCE))
             for one in others:
                 one.start()
             self.watch(server, others)
@@ -211,7 +214,7 @@ class Phases:
             time.sleep(0.1)
 
     def end(self, phase, server):
-        ended = server.ended()
+        ended = server.ended(PATIENCE)
         if ended != (f"served {server.count}\n".encode(), 0):
             self.fault(f"in phase {phase} the server ends with {ended}, and not after {server.count}")
         self.memory, self.threads, self.files = max(self.memory, server.memory), max(self.threads, server.threads), max(self.files, server.files)
@@ -228,13 +231,13 @@ class Phases:
 
     def messages_to_lines(self, port):
         """Messages to a server of lines, to which they are a line."""
-        session = Session(port)
+        session = Session(port, PATIENCE)
         session.leave(b"".join(opening()))
         self.logs.append(session.log)
 
     def lines_to_messages(self, port, draw):
         """Lines to a server of 9P2000: it ends the connection at their first bytes, whose size is no message's, and says nothing."""
-        connection = connected(port)
+        connection = connected(port, PATIENCE)
         connection.sendall(draw.choice([login("keeper", bytes(16)), "procap 1\n", "checkpoint\n", "do list #1 00\n" * 100]).encode())
         try:
             told = connection.recv(65536)
