@@ -2,6 +2,7 @@
 serves either. While `serve` has it, every user has a session, makes files, and wins procaps; then the same users have connections to
 `serve9`, each with the procaps that it won, and so on. Among them are some who speak the other language than the server's."""
 import multiprocessing
+import os
 import pickle
 import random
 import threading
@@ -19,7 +20,7 @@ from several import PROCESSES
 from talking import Session, Unanswered, connected
 
 USERS = 64
-PHASE = 60  # seconds with one server
+PHASE = float(os.environ.get("PHASE", 60))  # seconds with one server, at most
 PATIENCE = 180  # seconds for a greeting or a reply
 MOST_SAID = 300_000  # how often users say something in all, at most
 STRAYS = 4  # who speak the other language, in each phase
@@ -182,6 +183,7 @@ class Phases:
         keepers, operators = int(phase == 0), int(word == LINES)
         server = Running(self.store, USERS + keepers + operators + STRAYS, word=word)
         try:
+            server.wait()
             if keepers:
                 self.logs.append(keeper(server, PATIENCE))
             self.plan.done.value, self.plan.port_now.value = 0, server.port
