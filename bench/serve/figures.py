@@ -20,7 +20,7 @@ def free_port():
 
 
 def dialled(port):
-    for _ in range(500):
+    for _ in range(6000):
         try:
             one = socket.create_connection(("127.0.0.1", port), timeout=60)
             one.setsockopt(socket.IPPROTO_TCP, socket.TCP_NODELAY, 1)

@@ -167,10 +167,10 @@ class NineSpeaker:
         """A walk to a node of one's own, mostly one that may be used."""
         near = [node for node, perm in self.rights if node in self.places and perm in ("read", "write")]
         names = self.way(self.draw.choice(near)) if near else None
-        if not names:
-            return self.name_walk()
         if len(self.known.fids) > FEW:
             return self.leave_fid()
+        if not names:
+            return self.name_walk() if (1, "execute") in self.rights else walk(ROOT_FID, self.free_fid())
         return walk(ROOT_FID, self.free_fid(), *names)
 
     def use(self):
