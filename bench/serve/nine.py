@@ -4,7 +4,7 @@ import subprocess
 import sys
 
 from figures import ROUNDS, SECONDS, Pcfs, Store, aim, begun, dialled, figures, free_port, key, memory, middle, program
-from nine_client import FILE, NO_FID, READING, ROOT, TCLUNK, TREAD, TWALK, Nine
+from nine_client import FILE, NO_FID, READING, ROOT, TCLUNK, TREAD, TWALK, Nine, Refused
 
 BIG, PIECE, SHORT = 1 << 20, 65_536, 4096
 MOST_PROCAPS, MOST_FIDS = 64, 1024
@@ -76,7 +76,7 @@ class Server:
         nine.open(FILE, READING)
         for fid in range(OTHER, OTHER + MOST_FIDS - 4 if has_many else OTHER):
             nine.walk(ROOT, fid, [])
-        return nine.socket
+        return nine
 
     def end(self):
         self.process.kill()
@@ -87,10 +87,19 @@ def timed(one, plan, seconds=SECONDS):
     return figures(begun([one], [plan], seconds))
 
 
+def timed_anew(nine, plan):
+    """The same, once the fid of a walk that the run before may have left is gone."""
+    try:
+        nine.clunk(NO_FID)
+    except Refused:
+        pass
+    return timed(nine.socket, plan, SECONDS / 2)
+
+
 def reading_figures(lines, nine):
     """A reading of 4,096 bytes, and one of 1 MiB in as large pieces as there may be, each by turns."""
     one, by_line = lines.lines()
-    other = nine.messages()
+    other = nine.messages().socket
     short = [(timed(one, [by_line(0, SHORT)]), timed(other, [reading(0, SHORT)])) for _ in range(ROUNDS)]
     (_, line, *_), (_, said, *_) = (middle(runs) for runs in zip(*short))
     print(f"memory: a reading of {SHORT} bytes takes {said:.1f} us as a Tread and {line:.1f} us as a line: {said / line:.2f} (aim at most 1.2: {aim(said <= 1.2 * line)})")
@@ -111,7 +120,7 @@ def cost_figures(nine):
         "a Twalk to a new fid, or its Tclunk": [(0, ended[0], message(TWALK, struct.pack("<IIH", ROOT, NO_FID, 0))), (0, ended[1], message(TCLUNK, struct.pack("<I", NO_FID)))],
     }
     for what, plan in steps.items():
-        runs = [(timed(few, plan, SECONDS / 2), timed(many, plan, SECONDS / 2)) for _ in range(2 * ROUNDS + 1)]
+        runs = [(timed_anew(few, plan), timed_anew(many, plan)) for _ in range(2 * ROUNDS + 1)]
         alone, beside = (middle([run[1] for run in side]) for side in zip(*runs))
         low, high = (min(run[4] for run in side) for side in zip(*runs))
         met = aim(beside - alone <= 1)
