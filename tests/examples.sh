@@ -2,7 +2,7 @@
 # Runs each example by the built program, in a folder with the secrets of the examples beside it, and compares the replies
 # with those that are kept; so too three scripts over one store, and what the documents show (documents.py); then random
 # scripts, tables of modes and statements to be signed, whose replies are compared with those of the model; and sessions of
-# three users (sessions.sh), and what users do by the client (client.py). Exits 1 if some differ.
+# three users (sessions.sh), messages of 9P2000 (nine.py), and what users do by the client (client.py). Exits 1 if some differ.
 # usage: tests/examples.sh [PROGRAM], by default crates/pcfs/out/pcfs
 set -euo pipefail
 tests=$(cd "$(dirname "$0")" && pwd)
@@ -249,6 +249,18 @@ elif bash "$tests/sessions.sh" "$program" "$port" > told 2>&1; then
 else
     cat told
     echo "differs sessions"
+    differ=$((differ + 1))
+fi
+
+# messages of 9P2000 are answered as by the model, and the client for them does what it says
+if ! port=$(free_port); then
+    echo "not run: 9P2000, for want of a loopback address"
+elif python3 "$tests/nine.py" "$program" 5 > told 2>&1; then
+    echo "agrees 9P2000"
+    agree=$((agree + 1))
+else
+    cat told
+    echo "differs 9P2000"
     differ=$((differ + 1))
 fi
 

@@ -1,7 +1,8 @@
 // Drives connections that it is given, each with requests that it says again and again, one after the other, and waits for each
 // reply. Its input: how many connections, the most steps, the seconds; for each connection its descriptor and the number of
-// its requests; for each request the number of lines of its reply, how that begins, and its bytes. It prints steps, seconds,
-// median, 99th percentile and the longest, in microseconds, and how many replies began otherwise.
+// its requests; for each request the number of lines of its reply, or 0 if its first four bytes give its size, how it begins, and its
+// bytes. It prints steps, seconds, median, 99th percentile and the longest, in microseconds, how many replies began otherwise, and the
+// 10th percentile.
 #include <errno.h>
 #include <fcntl.h>
 #include <poll.h>
@@ -19,6 +20,10 @@ static uint64_t now(void) { struct timespec t; clock_gettime(CLOCK_MONOTONIC, &t
 static void take(void *into, size_t len) { if (len && fread(into, 1, len, stdin) != len) { fputs("short input\n", stderr); exit(1); } }
 static char *taken(size_t len) { char *bytes = malloc(len + 1); take(bytes, len); return bytes; }
 static int order(const void *a, const void *b) { uint32_t x = *(const uint32_t *)a, y = *(const uint32_t *)b; return (x > y) - (x < y); }
+static uint32_t size_of(const char *front) { uint32_t size; memcpy(&size, front, sizeof size); return size; }
+static int is_whole(const struct connection *c) {
+    return c->requests[c->at].lines ? !c->left : c->got >= 4 && c->got >= size_of(c->front);
+}
 static void say(struct connection *c) {
     struct request *r = &c->requests[c->at];
     c->left = r->lines;
@@ -68,9 +73,9 @@ int main(void) {
             for (ssize_t k = 0; k < got; k++) {
                 if (c->got < sizeof c->front) c->front[c->got] = buf[k];
                 c->got++;
-                if (buf[k] == '\n') c->left--;
+                if (buf[k] == '\n' && c->left) c->left--;
             }
-            if (got <= 0 || c->left) continue;
+            if (got <= 0 || !is_whole(c)) continue;
             struct request *r = &c->requests[c->at];
             uint64_t late = now(), taken_time = late - c->begun;
             times[steps++] = taken_time > UINT32_MAX ? UINT32_MAX : taken_time;
@@ -83,6 +88,6 @@ int main(void) {
     }
     double whole = (now() - begun) / 1e9;
     qsort(times, steps, sizeof *times, order);
-    printf("%llu %.6f %.1f %.1f %.1f %llu\n", (unsigned long long)steps, whole, times[steps / 2] / 1e3, times[steps * 99 / 100] / 1e3,
-        times[steps - 1] / 1e3, (unsigned long long)wrong);
+    printf("%llu %.6f %.1f %.1f %.1f %llu %.1f\n", (unsigned long long)steps, whole, times[steps / 2] / 1e3, times[steps * 99 / 100] / 1e3,
+        times[steps - 1] / 1e3, (unsigned long long)wrong, times[steps / 10] / 1e3);
 }

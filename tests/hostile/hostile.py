@@ -1,6 +1,6 @@
 """Hostile use of the built program, compared with what the definitions promise.
 
-    hostile.py PROGRAM FOLDER SECONDS SEED [PART..]     the parts are clients, strangers, damage and kills: all, if none is named
+    hostile.py PROGRAM FOLDER SECONDS SEED [PART..]     the parts are clients, strangers, nine, damage and kills: all, if none is named
 
 With WITHDRAWALS=0 in the environment the program is one from before withdrawals.
 """
@@ -21,6 +21,7 @@ from damage import damage_until
 from history import Reader
 from images import image_of
 from kills import Kills, keeper
+from nine_phases import Phases, place
 from pcfs_model import DRAWN_SECRETS, drawn
 from placing import Placing
 from said import SHARED, secrets_of
@@ -28,7 +29,7 @@ from serving import Running, Store
 from strangers import AT_ONCE, Scene, all_strangers, words_and_ports
 from talking import Session, Unanswered
 
-SHARES = {"clients": 0.5, "strangers": 0.2, "damage": 0.15, "kills": 0.15}
+SHARES = {"clients": 0.4, "strangers": 0.15, "nine": 0.2, "damage": 0.125, "kills": 0.125}
 SESSION_SECONDS = 15  # of a client, before it begins another
 STRANGERS = 1500  # names for them, and as many connections at most
 SILENT = 300  # more connections, which say nothing
@@ -169,15 +170,15 @@ class Run:
 
     # ---- what is compared after them ----
 
-    def place(self, part, plan, generations, server, logs):
+    def place(self, part, plan, generations, server, logs, placing=Placing):
         """Compares all that was told with what the areas have. What is read for that stays, and is not looked through again and again."""
         gc.disable()
-        self.compare(part, plan, generations, server, logs)
+        self.compare(part, plan, generations, server, logs, placing)
         gc.enable()
 
-    def compare(self, part, plan, generations, server, logs):
+    def compare(self, part, plan, generations, server, logs, placing):
         store = generations.store
-        placing, nonces, lines = Placing(generations.all(), store.secrets, {SHARED}), Counter(), 0
+        placing, nonces, lines = placing(generations.all(), store.secrets, {SHARED}), Counter(), 0
         for sessions, faults in chain([(map(placing.look, logs), [])], look_at_all(plan, placing)):
             for fault in faults:
                 self.fault(part, fault)
@@ -232,6 +233,14 @@ class Run:
         if server.memory > opened + SESSIONS_MEMORY:
             self.fault(part, f"history and sessions explain {opened + SESSIONS_MEMORY} KiB of memory, and not {server.memory}")
         self.total.update(sessions=sessions, lines=lines, events=events)
+
+    def nine(self):
+        """Users by turns with lines and with messages of 9P2000, over one store."""
+        phases = Phases(self, "nine", self.shares["nine"])
+        generations = phases.go()
+        if generations:
+            self.most(phases.memory, phases.threads)
+            place(phases, generations)
 
     # ---- the other parts ----
 

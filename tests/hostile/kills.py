@@ -10,7 +10,7 @@ from images import count_in
 from placing import Placing
 from said import POLICY, SHARED, login, registration, secrets_of
 from serving import Running, Store
-from talking import Session
+from talking import PATIENCE, Session
 
 CLIENTS = 16
 ROUNDS = 20  # with one store
@@ -18,9 +18,9 @@ LONGEST_ROUND = 1.0  # seconds
 ENOUGH = 10  # faults
 
 
-def keeper(server):
+def keeper(server, patience=PATIENCE):
     """What the one said who registers the policy."""
-    session = Session(server.port)
+    session = Session(server.port, patience)
     session.ask(login("keeper", session.nonce).encode())
     for text in POLICY:
         session.ask(registration(text).encode())

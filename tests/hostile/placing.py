@@ -35,6 +35,7 @@ SECOND = 10**9
 COARSE = 20_000_000  # by so many nanoseconds the server's clock may be behind: some clocks go by ticks
 FOREVER = 2**62
 MOST_SHOWN = 20
+FAILED = b"failed"  # of an operation that was not done, where nobody was told why
 
 
 class Wrong(Exception):
@@ -49,6 +50,13 @@ def shortened_text(text):
 def kept_form(text):
     """A reply of the model as one that was heard is kept."""
     return text.encode("latin-1") if len(text) <= LONG else shortened_text(text)
+
+
+def is_told(reply, told):
+    """Whether this reply of the model allows what was told: that there is no room, if it would be done; or not why it failed."""
+    if told in (b"full", FAILED):
+        return reply.startswith("ok") == (told == b"full")
+    return kept_form(reply) == told
 
 
 def want(reply, wanted):
@@ -593,7 +601,7 @@ class Placing:
             if other is None:
                 continue
             after = self.without_room(place + 1, size) if size else place + 1
-            if ask.reply == b"full" and after <= most:
+            if ask.reply in (b"full", FAILED) and after <= most:
                 self.asks[after].append((session, number, ask, size, most))
             else:
                 words = f"{ask.form} {str(ask.words)[:200]} of {ask.caller}"
@@ -603,7 +611,7 @@ class Placing:
         """None if what was told may be told now; else the first reply that may be."""
         replies = []
         for reply in self.would_be_told(history, ask):
-            if reply.startswith("ok") if ask.reply == b"full" else kept_form(reply) == ask.reply:
+            if is_told(reply, ask.reply):
                 return None
             replies.append(reply)
         return replies[0]

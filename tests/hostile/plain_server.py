@@ -1,12 +1,13 @@
 #!/usr/bin/env python3
-"""A slow server of sessions by the plain model, on which the hostile tests themselves are tried: `init`, `serve PORT COUNT`, and
-`script --stored` with the one line by which the tests ask for the number of events. A word in the variable WRONG makes it wrong
+"""A slow server of sessions by the plain model, on which the hostile tests themselves are tried: `init`, `serve PORT COUNT`,
+`serve9 PORT COUNT`, and `script --stored` with the one line by which the tests ask for the number of events. A word in the variable WRONG makes it wrong
 in one way, which the tests have to find (wrong.sh)."""
 import os
 import random
 import re
 import secrets as system
 import socket
+import struct
 import sys
 import threading
 import time
@@ -15,7 +16,9 @@ from areas import HEADER, LIMIT, Damaged, begin_of, bytes_of, generation, newest
 from damage import made
 from history import Acted, History, Issued, Registered, Withdrawn, issued_form
 from images import image_of
-from lines import LONGEST, Lines, is_accepted
+from lines import LONGEST, Asked, Lines, is_accepted
+from nine_messages import reply_bytes
+from nine_server import Front, Stream
 from pcfs_audit_model import CODES, cited_bytes, signature_bytes, withdrawal_bytes, word_bytes
 from pcfs_formats import short, tag_of
 from pcfs_model import OPERATIONS, Reply, Undecided, grant_bytes
@@ -234,12 +237,70 @@ class Session:
             return getattr(self.kept, asked.form if asked.form in ("register", "withdraw", "procap", "checkpoint") else "do")(asked, self.caller)
 
 
-def attend(kept, connection, room):
-    Session(kept, connection).hold()
+class NineFront(Front):
+    """What a connection of 9P2000 is told, each operation in a turn of its own."""
+
+    def __init__(self, kept, nonce):
+        super().__init__(kept.history, nonce)
+        self.kept = kept
+
+    def first(self, file, permission):
+        """With the wrong kind `nine-last` the last procap that fits."""
+        fitting = [p for p in self.purse if (p[0].who, p[0].file, p[0].perm) == (self.caller, file[0], permission)]
+        return fitting[-1 if WRONG == "nine-last" else 0] if fitting else None
+
+    def is_login(self, who, signature):
+        return is_accepted(self.kept.history.keys, who, signature, self.nonce)
+
+    def is_directory(self, node):
+        return self.server.nodes[node].kind == "directory" if WRONG != "nine-kind" or random.random() > 0.02 else True
+
+    def turn(self, operation, *words):
+        *words, (grant, tag) = words
+        procap = self.kept.lines.reader.procap(grant_bytes(grant) + tag)
+        with self.kept.lock:
+            reply = self.kept.do(Asked(operation, [*words, procap], None), self.caller)
+            if WRONG == "nine-early" and operation == "read" and reply.startswith("denied"):
+                return self.server.would_do(operation, words)
+        if WRONG == "nine-untold" and operation == "lookup" and not reply.startswith("ok") and random.random() < 0.1:
+            return "no procap"
+        return reply
+
+    def walked(self, tag, message, node):
+        """With the wrong kind `nine-half` a walk that ended on its way has made a fid."""
+        reply = super().walked(tag, message, node)
+        count = int.from_bytes(reply[7:9], "little")
+        if WRONG == "nine-half" and reply[4] == 111 and 0 < count < int.from_bytes(message[15:17], "little"):
+            kind, _, path = struct.unpack_from("<BIQ", reply, 9 + 13 * (count - 1))
+            self.fids[int.from_bytes(message[11:15], "little")] = ((path, kind == 128), None)
+        return reply
+
+
+class NineSession:
+    """A connection of 9P2000."""
+
+    def __init__(self, kept, connection):
+        self.connection, self.stream = connection, Stream(NineFront(kept, bytes(16) if WRONG == "nonce" else system.token_bytes(16)))
+
+    def hold(self):
+        try:
+            while not self.stream.ended and (piece := self.connection.recv(65536)):
+                for reply in self.stream.replies(piece):
+                    self.connection.sendall(reply)
+                if WRONG == "nine-bad" and self.stream.ended:
+                    self.connection.sendall(reply_bytes(0, "error", b"bad".hex()))
+        except OSError:
+            pass
+        finally:
+            self.connection.close()
+
+
+def attend(hold, room):
+    hold()
     room.release()
 
 
-def serve(port, count):
+def serve(port, count, session=Session):
     with open("pcfs.secrets", encoding="ascii") as file:
         text = file.read()
     first, second = bytes_of("pcfs.a"), bytes_of("pcfs.b")
@@ -253,7 +314,7 @@ def serve(port, count):
         return told(damaged, 3)
     except OSError:
         return told("netfault", 8)
-    attend_all(Kept(history, area, area is second), listener, count)
+    attend_all(Kept(history, area, area is second), listener, count, session)
     return told(f"served {count}", 0)
 
 
@@ -262,13 +323,13 @@ def told(line, status):
     return status
 
 
-def attend_all(kept, listener, count):
+def attend_all(kept, listener, count, session):
     room, threads = threading.Semaphore(AT_ONCE), []
     for _ in range(count):
         room.acquire()
         connection, _ = listener.accept()
         connection.setsockopt(socket.IPPROTO_TCP, socket.TCP_NODELAY, 1)
-        threads.append(threading.Thread(target=attend, args=(kept, connection, room), daemon=True))
+        threads.append(threading.Thread(target=attend, args=(session(kept, connection).hold, room), daemon=True))
         threads[-1].start()
         threads = [thread for thread in threads if thread.is_alive()] if len(threads) > 200 else threads
     listener.close()
@@ -318,6 +379,8 @@ def main():
             return find()
         case ["serve", port, count] if is_number(port, 65535) and is_number(count, 1000000):
             return serve(int(port), int(count))
+        case ["serve9", port, count] if is_number(port, 65535) and is_number(count, 1000000):
+            return serve(int(port), int(count), NineSession)
     print("usage")
     return 1
 

@@ -4,6 +4,7 @@ import os
 import shutil
 import socket
 import subprocess
+import time
 from contextlib import suppress
 from random import SystemRandom
 
@@ -23,6 +24,12 @@ def free_port():
         with socket.socket() as one, suppress(OSError):
             one.bind(("127.0.0.1", port))
             return port
+
+
+def is_listened(port):
+    """Whether somebody listens on this port of any address."""
+    with open("/proc/net/tcp", encoding="ascii") as file:
+        return any(words[1].endswith(f":{port:04X}") and words[3] == "0A" for words in map(str.split, file))
 
 
 def waited_by(process):
@@ -126,15 +133,21 @@ class Store:
 
 
 class Running:
-    """A server of a store."""
+    """A server of a store, of lines or by another word of 9P2000."""
 
-    def __init__(self, store, count, port=None):
+    def __init__(self, store, count, port=None, word="serve"):
         self.port, self.count = port or free_port(), count
-        self.process = store.start("serve", str(self.port), str(count))
+        self.process = store.start(word, str(self.port), str(count))
         self.memory = self.threads = self.files = 0
 
     def runs(self):
         return self.process.poll() is None
+
+    def wait(self, patience=600):
+        """Waits until it listens, without a connection."""
+        until = time.monotonic() + patience
+        while self.runs() and not is_listened(self.port) and time.monotonic() < until:
+            time.sleep(0.05)
 
     def watch(self):
         """Takes note of the memory, threads and open files that it has; those of the moment, and none if it has ended."""

@@ -28,12 +28,13 @@ class Spoken:
         self.nonce, self.lines, self.replies, self.end, self.generation = nonce, [], [], "vanished", None
 
     def plain(self):
-        return self.nonce, self.lines, self.replies, self.end
+        return type(self), self.nonce, self.lines, self.replies, self.end
 
 
 def spoken_of(plain):
-    spoken = Spoken(plain[0])
-    _, spoken.lines, spoken.replies, spoken.end = plain
+    kind, nonce, *said = plain
+    spoken = kind(nonce)
+    spoken.lines, spoken.replies, spoken.end = said
     return spoken
 
 

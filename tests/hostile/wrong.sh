@@ -2,7 +2,7 @@
 # Tries the hostile tests on a plain server (plain_server.py), which they have to pass, and on that server wrong in one way
 # each, of which they have to find a fault; once it is found, that run ends. Exits 1 if they do not.
 # usage: tests/hostile/wrong.sh [SECONDS [KIND..]], by default 6 for each, and all kinds; `right` is the server as it is, and
-# `withdrawn-..` are kinds with withdrawals, of which `withdrawn-right` is as it has to be. On a loaded machine little is said in that
+# `withdrawn-..` are kinds with withdrawals, of which `withdrawn-right` is as it has to be, and `nine-..` those of 9P2000. On a loaded machine little is said in that
 # time: a kind that is not found is tried once more, for five times as long.
 set -euo pipefail
 here=$(cd "$(dirname "$0")" && pwd)
@@ -11,14 +11,15 @@ kinds=("${@:2}")
 [ ${#kinds[@]} -gt 0 ] || kinds=(right lost twice others-procaps old-clock number other-caller stale nonce login state-conditions no-checkpoint
     old-area image any-checkpoint list-lacks list-exchanged list-spaces too-many
     withdrawn-right withdrawn-untested withdrawn-before withdrawn-cited withdrawn-held withdrawn-registration withdrawn-anybody withdrawn-stays withdrawn-one
-    withdrawn-last withdrawn-oldest withdrawn-again withdrawn-image)
+    withdrawn-last withdrawn-oldest withdrawn-again withdrawn-image
+    nine-right nine-last nine-kind nine-half nine-bad nine-untold nine-early)
 work=$(mktemp -d)
 trap 'rm -rf "$work"' EXIT
 missed=0
 try() {
     local kind=$1 long=$2
     shift 2
-    case $kind in withdrawn-*) set -- "$@" --withdrawals ;; esac
+    case $kind in withdrawn-* | nine-*) set -- "$@" --withdrawals ;; esac
     PYTHONPATH="$here:$here/../model:$here/../../examples" PYTHONPYCACHEPREFIX="$work/cache" WRONG="${kind%-right}" \
         python3 "$here/hostile.py" "$here/plain_server.py" "$work/work" "$long" 1 "$@" 2> "$work/errors"
 }
@@ -31,6 +32,8 @@ find_fault() {
 }
 for kind in "${kinds[@]}"; do
     case $kind in
+        nine-right) if try "$kind" $((3 * seconds)) nine > "$work/out"; then echo "$kind: passed"; else echo "$kind: refused"; cat "$work/out" "$work/errors"; missed=1; fi ;;
+        nine-*) find_fault "$kind" FAULT nine ;;
         right | *-right) if try "$kind" "$seconds" clients strangers > "$work/out"; then echo "$kind: passed"; else echo "$kind: refused"; cat "$work/out" "$work/errors"; missed=1; fi ;;
         too-many) find_fault "$kind" "FAULT one too many" strangers ;;
         *) find_fault "$kind" FAULT clients ;;

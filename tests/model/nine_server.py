@@ -1,9 +1,12 @@
 """A slow server of 9P2000 over the plain model: the messages of a connection by `nine_connection.py`, each turn by `pcfs_model.py`.
 
-`Front(server, nonce).answer(message)` are the bytes of the reply; `serve(server, listener, count)` gives so many connections one each.
+`Front(server, nonce).answer(message)` are the bytes of the reply, `Stream(front).replies(data)` those to the messages of a stream;
+`serve(server, listener, count)` gives so many connections one each.
 """
 import secrets as system
+import socket
 import threading
+from contextlib import suppress
 
 from nine_connection import ERRORS, Connection, qid
 from nine_messages import Bad, lines_of, reply_bytes
@@ -19,12 +22,23 @@ class Front(Connection):
 
     def __init__(self, server, nonce):
         super().__init__(0)
-        self.server, self.nonce, self.greeting = server, nonce, f"hello {nonce.hex()}\n".encode()
+        self.server = server
+        self.greet(nonce)
+
+    def greet(self, nonce):
+        """Takes this nonce as that of the connection."""
+        self.nonce, self.greeting = nonce, f"hello {nonce.hex()}\n".encode()
 
     def turn(self, operation, *words):
         """What the store says to an operation of who is logged in, in one turn."""
         self.server.caller = self.caller
         return self.server.do(operation, list(words))
+
+    def is_directory(self, node):
+        return self.server.nodes[node].kind == "directory"
+
+    def is_login(self, who, signature):
+        return self.server.accepts(who, b"L" + short(who) + self.nonce, signature)
 
     def walked(self, tag, message, node):
         """Looks a name up at a time, each under the first procap that fits where the walk has come to."""
@@ -36,7 +50,7 @@ class Front(Connection):
                 ended = said
                 break
             node = int(said.removeprefix("ok node #"))
-            found.append((node, self.server.nodes[node].kind == "directory"))
+            found.append((node, self.is_directory(node)))
         self.take(message, [f"{'d' if is_directory else 'f'}{node}" for node, is_directory in found])
         if ended and not found:
             return error(tag, ended)
@@ -49,7 +63,7 @@ class Front(Connection):
             return self.walked(tag, message, int(words[1]))
         if words[0] == "login":
             who, signature = bytes.fromhex(words[1]).decode(), bytes.fromhex(words[2])
-            if not self.server.accepts(who, b"L" + short(who) + self.nonce, signature):
+            if not self.is_login(who, signature):
                 return error(tag, "rejected 1")
             self.take(message, ["ok"])
             return reply_bytes(tag, "write", str(int.from_bytes(message[19:23], "little")))
@@ -63,34 +77,56 @@ class Front(Connection):
         return reply_bytes(tag, "write", str(len(message) - 23)) if said == "ok" else error(tag, said)
 
 
+class Stream:
+    """The messages of a connection as their bytes come, each answered by a front. `ended` says that bytes came which begin no message,
+    after which nothing is answered."""
+
+    def __init__(self, front):
+        self.front, self.agreed, self.pending, self.ended = front, 65536, b"", False
+
+    def next(self):
+        """The next whole message; None if there is none."""
+        size = int.from_bytes(self.pending[:4], "little")
+        if len(self.pending) < 4 or self.ended:
+            return None
+        if size < 7 or size > self.agreed:
+            self.ended = True
+            return None
+        if len(self.pending) < size:
+            return None
+        message, self.pending = self.pending[:size], self.pending[size:]
+        try:
+            lines_of(message)
+        except Bad:
+            self.ended = True
+            return None
+        if message[4] == 100:
+            msize = int.from_bytes(message[7:11], "little")
+            self.agreed = self.agreed if msize < 512 else min(msize, 65536)
+        return message
+
+    def replies(self, data):
+        """The replies to all messages that are whole with these bytes, one by one."""
+        self.pending += data
+        while message := self.next():
+            yield self.front.answer(message)
+
+
 def attend(server, lock, connection):
     """Answers the messages of a connection, up to its end or to one that is none."""
-    front, agreed, pending = Front(server, system.token_bytes(16)), 65536, b""
-    with connection:
-        while piece := connection.recv(65536):
-            pending += piece
-            while len(pending) >= 4:
-                size = int.from_bytes(pending[:4], "little")
-                if size < 7 or size > agreed:
-                    return
-                if len(pending) < size:
-                    break
-                message, pending = pending[:size], pending[size:]
-                try:
-                    lines_of(message)
-                except Bad:
-                    return
-                with lock:
-                    connection.sendall(front.answer(message))
-                if message[4] == 100:
-                    msize = int.from_bytes(message[7:11], "little")
-                    agreed = agreed if msize < 512 else min(msize, 65536)
+    stream = Stream(Front(server, system.token_bytes(16)))
+    with connection, suppress(OSError):
+        while not stream.ended and (piece := connection.recv(65536)):
+            with lock:
+                replies = b"".join(stream.replies(piece))
+            connection.sendall(replies)
 
 
 def serve(server, listener, count):
     lock, threads = threading.Lock(), []
     for _ in range(count):
         connection, _ = listener.accept()
+        connection.setsockopt(socket.IPPROTO_TCP, socket.TCP_NODELAY, 1)
         threads.append(threading.Thread(target=attend, args=(server, lock, connection)))
         threads[-1].start()
     for thread in threads:

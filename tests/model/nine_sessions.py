@@ -7,9 +7,9 @@ import sys
 from pathlib import Path
 
 HERE = Path(__file__).resolve().parent
-sys.path += [str(HERE), str(HERE.parents[1] / "client")]
+sys.path += [str(HERE), str(HERE.parents[1] / "examples")]
 from nine_server import Front  # noqa: E402
-from pcfs_client.formats import sign_login  # noqa: E402
+from pcfs_formats import sign_login  # noqa: E402
 from pcfs_model import Server  # noqa: E402
 
 SECRETS = {"admin": "61646d696e7320736563726574", "boss": "626f7373206b6579", "deputy": "646570757479206b6579"}

@@ -70,8 +70,10 @@ where
     ensures listener_steady { StandsStill result (L.faults (F.listener front.old)) (L.faults (F.listener front.new)) }
     ensures door_steady { StandsStill result (H.faults (F.door front.old)) (H.faults (F.door front.new)) }
     ensures one_failed { IsNetFault result →
-        (FailedLast (L.faults (F.listener front.old)) (L.faults (F.listener front.new)) (L.broken (F.listener front.new)) × (H.faults (F.door front.new) ≡ H.faults (F.door front.old))) ⊎
-        (FailedLast (H.faults (F.door front.old)) (H.faults (F.door front.new)) (H.broken (F.door front.new)) × (L.faults (F.listener front.new) ≡ L.faults (F.listener front.old))) }
+        (FailedLast (L.faults (F.listener front.old)) (L.faults (F.listener front.new)) (L.broken (F.listener front.new)) ×
+        (H.faults (F.door front.new) ≡ H.faults (F.door front.old))) ⊎
+        (FailedLast (H.faults (F.door front.old)) (H.faults (F.door front.new)) (H.broken (F.door front.new)) ×
+        (L.faults (F.listener front.new) ≡ L.faults (F.listener front.old))) }
 {
     for attended in 0..count {
         make_room(rt, service, ended, table, front, most);
@@ -139,8 +141,10 @@ where
     ensures listener_steady { StandsStill (F.noted front.new) (L.faults (F.listener front.old)) (L.faults (F.listener front.new)) }
     ensures door_steady { StandsStill (F.noted front.new) (H.faults (F.door front.old)) (H.faults (F.door front.new)) }
     ensures one_failed { IsNetFault (F.noted front.new) →
-        (FailedLast (L.faults (F.listener front.old)) (L.faults (F.listener front.new)) (L.broken (F.listener front.new)) × (H.faults (F.door front.new) ≡ H.faults (F.door front.old))) ⊎
-        (FailedLast (H.faults (F.door front.old)) (H.faults (F.door front.new)) (H.broken (F.door front.new)) × (L.faults (F.listener front.new) ≡ L.faults (F.listener front.old))) }
+        (FailedLast (L.faults (F.listener front.old)) (L.faults (F.listener front.new)) (L.broken (F.listener front.new)) ×
+        (H.faults (F.door front.new) ≡ H.faults (F.door front.old))) ⊎
+        (FailedLast (H.faults (F.door front.old)) (H.faults (F.door front.new)) (H.broken (F.door front.new)) ×
+        (L.faults (F.listener front.new) ≡ L.faults (F.listener front.old))) }
 {
     let mut table = Slab::new(alloc);
     let end = accept_all(
@@ -194,8 +198,10 @@ where
     ensures listener_steady { StandsStill (F.noted front.new) (L.faults (F.listener front.old)) (L.faults (F.listener front.new)) }
     ensures door_steady { StandsStill (F.noted front.new) (H.faults (F.door front.old)) (H.faults (F.door front.new)) }
     ensures one_failed { IsNetFault (F.noted front.new) →
-        (FailedLast (L.faults (F.listener front.old)) (L.faults (F.listener front.new)) (L.broken (F.listener front.new)) × (H.faults (F.door front.new) ≡ H.faults (F.door front.old))) ⊎
-        (FailedLast (H.faults (F.door front.old)) (H.faults (F.door front.new)) (H.broken (F.door front.new)) × (L.faults (F.listener front.new) ≡ L.faults (F.listener front.old))) }
+        (FailedLast (L.faults (F.listener front.old)) (L.faults (F.listener front.new)) (L.broken (F.listener front.new)) ×
+        (H.faults (F.door front.new) ≡ H.faults (F.door front.old))) ⊎
+        (FailedLast (H.faults (F.door front.old)) (H.faults (F.door front.new)) (H.broken (F.door front.new)) ×
+        (L.faults (F.listener front.new) ≡ L.faults (F.listener front.old))) }
 {
     thread::scope(
         thread::scope_env(),
@@ -226,8 +232,10 @@ where
             ensures listener_steady { StandsStill (F.noted result.now) (L.faults (F.listener front.entry.now)) (L.faults (F.listener result.now)) }
             ensures door_steady { StandsStill (F.noted result.now) (H.faults (F.door front.entry.now)) (H.faults (F.door result.now)) }
             ensures one_failed { IsNetFault (F.noted result.now) →
-                (FailedLast (L.faults (F.listener front.entry.now)) (L.faults (F.listener result.now)) (L.broken (F.listener result.now)) × (H.faults (F.door result.now) ≡ H.faults (F.door front.entry.now))) ⊎
-                (FailedLast (H.faults (F.door front.entry.now)) (H.faults (F.door result.now)) (H.broken (F.door result.now)) × (L.faults (F.listener result.now) ≡ L.faults (F.listener front.entry.now))) }
+                (FailedLast (L.faults (F.listener front.entry.now)) (L.faults (F.listener result.now)) (L.broken (F.listener result.now)) ×
+                (H.faults (F.door result.now) ≡ H.faults (F.door front.entry.now))) ⊎
+                (FailedLast (H.faults (F.door front.entry.now)) (H.faults (F.door result.now)) (H.broken (F.door result.now)) ×
+                (L.faults (F.listener result.now) ≡ L.faults (F.listener front.entry.now))) }
         {
             serve(rt, scope, alloc, service, ended, front, count, most);
             front

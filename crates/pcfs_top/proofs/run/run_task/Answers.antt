@@ -61,4 +61,4 @@ pub returns-in-Serve : goal.returns-in-Serve
 returns-in-Serve g c words asks = EndsWith-usage words c.args.secrets.now _ _ _ _ (serves_alone words _ _ (subst (AsksFor words) c.in-Serve.is asks)) refl refl c.write_last_line.ensures
 
 pub returns-in-Serve9 : goal.returns-in-Serve9
-returns-in-Serve9 g c words asks = EndsWith-usage words c.args.secrets.now _ _ _ _ (nine_alone words _ _ (subst (AsksFor words) c.in-Serve9.is asks)) refl refl c.write_last_line.ensures
+returns-in-Serve9 g c words asks = EndsWith-usage words c.args.secrets.now _ _ _ _ (nine_alone words _ _ (subst (AsksFor words) c.in-Serve9.is asks)) refl refl c.write_last_line-in-Serve9.ensures
