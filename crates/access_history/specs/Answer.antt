@@ -3,6 +3,7 @@
 use Rattle.std.specs.Prelude.{◌≡◌, ◌≤◌, ◌+◌, ℕ, ℤ, List, length, Option, Some, None, Contains}
 use Rattle.std.specs.Int.{int_max}
 use Rattle.std.specs.List.{AllByRecursion}
+use Rattle.bl_syntax.specs.declared.limits.TheConstants.{MOST_STATEMENTS}
 use Rattle.bl_syntax.specs.Statement.{StatementView}
 use Rattle.bl_syntax.specs.Grant.{GrantView}
 use Rattle.procap.specs.declared.procap.Procap.{Procap}
@@ -55,7 +56,7 @@ pub data Answers (authority : Authority) (state : BaseView) (pass : ℕ) (clock 
       Answers authority state pass clock (requests.Register statement signature) (replies.Rejected (Duplicate number)) None
   registry_full : (statement : StatementView) (signature : List ℕ) →
       IsSignedStatement authority statement signature →
-      (Contains (sayings state.statements) statement → ⊥) → 4096 ≤ length state.statements →
+      (Contains (sayings state.statements) statement → ⊥) → MOST_STATEMENTS ≤ length state.statements →
       Answers authority state pass clock (requests.Register statement signature) (replies.Rejected RegistryFull) None
   registered : (statement : StatementView) (signature : List ℕ) →
       MayBeRegistered authority state.statements statement signature →

@@ -1,6 +1,7 @@
 -- Whose signatures are accepted, and under which key procaps are sealed; statements with their
 -- signatures, and withdrawals (this project's own).
 use Rattle.std.specs.Prelude.{◌<◌, ℕ, List, length, Bool, IsTrue, map, Contains}
+use Rattle.bl_syntax.specs.declared.limits.TheConstants.{MOST_STATEMENTS}
 use Rattle.bl_syntax.specs.Statement.{StatementView, IsStatement}
 use Rattle.bl_syntax.specs.Grant.{GrantView}
 use Rattle.policy_statement.specs.Messages.{statement_message, withdraw_message}
@@ -32,7 +33,7 @@ sayings entries = map (λ (entry : RegisteredView). entry.statement) entries
 -- the statement can be added to these: no equal one is among them, and there is room
 pub record CanRegister (statements : List StatementView) (said : StatementView) : Type 0 where
   pub new : Contains statements said → ⊥
-  pub room : length statements < 4096
+  pub room : length statements < MOST_STATEMENTS
 
 -- the statement may be registered beside these: it may be said, its signature is accepted, and it
 -- can be added

@@ -1,6 +1,7 @@
 -- What has to hold of an event, and of what the state keeps of it, when it is kept (this project's
 -- own).
 use Rattle.std.specs.Prelude.{◌<◌, List, length, IsSome}
+use Rattle.bl_syntax.specs.declared.limits.TheConstants.{MOST_STATEMENTS}
 use Rattle.bl_syntax.specs.TimeOrder.{IsMoment}
 use Rattle.policy_statement.specs.Registered.{RegisteredView}
 use Rattle.policy_statement.specs.Withdrawal.{live_of_number}
@@ -16,6 +17,6 @@ HasMomentInRange _ = Unit {0}
 
 -- a statement more is within the limit, and one that is withdrawn stands
 abbrev pub HasPlaceAmong : List RegisteredView → Addition → Type 0
-HasPlaceAmong statements (additions.Statement statement signature) = length statements < 4096
+HasPlaceAmong statements (additions.Statement statement signature) = length statements < MOST_STATEMENTS
 HasPlaceAmong statements (additions.Withdrawal number) = IsSome (live_of_number statements number)
 HasPlaceAmong statements _ = Unit {0}

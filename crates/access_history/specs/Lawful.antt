@@ -2,6 +2,7 @@
 -- own).
 use Rattle.std.specs.Prelude.{◌≡◌, ◌≤◌, ◌+◌, ◌-◌, ◌^◌, ◌≤ℤ◌, ℕ, ℤ, List, [], ◌∷◌, ◌++◌, length, Contains, None}
 use Rattle.std.specs.List.{AllByRecursion}
+use Rattle.bl_syntax.specs.declared.limits.TheConstants.{MOST_STATEMENTS}
 use Rattle.bl_rules.specs.Allowed.{Allows}
 use Rattle.bl_syntax.specs.TimeOrder.{IsMoment}
 use Rattle.bl_syntax.specs.Statement.{IsStatement}
@@ -70,7 +71,7 @@ pub record IsLawfulBase (authority : Authority) (base : BaseView) : Type 0 where
   pub statements_differ : AreDistinct (sayings base.statements)
   pub statements_formed : AllByRecursion IsStatement (sayings base.statements)
   pub statements_signed : AllByRecursion (IsSignedEntry authority) base.statements
-  pub statements_fit : length base.statements ≤ 4096
+  pub statements_fit : length base.statements ≤ MOST_STATEMENTS
   pub moment_in_range : IsMoment base.moment
   pub good_issues : AllByRecursion (IsGoodIssue (sayings base.statements)) base.issues
   pub counted : base.count ≤ 2 ^ 48 - 1

@@ -1,5 +1,6 @@
 -- What a request has to bring (this project's own).
 use Rattle.std.specs.Prelude.{◌≡◌, ◌≤◌, ℕ, List, length, IsTrue}
+use Rattle.bl_syntax.specs.declared.limits.TheConstants.{MOST_BYTES_AT_ONCE}
 use Rattle.bl_syntax.specs.Names.{is_principal_name}
 use Rattle.bl_syntax.specs.Statement.{IsStatement}
 use Rattle.procap.specs.declared.procap.Procap.{Procap}
@@ -15,7 +16,7 @@ use Rattle.access_history.specs.declared.request.StepRequest.TheVariants.{Regist
 -- write
 pub record BringsEnough (op : Op) (procaps : List Procap) : Type 0 where
   pub slots : length procaps ≡ slots op
-  pub few_bytes : bytes_to_write op ≤ 65536
+  pub few_bytes : bytes_to_write op ≤ MOST_BYTES_AT_ONCE
 
 -- a principal's operation, with what it has to bring
 pub record IsWellFormedAct (caller : List ℕ) (op : Op) (procaps : List Procap) : Type 0 where

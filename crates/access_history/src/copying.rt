@@ -1,6 +1,7 @@
 //! Copies of what a state keeps.
 
 ghost use Rattle.std.specs.Prelude.{◌≡◌, ◌≤◌, ◌<◌, ◌∷◌, ◌++◌, [], IfOk, OnOk, length};
+ghost use Rattle.bl_syntax.specs.declared.limits.TheConstants.{MOST_STATEMENTS};
 
 use crate::event::{Issue, Issues, Statements};
 use bl_syntax::{Bytes, NoMemory, Sequence, Statement, copy_bytes};
@@ -65,7 +66,7 @@ pub fn copy_issues(alloc: Global, issues: &[Issue]) -> Result<Issues, NoMemory>
 
 /// Keeps an equal statement with an equal signature, withdrawn if it was, in memory of its own. There are fewer than 4,096.
 pub fn keep_copy(alloc: Global, registry: &mut Registry, entry: &Registered) -> Result<(), NoMemory>
-    requires { length registry.old.entries < 4096 }
+    requires { length registry.old.entries < MOST_STATEMENTS }
     ensures { OnOk result (registry.new.entries ≡ registry.old.entries ++ entry.now ∷ []) }
 {
     registry.reserve()?;
@@ -76,7 +77,7 @@ pub fn keep_copy(alloc: Global, registry: &mut Registry, entry: &Registered) -> 
 /// The registry of equal statements with equal signatures, withdrawn if they were, in memory of its own. There are at most
 /// 4,096.
 pub fn registry_of(alloc: Global, entries: &[Registered]) -> Result<Registry, NoMemory>
-    requires { length entries.now ≤ 4096 }
+    requires { length entries.now ≤ MOST_STATEMENTS }
     ensures { IfOk result (λ registry. registry.entries ≡ entries.now) }
 {
     let mut registry = Registry::new(alloc);

@@ -1,6 +1,7 @@
 //! The history: a base, and the events since, each lawful where it came.
 
 ghost use Rattle.std.specs.Prelude.{◌≡◌, ◌≤◌, ◌<◌, ◌-◌, ◌^◌, ◌++◌, ◌∷◌, [], IfOk, MatchOption, OnOk, Some, length};
+ghost use Rattle.bl_syntax.specs.declared.limits.TheConstants.{MOST_STATEMENTS};
 
 use crate::base::Base;
 use crate::copying::{copy_issues, copy_statements, registry_of};
@@ -174,7 +175,7 @@ impl History {
     /// The statements that are registered, withdrawn ones too, with their signatures, by their numbers from 1.
     pub fn statements(&self) -> &[Registered]
         ensures same { result.now ≡ (state_of self.now).statements }
-        ensures few { length result.now ≤ 4096 }
+        ensures few { length result.now ≤ MOST_STATEMENTS }
     {
         self.statements.entries()
     }

@@ -1,13 +1,8 @@
 //! Moments as dates.
 
+use bl_syntax::limits::{FIRST_MOMENT, LAST_MOMENT};
 use bl_syntax::{NoMemory, TimePoint};
 use jiff::Timestamp;
-
-/// 0001-01-01T00:00:00Z, in whole seconds from 1970-01-01T00:00:00Z.
-const FIRST_MOMENT: i64 = -62_135_596_800;
-
-/// 9999-12-31T23:59:59Z.
-const LAST_MOMENT: i64 = 253_402_300_799;
 
 /// Writes a second, counted from 1970-01-01T00:00:00Z, as a date with a time of day; or as a number, if it is before the
 /// year 1 or after the year 9999.

@@ -1,7 +1,7 @@
 -- The path of a node: its names from the root down (this project's own).
 use Rattle.std.specs.Prelude.{ℕ, zero, suc, List, [], ◌∷◌, ◌++◌, ◌==◌, codes, Option, Some, None, if◌then◌else◌}
 use Rattle.std.specs.Option.{option_map}
-use Rattle.file_world.specs.Limits.{root_number}
+use Rattle.file_world.specs.Limits.{most_nodes, root_number}
 use Rattle.file_world.specs.Tree.{Place, Node, Nodes, node_at}
 use Rattle.history_table.specs.declared.places.Spot.{Spot}
 
@@ -41,7 +41,7 @@ path_text (name ∷ above) = slashed (name ∷ above)
 
 -- how many steps are gone up: more than a tree has directories above a node
 unfoldable pub most_steps : ℕ
-most_steps = 16384
+most_steps = most_nodes
 
 -- the path of the node of that number; none if there is no such node
 abbrev pub path_of : Nodes → ℕ → Option (List ℕ)

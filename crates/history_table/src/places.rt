@@ -8,17 +8,11 @@ ghost use Rattle.history_table.specs.Path.{path_of, path_text, place_at, place_i
 
 use bl_syntax::decimal::put_text;
 use bl_syntax::{Bytes, NoMemory, NodeId, Short};
-use file_world::ROOT_NUMBER;
+use file_world::{LONGEST_NAME, MOST_NODES, ROOT_NUMBER};
 use node_rows::TreeRow;
 use std::alloc::{AllocFailed, Global};
 use std::collections::BTreeMap;
 use world_state::World;
-
-/// More directories than a tree has above a node.
-const MOST_STEPS: usize = 16_384;
-
-/// The most bytes of a name.
-const NAME_BYTES: usize = 64;
 
 /// Where a node hangs: the number of its directory, and its name there.
 #[derive(Clone, Copy, Debug)]
@@ -58,7 +52,7 @@ impl Guesses {
 
     /// Guesses that the node will be in that directory under that name. A name that is too long is none.
     pub fn expect(&mut self, number: u64, directory: u64, name: &[u8]) -> Result<(), NoMemory> {
-        if name.len() > NAME_BYTES {
+        if name.len() > LONGEST_NAME {
             return Ok(());
         }
         self.put(number, directory, Short::new(name))
@@ -153,7 +147,7 @@ pub fn path_of(
 {
     let mut names = Vec::new(alloc);
     let mut at = number;
-    let mut steps = MOST_STEPS;
+    let mut steps = MOST_NODES;
     'up: while 0 < steps {
         if at == ROOT_NUMBER {
             return Ok(Some(joined(alloc, names.as_slice())?));

@@ -3,10 +3,11 @@
 -- are big-endian.
 use Rattle.std.specs.Prelude.{◌≡◌, ◌≢◌, ◌⊎◌, ℕ, ◌+◌, ◌^◌, ◌<◌, ◌≤◌, List, [], ◌∷◌, ◌++◌, length, take, drop, get_or, Option, Some, None, nat_lt, ◌==◌, if◌then◌else◌}
 use Rattle.std.specs.Int.{w32, w64, to_be_bytes, from_be_bytes}
+use Rattle.bl_syntax.specs.declared.limits.TheConstants.{MOST_AREA_BYTES}
 
 -- the greatest length of an area with its closed gate
 abbrev pub area_limit : ℕ
-area_limit = 67108864
+area_limit = MOST_AREA_BYTES
 
 -- an open gate, a length and that many bytes
 abbrev pub record_bytes : List ℕ → List ℕ

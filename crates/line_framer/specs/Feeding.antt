@@ -1,6 +1,7 @@
 -- What a piece does to a framer (this project's own).
 use Rattle.std.specs.Prelude.{◌≡◌, ◌≤◌, ℕ, List, ◌++◌, true, false, length}
 use Rattle.std.specs.List.{AllByRecursion}
+use Rattle.bl_syntax.specs.declared.limits.TheConstants.{LONGEST_LINE}
 use Rattle.line_text.specs.Lines.{lines_of}
 use Rattle.line_framer.specs.Framing.{FramerState, ended}
 use Rattle.line_framer.specs.Scanning.{HasLong}
@@ -9,7 +10,7 @@ use Rattle.line_framer.specs.declared.framer.FeedFault.TheVariants.{TooLong, NoM
 
 -- no line of these bytes is too long
 abbrev pub AreShort : List ℕ → Type 0
-AreShort bytes = AllByRecursion (λ (line : List ℕ). length line ≤ 262144) (lines_of bytes)
+AreShort bytes = AllByRecursion (λ (line : List ℕ). length line ≤ LONGEST_LINE) (lines_of bytes)
 
 -- the piece came after the bytes that were there, and no line is too long
 pub record IsFed (before : FramerState) (piece : List ℕ) (after : FramerState) : Type 0 where

@@ -1,6 +1,7 @@
 -- Bytes that come in pieces, and their lines (this project's own).
 use Rattle.std.specs.Prelude.{◌≡◌, ◌≤◌, ◌-◌, ℕ, List, [], ◌∷◌, ◌++◌, Bool, length, take}
 use Rattle.std.specs.List.{AllByRecursion}
+use Rattle.bl_syntax.specs.declared.limits.TheConstants.{LONGEST_LINE}
 use Rattle.line_text.specs.Words.{HasNo}
 
 -- lines, each with its end
@@ -16,7 +17,7 @@ pub record IsFirst (bytes line rest : List ℕ) : Type 0 where
 -- a line that is not too long
 pub record IsLine (line : List ℕ) : Type 0 where
   pub one : HasNo 10 line
-  pub few : length line ≤ 262144
+  pub few : length line ≤ LONGEST_LINE
 
 -- what was fed and belongs to no line that was taken, and whether a line after it is too long
 pub record FramerState : Type 0 where

@@ -1,6 +1,7 @@
 -- What a piece does to a line that is open, and to those after it (this project's own).
 use Rattle.std.specs.Prelude.{◌≡◌, ◌<◌, ◌≤◌, ℕ, List, [], ◌∷◌, ◌++◌, length, take}
 use Rattle.std.specs.List.{AllByRecursion}
+use Rattle.bl_syntax.specs.declared.limits.TheConstants.{LONGEST_LINE}
 use Rattle.line_text.specs.Lines.{lines_of}
 use Rattle.line_framer.specs.Framing.{IsLine, IsOpen, ended}
 use Rattle.line_framer.specs.declared.scanning.Scanned.{Scanned}
@@ -12,7 +13,7 @@ pub record HasLong (bytes : List ℕ) (before : List (List ℕ)) : Type 0 where
   pub after : List (List ℕ)
   pub lines_are : lines_of bytes ≡ before ++ long ∷ after
   pub whole : AllByRecursion IsLine before
-  pub too_long : 262144 < length long
+  pub too_long : LONGEST_LINE < length long
 
 -- after the open line and the piece, a line is too long; these bytes of the piece stand before it
 pub record IsLong (last piece : List ℕ) (whole : ℕ) : Type 0 where

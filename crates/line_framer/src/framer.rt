@@ -1,6 +1,7 @@
 //! The framer, which keeps what was fed and not taken.
 
 ghost use Rattle.std.specs.Prelude.{◌≡◌, ◌≤◌, [], ℕ, List, true, false, length, IsSome, IfSome, MatchOption, MatchResult, OnOk, OnErr};
+ghost use Rattle.bl_syntax.specs.declared.limits.TheConstants.{LONGEST_LINE};
 ghost use Rattle.line_text.specs.Words.{HasNo};
 ghost use Rattle.line_framer.specs.Framing.{IsFirst, cut_off};
 ghost use Rattle.line_framer.specs.Feeding.{IsFed, IsNotFed};
@@ -104,7 +105,7 @@ impl Framer {
     /// The next line that has its end, without it; none exactly if there is none.
     pub fn next_line(&self) -> Option<&[u8]>
         ensures line { MatchOption result (HasNo 10 self.now.left) (λ line. (rest : List ℕ) × IsFirst self.now.left line.now rest) }
-        ensures few { IfSome result (λ line. length line.now ≤ 262144) }
+        ensures few { IfSome result (λ line. length line.now ≤ LONGEST_LINE) }
     {
         if self.queue.len() == self.last_len {
             return None;
@@ -128,7 +129,7 @@ impl Framer {
     /// The last line, which has no end, if it is not empty and no line is before it.
     pub fn last_line(&self) -> Option<&[u8]>
         ensures some { IfSome result (λ line. (line.now ≡ self.now.left) × HasNo 10 line.now × (1 ≤ length line.now)) }
-        ensures few { IfSome result (λ line. length line.now ≤ 262144) }
+        ensures few { IfSome result (λ line. length line.now ≤ LONGEST_LINE) }
         ensures none { HasNo 10 self.now.left → 1 ≤ length self.now.left → IsSome result }
     {
         if self.queue.len() != self.last_len {

@@ -1,6 +1,7 @@
 //! Where the lines of a piece end, and whether one is too long.
 
 ghost use Rattle.std.specs.Prelude.{◌≡◌, ◌==◌, ◌≤◌, position, ◌+◌, ◌<◌, take, drop, length, MatchOption};
+ghost use Rattle.bl_syntax.specs.declared.limits.TheConstants.{LONGEST_LINE};
 ghost use Rattle.line_text.specs.Words.{HasNo};
 ghost use Rattle.line_framer.specs.Framing.{IsFirst};
 ghost use Rattle.line_framer.specs.Scanning.{IsScanned};
@@ -31,7 +32,7 @@ pub enum Scanned {
 
 /// Looks for a line that is too long in a piece that comes after a last line, without its end, of this many bytes.
 pub fn scan(last_len: usize, piece: &[u8]) -> Scanned
-    requires { last_len ≤ 262144 }
+    requires { last_len ≤ LONGEST_LINE }
     ensures { IsScanned last_len piece.now result }
 {
     let mut last_len = last_len;

@@ -1,6 +1,7 @@
 -- The proof of what a table of modes allows, from two of its statements (this project's own).
 use Rattle.std.specs.Prelude.{◌≡◌, ◌<◌, ◌≤◌, ◌-◌, ℤ, ℕ, List, [], ◌∷◌, length, true, Ok, Some, Option, None}
 use Rattle.std.specs.List.{slice_get}
+use Rattle.bl_syntax.specs.declared.limits.TheConstants.{MOST_STATEMENTS}
 use Rattle.bl_syntax.specs.declared.grant.Goal.{Goal}
 use Rattle.bl_syntax.specs.declared.terms.Constraint.{Constraint}
 use Rattle.bl_syntax.specs.declared.terms.NodeId.{NodeId}
@@ -49,7 +50,7 @@ pub record IsModeProof (t : TableView) (who : List ℕ) (node : NodeId) (permiss
   pub first_number : 0 < p.class_number
   pub rising : p.class_number < p.rule_number
   pub within : p.rule_number ≤ length (said_of_all t t.files)
-  pub few : length (said_of_all t t.files) ≤ 4096
+  pub few : length (said_of_all t t.files) ≤ MOST_STATEMENTS
   pub proves : (from to : ℤ) (class_said rule_said : StatementView)
       → slice_get (statements_of t (At from) (At to)) (p.class_number - 1) ≡ Some class_said
       → slice_get (statements_of t (At from) (At to)) (p.rule_number - 1) ≡ Some rule_said
@@ -64,7 +65,7 @@ StandsAt f class permission place =
 
 -- there are more statements than are given
 abbrev pub IsOver : TableView → Type 0
-IsOver t = 4096 < length (said_of_all t t.files)
+IsOver t = MOST_STATEMENTS < length (said_of_all t t.files)
 
 -- a proof is given; or the table does not allow it, or has more statements than are given
 abbrev pub GivesProof : TableView → List ℕ → NodeId → Permission → Option ModeProof → Type 0

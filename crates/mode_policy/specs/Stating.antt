@@ -1,5 +1,6 @@
 -- Statements that are added to others, as long as there are not too many (this project's own).
 use Rattle.std.specs.Prelude.{◌≡◌, ◌<◌, ◌+◌, ◌++◌, List, map, length, Result, Ok, Err}
+use Rattle.bl_syntax.specs.declared.limits.TheConstants.{MOST_STATEMENTS}
 use Rattle.bl_syntax.specs.declared.terms.TimePoint.{TimePoint}
 use Rattle.bl_syntax.specs.Formula.{FormulaView}
 use Rattle.bl_syntax.specs.Statement.{StatementView}
@@ -13,7 +14,7 @@ use Rattle.mode_policy.specs.Table.{TableView}
 abbrev pub Appends : TimePoint → TimePoint → List FormulaView → List StatementView →
     Result (Unit {0}) ModeFault → List StatementView → Type 0
 Appends from to said old (Ok u) new = new ≡ old ++ map (stated from to) said
-Appends from to said old (Err TooMany) new = 4096 < length old + length said
+Appends from to said old (Err TooMany) new = MOST_STATEMENTS < length old + length said
 Appends from to said old (Err NoMemory) new = Unit {0}
 Appends from to said old (Err (BadLine number)) new = ⊥
 Appends from to said old (Err (Twice number)) new = ⊥
@@ -22,7 +23,7 @@ Appends from to said old (Err (Twice number)) new = ⊥
 abbrev pub GivesStatements : TableView → TimePoint → TimePoint →
     Result (List StatementView) ModeFault → Type 0
 GivesStatements t from to (Ok statements) = statements ≡ statements_of t from to
-GivesStatements t from to (Err TooMany) = 4096 < length (statements_of t from to)
+GivesStatements t from to (Err TooMany) = MOST_STATEMENTS < length (statements_of t from to)
 GivesStatements t from to (Err NoMemory) = Unit {0}
 GivesStatements t from to (Err (BadLine number)) = ⊥
 GivesStatements t from to (Err (Twice number)) = ⊥

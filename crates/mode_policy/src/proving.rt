@@ -2,6 +2,7 @@
 
 ghost use Rattle.std.specs.Prelude.{◌≡◌, ◌<◌, ◌≤◌, ◌+◌, if◌then◌else◌, length, take, Some, IfOk, MatchOption, true};
 ghost use Rattle.std.specs.List.{slice_get};
+ghost use Rattle.bl_syntax.specs.declared.limits.TheConstants.{MOST_STATEMENTS};
 ghost use Rattle.proof_term.specs.Proof.{proof_view};
 ghost use Rattle.mode_policy.specs.Modes.{digit_of, permits, permitted};
 ghost use Rattle.mode_policy.specs.Proofs.{GivesProof, IsOver, StandsAt, mode_proof};
@@ -98,7 +99,7 @@ fn proof_for(alloc: Global, who: &Principal) -> Result<ProofTree, NoMemory>
 // How many statements come before those on the file of that place; none if there are more than 4,096.
 fn said_before(table: &ModeTable, place: usize) -> Option<usize>
     requires { place ≤ length table.now.files }
-    ensures { MatchOption result (IsOver table.now) (λ n. (n ≡ length (said_of_all table.now (take place table.now.files))) × (n ≤ 4096)) }
+    ensures { MatchOption result (IsOver table.now) (λ n. (n ≡ length (said_of_all table.now (take place table.now.files))) × (n ≤ MOST_STATEMENTS)) }
 {
     let principals = table.principals().len();
     let mut count = 0;

@@ -1,6 +1,7 @@
 //! The statements of a table of modes.
 
 ghost use Rattle.std.specs.Prelude.{◌≡◌, ◌≤◌, ◌++◌, ◌∷◌, [], length};
+ghost use Rattle.bl_syntax.specs.declared.limits.TheConstants.{MOST_STATEMENTS};
 ghost use Rattle.bl_syntax.specs.Formula.{formula_view};
 ghost use Rattle.bl_syntax.specs.Statement.{IsSayableFormula};
 ghost use Rattle.bl_syntax.specs.TimeOrder.{IsInRange};
@@ -29,7 +30,7 @@ impl Model for Statements {
 
     ghost view = { λ s. s.statements.items };
 
-    ghost invariant = { λ s. length s.statements.items ≤ 4096 };
+    ghost invariant = { λ s. length s.statements.items ≤ MOST_STATEMENTS };
 }
 
 impl Statements {
@@ -45,7 +46,7 @@ impl Statements {
     /// The statements in order.
     pub fn as_slice(&self) -> &[Statement]
         ensures same { result.now ≡ self.now }
-        ensures few { length self.now ≤ 4096 }
+        ensures few { length self.now ≤ MOST_STATEMENTS }
     {
         self.statements.as_slice()
     }

@@ -2,6 +2,7 @@
 -- order over the whole of it, and the first that it does not pass (this project's own).
 use Rattle.std.specs.Prelude.{◌≤◌, ◌-◌, ◌^◌, ℕ, List, [], ◌∷◌, length, Result, Ok, Err}
 use Rattle.std.specs.List.{AllByRecursion}
+use Rattle.bl_syntax.specs.declared.limits.TheConstants.{MOST_STATEMENTS}
 use Rattle.bl_syntax.specs.FirstFailing.{IsFirstFailing}
 use Rattle.bl_syntax.specs.Grant.{AreDistinct}
 use Rattle.bl_syntax.specs.TimeOrder.{IsMoment}
@@ -23,7 +24,7 @@ pub record IsBaseShaped (base : BaseView) : Type 0 where
 -- no two statements are equal, whatever their signatures, and there are at most 4,096
 pub record AreNew (entries : List RegisteredView) : Type 0 where
   pub differ : AreDistinct (sayings entries)
-  pub fit : length entries ≤ 4096
+  pub fit : length entries ≤ MOST_STATEMENTS
 
 -- the state does not have this damage: it passes the test of that name over the whole of it. What
 -- stands before the state is no part of it, and it has no operations

@@ -1,5 +1,6 @@
 -- How long the payload of an event is that may come next in a history (this project's own).
 use Rattle.std.specs.Prelude.{◌≤◌, ℕ, List, length}
+use Rattle.bl_syntax.specs.declared.limits.TheConstants.{LONGEST_MESSAGE}
 use Rattle.policy_statement.specs.Ring.{KeyView}
 use Rattle.journal_records.specs.declared.event.Event.{Event}
 use Rattle.access_history.specs.Base.{BaseView}
@@ -11,4 +12,4 @@ use Rattle.journal_records.specs.EventSpelling.{event_spelling, IsSpellableEvent
 abbrev pub PayloadsAreShort : Type 0
 PayloadsAreShort = (key : List ℕ) (ring : List KeyView) (state : BaseView) (event : Event) →
     MayFollow (authority_with key ring) state event → IsSpellableEvent event →
-    length (event_spelling event) ≤ 1048576
+    length (event_spelling event) ≤ LONGEST_MESSAGE

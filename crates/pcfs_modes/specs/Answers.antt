@@ -1,6 +1,7 @@
 -- What the table of modes in an input comes to: the status that a run of it ends with, and what it
 -- writes (this project's own).
 use Rattle.std.specs.Prelude.{◌≤◌, ◌<◌, ℕ, List, length, codes, pos, Option}
+use Rattle.bl_syntax.specs.declared.limits.TheConstants.{MOST_STATEMENTS}
 use Rattle.bl_syntax.specs.declared.terms.TimePoint.{TimePoint}
 use Rattle.bl_syntax.specs.declared.terms.TimePoint.TheVariants.{At}
 use Rattle.line_text.specs.Lines.{lines_of}
@@ -15,9 +16,9 @@ use Rattle.pcfs_modes.specs.ModesText.{fault_line, register_lines}
 -- the table has at most 4,096 statements from one time to another, and a line for each is written;
 -- or it has more
 pub data StatesTable (from to : TimePoint) (t : TableView) : ℕ → List ℕ → Type 0 where
-  stated : length (statements_of t from to) ≤ 4096 →
+  stated : length (statements_of t from to) ≤ MOST_STATEMENTS →
       StatesTable from to t 0 (register_lines (statements_of t from to))
-  too_many : 4096 < length (statements_of t from to) → StatesTable from to t 15 (fault_line TooMany)
+  too_many : MOST_STATEMENTS < length (statements_of t from to) → StatesTable from to t 15 (fault_line TooMany)
 
 -- the lines are those of a table, which comes to this; or one of them is the first that is wrong
 pub data ComesTo (from to : TimePoint) (lines : List (List ℕ)) : ℕ → List ℕ → Type 0 where

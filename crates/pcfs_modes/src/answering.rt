@@ -1,6 +1,7 @@
 //! What the table of modes in an input comes to.
 
 ghost use Rattle.std.specs.Prelude.{◌≡◌, ◌≢◌, ◌≤◌, pos, length, IfOk, OnOk};
+ghost use Rattle.bl_syntax.specs.declared.limits.TheConstants.{MOST_STATEMENTS};
 ghost use Rattle.bl_syntax.specs.TimeOrder.{IsInRange};
 ghost use Rattle.bl_syntax.specs.declared.terms.TimePoint.TheVariants.{At};
 ghost use Rattle.line_text.specs.Lines.{lines_of};
@@ -46,7 +47,7 @@ fn point_at(second: u64) -> TimePoint
 fn stated_end(alloc: Global, statements: &Statements) -> Result<ModesEnd, NoMemory>
     ensures status { IfOk result (λ end. end.status ≡ 0) }
     ensures lines { IfOk result (λ end. end.lines ≡ register_lines statements.now) }
-    ensures few { length statements.now ≤ 4096 }
+    ensures few { length statements.now ≤ MOST_STATEMENTS }
 {
     let mut lines = Bytes::new(alloc);
     put_statements(&mut lines, statements.as_slice())?;

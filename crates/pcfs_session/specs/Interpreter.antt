@@ -19,6 +19,7 @@ use Rattle.line_wire.specs.declared.reply.LineReply.TheVariants as replies
 use Rattle.pcfs_store.specs.declared.reply.StoreReply.{StoreReply}
 use Rattle.pcfs_store.specs.declared.reply.StoreReply.TheVariants as stores
 use Rattle.std.specs.Option.{option_map}
+use Rattle.bl_syntax.specs.declared.limits.TheConstants.{MOST_BYTES_AT_ONCE}
 use Rattle.pcfs_store.specs.declared.reply.CheckpointReply.{CheckpointReply}
 use Rattle.pcfs_store.specs.declared.reply.CheckpointReply.TheVariants as checkpoints
 use Rattle.pcfs_store.specs.Entries.{StoreEntry, happened}
@@ -75,4 +76,4 @@ IsAllowed (Verify goal numbers proof) = AreCitable numbers
 IsAllowed (Check goal numbers proof) = AreCitable numbers
 IsAllowed (Procap number) = Unit {0}
 IsAllowed Checkpoint = Unit {0}
-IsAllowed (Do op words) = IsOperation op × (length words ≡ slots op) × (bytes_to_write op ≤ 65536)
+IsAllowed (Do op words) = IsOperation op × (length words ≡ slots op) × (bytes_to_write op ≤ MOST_BYTES_AT_ONCE)

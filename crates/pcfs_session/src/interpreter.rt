@@ -1,6 +1,7 @@
 //! The interpreter, which answers the lines of an operator's script.
 
 ghost use Rattle.std.specs.Prelude.{◌≡◌, ◌≤◌, ◌↔◌, None, length, IfOk, OnErr, IsSome, IsTrue};
+ghost use Rattle.bl_syntax.specs.declared.limits.TheConstants.{MOST_BYTES_AT_ONCE};
 
 use crate::brought::add_procaps;
 use crate::line_replies::{reply_of_checkpoint, reply_of_store, unproved, unread};
@@ -194,7 +195,7 @@ impl<D: Disk> Interpreter<D> {
         requires lawful { IsLawfulStanding (standing_of self.old None) }
         requires operation { IsOperation op }
         requires one_each { length words.now ≡ slots op }
-        requires few_bytes { bytes_to_write op ≤ 65536 }
+        requires few_bytes { bytes_to_write op ≤ MOST_BYTES_AT_ONCE }
         ensures ok { IfOk result (λ reply. LeadsTo D.clock D.left_since D.image D.faults (IsFollowed (Do op words.now)) self.old reply self.new) }
         ensures err { OnErr result (self.new ≡ self.old) }
     {

@@ -2,6 +2,7 @@
 
 ghost use Rattle.std.specs.Prelude.{◌≡◌, ◌≢◌, ◌<◌, ◌≤◌, [], ℕ, List, None, true, false, OnOk, IfErr, IsErrOf, length};
 ghost use Rattle.std.specs.List.{AllByRecursion};
+ghost use Rattle.bl_syntax.specs.declared.limits.TheConstants.{LONGEST_LINE};
 ghost use Rattle.pcfs_ports.specs.Faults.{HasRisen, raise};
 ghost use Rattle.line_framer.specs.Framing.{ended, IsLine};
 ghost use Rattle.line_text.specs.Words.{HasNo};
@@ -75,7 +76,7 @@ fn answer_piece<D: Disk, O: Sink>(
     ensures ok { OnOk result (AnswersPiece D.clock D.left_since D.image D.faults framer.old.left
         piece.now framer.new.left interpreter.old interpreter.new (O.held output.old)
         (O.held output.new)) }
-    ensures few { OnOk result (length framer.new.left ≤ 262144) }
+    ensures few { OnOk result (length framer.new.left ≤ LONGEST_LINE) }
     ensures stays_so { OnOk result (framer.new.is_long ≡ false) }
     ensures empty { OnOk result (collected.new ≡ []) }
     ensures ends { IfErr result (PieceEnds D.clock D.left_since D.image D.faults framer.old.left

@@ -2,6 +2,7 @@
 -- nothing but speed depends on it.
 use Rattle.std.specs.Prelude.{◌≡◌, ◌≢◌, ◌<◌, ◌≤◌, ℕ, List, Bool, length, slice_index, Some}
 use Rattle.std.specs.List.Sorted.{IsNonDecreasing}
+use Rattle.bl_syntax.specs.declared.limits.TheConstants.{MOST_STATEMENTS}
 use Rattle.bl_syntax.specs.Statement.{StatementView}
 use Rattle.policy_statement.specs.Digest.{digest_of}
 use Rattle.policy_statement.specs.Registered.{RegisteredView}
@@ -26,7 +27,7 @@ HasDigests entries digests = (number : ℕ) (s : StatementView) →
 -- there are at most 4,096 entries, these are their digests in rising order, and this is whether one
 -- of them was withdrawn
 pub record IsIndexed (entries : List RegisteredView) (digests : List ℕ) (ended : Bool) : Type 0 where
-  pub few : length entries ≤ 4096
+  pub few : length entries ≤ MOST_STATEMENTS
   pub rising : IsNonDecreasing digests
   pub known : HasDigests entries digests
   pub ended_is : ended ≡ has_withdrawn entries

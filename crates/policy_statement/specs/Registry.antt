@@ -3,6 +3,7 @@
 use Rattle.std.specs.Prelude.{◌≡◌, ◌≤◌, ◌<◌, ℕ, zero, suc, List, length, Bool, true, false, Option, None, Some, Result, Ok, Err}
 use Rattle.std.specs.List.{slice_get}
 use Rattle.std.specs.Option.{option_map}
+use Rattle.bl_syntax.specs.declared.limits.TheConstants.{MOST_STATEMENTS}
 use Rattle.bl_syntax.specs.Statement.{StatementView}
 use Rattle.policy_statement.specs.declared.registry.RegisterFault.{RegisterFault}
 use Rattle.policy_statement.specs.declared.registry.RegisterFault.TheVariants.{BadSignature, Duplicate, RegistryFull, NoMemory}
@@ -22,10 +23,10 @@ IsNewStatement entries s = (number : ℕ) → statement_of_number entries number
 abbrev pub MayRegister : Bool → List RegisteredView → StatementView →
     Result (Unit {0}) RegisterFault → Type 0
 MayRegister accepted entries s (Ok done) = (accepted ≡ true) ×
-    (IsNewStatement entries s × (length entries < 4096))
+    (IsNewStatement entries s × (length entries < MOST_STATEMENTS))
 MayRegister accepted entries s (Err BadSignature) = accepted ≡ false
 MayRegister accepted entries s (Err (Duplicate number)) = (accepted ≡ true) ×
     (statement_of_number entries number ≡ Some s)
 MayRegister accepted entries s (Err RegistryFull) = (accepted ≡ true) ×
-    (IsNewStatement entries s × (4096 ≤ length entries))
+    (IsNewStatement entries s × (MOST_STATEMENTS ≤ length entries))
 MayRegister accepted entries s (Err NoMemory) = Unit {0}

@@ -2,6 +2,7 @@
 
 ghost use Rattle.std.specs.Prelude.{◌≡◌, ◌≤◌, ◌<◌, ◌+◌, ◌∷◌, ◌++◌, ◌||◌, [], true, false, IsNone, IsSome, IfSome, IsErrOf, OnOk, OnErr, Some, length};
 ghost use Rattle.std.specs.Option.{option_copied};
+ghost use Rattle.bl_syntax.specs.declared.limits.TheConstants.{MOST_STATEMENTS};
 ghost use Rattle.policy_statement.specs.Digest.{digest_of};
 ghost use Rattle.policy_statement.specs.Messages.{statement_message};
 ghost use Rattle.policy_statement.specs.Registry.{IsNewStatement, MayRegister, statement_of_number};
@@ -192,7 +193,7 @@ impl Registry {
     /// What is registered, by its numbers from 1.
     pub fn entries(&self) -> &[Registered]
         ensures same { result.now ≡ self.now.entries }
-        ensures few { length result.now ≤ 4096 }
+        ensures few { length result.now ≤ MOST_STATEMENTS }
     {
         self.entries.as_slice()
     }
@@ -245,7 +246,7 @@ impl Registry {
     /// Keeps a statement with its signature, for which there has to be room, and tells its number. It takes no memory.
     pub fn keep(&mut self, s: Statement, signature: Bytes) -> u32
         requires room { 1 ≤ self.old.spare }
-        requires few { length self.old.entries < 4096 }
+        requires few { length self.old.entries < MOST_STATEMENTS }
         ensures entries { self.new.entries ≡ self.old.entries ++ record { statement = s; signature = signature; withdrawn = false } ∷ [] }
         ensures spare { self.new.spare + 1 ≡ self.old.spare }
         ensures number { result ≡ length self.new.entries }
@@ -256,7 +257,7 @@ impl Registry {
     /// Keeps an entry, withdrawn or not, for which there has to be room, and tells its number. It takes no memory.
     pub fn keep_entry(&mut self, entry: Registered) -> u32
         requires room { 1 ≤ self.old.spare }
-        requires few { length self.old.entries < 4096 }
+        requires few { length self.old.entries < MOST_STATEMENTS }
         ensures entries { self.new.entries ≡ self.old.entries ++ entry ∷ [] }
         ensures spare { self.new.spare + 1 ≡ self.old.spare }
         ensures number { result ≡ length self.new.entries }
@@ -348,7 +349,7 @@ impl Registry {
     fn find(&self, s: &Statement) -> Option<usize>
         ensures none { IsNone result → IsNewStatement self.now.entries s.now }
         ensures some { IfSome result (λ place. statement_of_number self.now.entries (place + 1) ≡ Some s.now) }
-        ensures within { IfSome result (λ place. place < 4096) }
+        ensures within { IfSome result (λ place. place < MOST_STATEMENTS) }
     {
         let known = digest(s);
         if has_digest(self.digests.as_slice(), known) {

@@ -1,5 +1,6 @@
 -- The texts of proofs, and their first faults (this project's own).
 use Rattle.std.specs.Prelude.{◌≡◌, ℕ, List, Result, Ok, Err, if◌then◌else◌}
+use Rattle.bl_syntax.specs.declared.limits.TheConstants.{MOST_PROOF_NODES}
 use Rattle.bl_tokens.specs.declared.faults.TextFault.{TextFault}
 use Rattle.bl_tokens.specs.declared.faults.TextFault.TheVariants.{Unexpected}
 use Rattle.bl_text.specs.Texts.{is_end}
@@ -11,7 +12,7 @@ use Rattle.proof_text.specs.FirstFaults.{ProofHasFirstFault}
 
 -- the beginning of a text. A proof may have 4,096 rules
 abbrev pub beginning : ProofCursor
-beginning = cursor_at 0 4096
+beginning = cursor_at 0 MOST_PROOF_NODES
 
 -- nothing stands there but spaces
 unfoldable pub at_end : List ℕ → ProofCursor → Result (Unit {0}) TextFault

@@ -1,5 +1,6 @@
 -- How a run of the program over a proof follows the rules.
 use Rattle.std.specs.Prelude.{◌≡◌, ◌≤◌, ◌+◌, ◌*◌, ◌⊎◌, ℕ, List, [], ◌∷◌, ◌++◌, length, map, Some, Result, Ok, Err, MatchResult}
+use Rattle.bl_syntax.specs.declared.limits.TheConstants.{MOST_PROOF_NODES}
 use Rattle.bl_syntax.specs.declared.terms.Sort.{Sort}
 use Rattle.bl_syntax.specs.declared.terms.Term.{Term}
 use Rattle.bl_syntax.specs.declared.terms.Term.TheVariants.{Param}
@@ -37,7 +38,7 @@ pub record HasProofRoom (checker : Checker) (place : Position) (proof_size proof
   pub hypotheses : place.count + 2 * proof_depth ≤ 464
   pub constraints : length checker.constraints + 2 * proof_depth ≤ 400
   pub sorts : length checker.sorts + 2 * proof_depth ≤ 400
-  pub nodes : place.node + proof_size ≤ 4096
+  pub nodes : place.node + proof_size ≤ MOST_PROOF_NODES
 
 -- the sequent with statements as further claims
 abbrev pub with_claims : List StatementView → Sequent → Sequent
@@ -50,7 +51,7 @@ pub record HasRoomForClaims (checker : Checker) (place : Position) (claims : ℕ
   pub constraints : checker.constraints ≡ []
   pub sorts : checker.sorts ≡ []
   pub node : place.node ≡ 0
-  pub proof_size : size proof ≤ 4096
+  pub proof_size : size proof ≤ MOST_PROOF_NODES
   pub proof_depth : depth proof ≤ 200
 
 -- the proof was followed to its end: this is the grant, the next node has that number, and what had

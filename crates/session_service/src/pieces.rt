@@ -2,6 +2,7 @@
 
 ghost use Rattle.std.specs.Prelude.{◌≡◌, ◌≢◌, ◌≤◌, ℕ, List, true, false, OnOk, IfErr, IsErrOf, length};
 ghost use Rattle.std.specs.List.{AllByRecursion};
+ghost use Rattle.bl_syntax.specs.declared.limits.TheConstants.{LONGEST_LINE};
 ghost use Rattle.line_framer.specs.Framing.{ended, IsLine};
 ghost use Rattle.line_text.specs.Words.{HasNo};
 ghost use Rattle.pcfs_ports.specs.Faults.{HasRisen, raise};
@@ -79,7 +80,7 @@ pub fn speak_piece<R: Wait, D: Disk, C: TurnClock, K: Checker, O: Sink>(
     ensures ok { OnOk result (SpeaksPiece D.faults (C.gives clock.now) nonce.now framer.old.left
         piece.now framer.new.left caller.old pass.old pass.new caller.new (O.held output.old)
         (O.held output.new)) }
-    ensures few { OnOk result (length framer.new.left ≤ 262144) }
+    ensures few { OnOk result (length framer.new.left ≤ LONGEST_LINE) }
     ensures stays_so { OnOk result (framer.new.is_long ≡ false) }
     ensures ends { IfErr result (EndsAtPiece D.faults (C.gives clock.now) nonce.now framer.old.left
         piece.now caller.old pass.old pass.new caller.new (O.held output.old) (O.held output.new)) }
