@@ -1,8 +1,8 @@
 -- Which histories are lawful: each event is one that the state before it allows (this project's
 -- own).
-use Rattle.std.specs.Prelude.{◌≡◌, ◌≤◌, ◌+◌, ◌-◌, ◌^◌, ◌≤ℤ◌, ℕ, ℤ, List, [], ◌∷◌, ◌++◌, length, Contains, None}
+use Rattle.std.specs.Prelude.{◌≡◌, ◌≤◌, ◌+◌, ◌≤ℤ◌, ℕ, ℤ, List, [], ◌∷◌, ◌++◌, length, Contains, None}
 use Rattle.std.specs.List.{AllByRecursion}
-use Rattle.bl_syntax.specs.declared.limits.TheConstants.{MOST_STATEMENTS}
+use Rattle.bl_syntax.specs.declared.limits.TheConstants.{MOST_STATEMENTS, MOST_EVENTS}
 use Rattle.bl_rules.specs.Allowed.{Allows}
 use Rattle.bl_syntax.specs.TimeOrder.{IsMoment}
 use Rattle.bl_syntax.specs.Statement.{IsStatement}
@@ -74,10 +74,10 @@ pub record IsLawfulBase (authority : Authority) (base : BaseView) : Type 0 where
   pub statements_fit : length base.statements ≤ MOST_STATEMENTS
   pub moment_in_range : IsMoment base.moment
   pub good_issues : AllByRecursion (IsGoodIssue (sayings base.statements)) base.issues
-  pub counted : base.count ≤ 2 ^ 48 - 1
+  pub counted : base.count ≤ MOST_EVENTS
 
 -- a lawful base, and events that could each come where it came, under that authority
 pub record IsLawful (authority : Authority) (base : BaseView) (events : List Event) : Type 0 where
   pub lawful_base : IsLawfulBase authority base
-  pub counted : base.count + length events ≤ 2 ^ 48 - 1
+  pub counted : base.count + length events ≤ MOST_EVENTS
   pub each : AreLawful authority base events

@@ -1,7 +1,7 @@
 //! The history: a base, and the events since, each lawful where it came.
 
-ghost use Rattle.std.specs.Prelude.{◌≡◌, ◌≤◌, ◌<◌, ◌-◌, ◌^◌, ◌++◌, ◌∷◌, [], IfOk, MatchOption, OnOk, Some, length};
-ghost use Rattle.bl_syntax.specs.declared.limits.TheConstants.{MOST_STATEMENTS};
+ghost use Rattle.std.specs.Prelude.{◌≡◌, ◌≤◌, ◌<◌, ◌-◌, ◌++◌, ◌∷◌, [], IfOk, MatchOption, OnOk, Some, length};
+ghost use Rattle.bl_syntax.specs.declared.limits.TheConstants.{MOST_STATEMENTS, MOST_EVENTS};
 
 use crate::base::Base;
 use crate::copying::{copy_issues, copy_statements, registry_of};
@@ -312,7 +312,7 @@ impl History {
         requires lawful { MayFollow (authority_of self.old) (state_of self.old) event }
         requires addition { addition ≡ addition_of event }
         requires ready { IsReadyFor self.old event }
-        requires counted { (state_of self.old).count < 2 ^ 48 - 1 }
+        requires counted { (state_of self.old).count < MOST_EVENTS }
         ensures key { self.new.key ≡ self.old.key }
         ensures ring { self.new.ring ≡ self.old.ring }
         ensures base { self.new.base ≡ self.old.base }

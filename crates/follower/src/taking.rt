@@ -1,6 +1,7 @@
 //! What a follower does with an event that is delivered.
 
-ghost use Rattle.std.specs.Prelude.{◌≡◌, ◌≢◌, ◌<◌, ◌≤◌, ◌-◌, ◌^◌, ℕ, List, None, Some, length, is_some};
+ghost use Rattle.std.specs.Prelude.{◌≡◌, ◌≢◌, ◌<◌, ◌≤◌, ℕ, List, None, Some, length, is_some};
+ghost use Rattle.bl_syntax.specs.declared.limits.TheConstants.{MOST_EVENTS};
 ghost use Rattle.pcfs_ports.specs.Disk.{IsPinned};
 ghost use Rattle.pcfs_store.specs.StoreView.{first_disk, second_disk};
 ghost use Rattle.pcfs_store.specs.Ready.{IsReady, IsCurrent, Keeps, StopsLeave, StopsNow, SurvivesStop};
@@ -59,7 +60,7 @@ fn unread(fault: CodecFault) -> Taken
 // The number of the last event.
 fn last_number<D: Disk>(store: &Store<D>) -> u64
     ensures value { result ≡ last_number store.now }
-    ensures few { result ≤ 2 ^ 48 - 1 }
+    ensures few { result ≤ MOST_EVENTS }
 {
     let history = store.gate().history();
     history.lemma_is_lawful();

@@ -15,6 +15,9 @@ use bl_syntax::limits::{MOST_AREA_BYTES, MOST_EVENTS};
 use bl_syntax::{Bytes, NoMemory, Sequence};
 use std::alloc::Global;
 
+// MOST_AREA_BYTES as a length.
+const LIMIT: usize = MOST_AREA_BYTES as usize;
+
 // The number of four bytes from `at` on.
 fn length_at(bytes: &[u8], at: usize) -> u32
     requires { at + 4 ≤ length bytes.now }
@@ -53,7 +56,7 @@ fn find_record(bytes: &[u8], gate: usize) -> Option<usize>
         return None;
     }
     let end = gate + 5 + length_at(bytes, gate + 1) as usize;
-    if MOST_AREA_BYTES <= end as u64 || bytes.len() < end {
+    if LIMIT <= end || bytes.len() < end {
         return None;
     }
     Some(end)

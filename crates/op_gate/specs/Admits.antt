@@ -1,5 +1,6 @@
 -- What the gate finds of an event that was read, kind by kind (this project's own).
-use Rattle.std.specs.Prelude.{◌≡◌, ◌≤◌, ◌-◌, ◌^◌, ◌≤ℤ◌, ℕ, ℤ, List, Result, Ok, Err}
+use Rattle.std.specs.Prelude.{◌≡◌, ◌≤◌, ◌≤ℤ◌, ℕ, ℤ, List, Result, Ok, Err}
+use Rattle.bl_syntax.specs.declared.limits.TheConstants.{MOST_EVENTS}
 use Rattle.bl_syntax.specs.TimeOrder.{IsMoment}
 use Rattle.procap.specs.declared.procap.Procap.{Procap}
 use Rattle.file_world.specs.declared.operation.Op.{Op}
@@ -106,7 +107,7 @@ FindsCited book numbers (Err NoMemory) = Unit {0}
 
 -- there is no number for one more event, or there was no memory
 abbrev pub LacksNext : BaseView → AdmitFault → Type 0
-LacksNext state (Damaged damage) = (damage ≡ Shape) × (2 ^ 48 - 1 ≤ state.count)
+LacksNext state (Damaged damage) = (damage ≡ Shape) × (MOST_EVENTS ≤ state.count)
 LacksNext state NoMemory = Unit {0}
 
 -- the damage of a statement that the registry does not take

@@ -1,8 +1,8 @@
 -- The damage of a state with which a history is to begin: the tests that it has to pass, in their
 -- order over the whole of it, and the first that it does not pass (this project's own).
-use Rattle.std.specs.Prelude.{◌≤◌, ◌-◌, ◌^◌, ℕ, List, [], ◌∷◌, length, Result, Ok, Err}
+use Rattle.std.specs.Prelude.{◌≤◌, ℕ, List, [], ◌∷◌, length, Result, Ok, Err}
 use Rattle.std.specs.List.{AllByRecursion}
-use Rattle.bl_syntax.specs.declared.limits.TheConstants.{MOST_STATEMENTS}
+use Rattle.bl_syntax.specs.declared.limits.TheConstants.{MOST_STATEMENTS, MOST_EVENTS}
 use Rattle.bl_syntax.specs.FirstFailing.{IsFirstFailing}
 use Rattle.bl_syntax.specs.Grant.{AreDistinct}
 use Rattle.bl_syntax.specs.TimeOrder.{IsMoment}
@@ -19,7 +19,7 @@ use Rattle.op_gate.specs.declared.damage.AdmitFault.TheVariants.{Damaged, NoMemo
 -- its moment lies in the range of moments, and the number of its last event is at most 2^48 - 1
 pub record IsBaseShaped (base : BaseView) : Type 0 where
   pub moment_in_range : IsMoment base.moment
-  pub counted : base.count ≤ 2 ^ 48 - 1
+  pub counted : base.count ≤ MOST_EVENTS
 
 -- no two statements are equal, whatever their signatures, and there are at most 4,096
 pub record AreNew (entries : List RegisteredView) : Type 0 where

@@ -1,6 +1,7 @@
 -- The damage of an event that was read from an area: the tests that it has to pass to come next, in
 -- their order, and the first that it does not pass (this project's own).
-use Rattle.std.specs.Prelude.{◌≡◌, ◌<◌, ◌-◌, ◌^◌, ◌≤ℤ◌, ℕ, ℤ, List, [], ◌∷◌, Some, None, Result, Ok, Err}
+use Rattle.std.specs.Prelude.{◌≡◌, ◌<◌, ◌≤ℤ◌, ℕ, ℤ, List, [], ◌∷◌, Some, None, Result, Ok, Err}
+use Rattle.bl_syntax.specs.declared.limits.TheConstants.{MOST_EVENTS}
 use Rattle.bl_syntax.specs.FirstFailing.{IsFirstFailing}
 use Rattle.procap.specs.declared.procap.Procap.{Procap}
 use Rattle.file_world.specs.declared.operation.Op.{Op}
@@ -32,7 +33,7 @@ NamesLive state _ = Unit {0}
 -- there is a number for one more event, at most 2^48 - 1, the event's moment lies in the range of
 -- moments, and the statement that it withdraws stands
 pub record HasShape (state : BaseView) (event : Event) : Type 0 where
-  pub counted : state.count < 2 ^ 48 - 1
+  pub counted : state.count < MOST_EVENTS
   pub in_range : HasMomentInRange event
   pub live : NamesLive state event
 
@@ -100,7 +101,7 @@ pub record IsDamagedBy (authority : Authority) (state : BaseView) (event : Event
 
 -- the event may come next, and there is a number for it
 pub record MayComeNext (authority : Authority) (state : BaseView) (event : Event) : Type 0 where
-  pub counted : state.count < 2 ^ 48 - 1
+  pub counted : state.count < MOST_EVENTS
   pub follows : MayFollow authority state event
 
 -- what is answered to an event that was read: it may come next, or it has this first damage, or

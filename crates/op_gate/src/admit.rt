@@ -1,6 +1,7 @@
 //! Events that were read from an area: each is tested as if it came now, at its own moment.
 
-ghost use Rattle.std.specs.Prelude.{◌≡◌, ◌↔◌, ◌<◌, ◌-◌, ◌^◌, ◌≤◌, ℕ, List, IfErr, IfOk, IsTrue, MatchOption, OnOk};
+ghost use Rattle.std.specs.Prelude.{◌≡◌, ◌↔◌, ◌<◌, ◌≤◌, ℕ, List, IfErr, IfOk, IsTrue, MatchOption, OnOk};
+ghost use Rattle.bl_syntax.specs.declared.limits.TheConstants.{MOST_EVENTS};
 ghost use Rattle.journal_records.specs.declared.event.Event.TheVariants as events;
 ghost use Rattle.bl_syntax.specs.Grant.{MayName};
 ghost use Rattle.proof_verifier.specs.Cited.{AreCited};
@@ -65,7 +66,7 @@ fn admit_registered(
     statement: Statement,
     signature: Bytes,
 ) -> Result<Pending, AdmitFault>
-    requires { (state_of history.now).count < 2 ^ 48 - 1 }
+    requires { (state_of history.now).count < MOST_EVENTS }
     ensures { GivesPending history.now history.now (events.Registered pass statement signature) result }
 {
     let _from = statement.from();
@@ -95,7 +96,7 @@ fn admit_withdrawn(
     number: u32,
     signature: Bytes,
 ) -> Result<Pending, AdmitFault>
-    requires { (state_of history.now).count < 2 ^ 48 - 1 }
+    requires { (state_of history.now).count < MOST_EVENTS }
     ensures { GivesPending history.now history.now (events.Withdrawn pass number signature) result }
 {
     let registry = history.registry();
@@ -209,7 +210,7 @@ fn admit_issued(
     proof: ProofTree,
     grant: &Grant,
 ) -> Result<Pending, AdmitFault>
-    requires { (state_of history.now).count < 2 ^ 48 - 1 }
+    requires { (state_of history.now).count < MOST_EVENTS }
     ensures { GivesPending history.now history.now (events.Issued pass cited.now proof grant.now) result }
 {
     match find_cited(alloc, history.statements(), Among::Live, cited.as_slice()) {
@@ -221,7 +222,7 @@ fn admit_issued(
 // The damage of an operation before it is decided: its moment is outside the range or before the last one, or it does not
 // bring what it has to.
 fn early_damage(history: &History, op: &Op, procaps: &[Procap], moment: i64) -> Option<Damage>
-    requires { (state_of history.now).count < 2 ^ 48 - 1 }
+    requires { (state_of history.now).count < MOST_EVENTS }
     ensures { (pass : ℕ) (caller : List ℕ) →
         MatchOption result (IsTimely (state_of history.now) op.now procaps.now moment)
         (IsDamagedBy (authority_of history.now) (state_of history.now)
@@ -249,7 +250,7 @@ fn admit_timely(
     procaps: Procaps,
     moment: i64,
 ) -> Result<Pending, AdmitFault>
-    requires counted { (state_of history.old).count < 2 ^ 48 - 1 }
+    requires counted { (state_of history.old).count < MOST_EVENTS }
     requires timely { IsTimely (state_of history.old) op procaps moment }
     ensures same { history.new ≡ record history.old { ready = history.new.ready } }
     ensures pending { GivesPending history.old history.new (events.Acted pass caller op procaps moment) result }
@@ -273,7 +274,7 @@ fn admit_acted(
     procaps: Procaps,
     moment: i64,
 ) -> Result<Pending, AdmitFault>
-    requires { (state_of history.old).count < 2 ^ 48 - 1 }
+    requires { (state_of history.old).count < MOST_EVENTS }
     ensures same { history.new ≡ record history.old { ready = history.new.ready } }
     ensures pending { GivesPending history.old history.new (events.Acted pass caller op procaps moment) result }
 {
@@ -290,7 +291,7 @@ pub fn reserve_next(history: &mut History) -> Result<(), AdmitFault>
     ensures base { history.new.base ≡ history.old.base }
     ensures events { history.new.events ≡ history.old.events }
     ensures room { OnOk result (1 ≤ history.new.room) }
-    ensures counted { OnOk result ((state_of history.old).count < 2 ^ 48 - 1) }
+    ensures counted { OnOk result ((state_of history.old).count < MOST_EVENTS) }
     ensures err { IfErr result (LacksNext (state_of history.old)) }
 {
     if MOST_EVENTS <= history.count() {
@@ -305,7 +306,7 @@ pub fn reserve_next(history: &mut History) -> Result<(), AdmitFault>
 /// Tests an event as if it came now, an operation at its own moment, and takes all memory for it: the event with what the
 /// state keeps of it, or its first damage. Nothing is kept.
 pub fn admit(alloc: Global, history: &mut History, event: Event) -> Result<Pending, AdmitFault>
-    requires { (state_of history.old).count < 2 ^ 48 - 1 }
+    requires { (state_of history.old).count < MOST_EVENTS }
     ensures same { history.new ≡ record history.old { ready = history.new.ready } }
     ensures pending { GivesPending history.old history.new event result }
 {

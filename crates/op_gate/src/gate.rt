@@ -1,6 +1,7 @@
 //! The gate: what may happen is decided, and what was decided is kept.
 
-ghost use Rattle.std.specs.Prelude.{◌≡◌, ◌<◌, ◌-◌, ◌^◌, ◌++◌, ◌∷◌, [], Some, None, IfOk, IfSome, IsSome, MatchOption, OnOk, OnErr, MatchResult, length};
+ghost use Rattle.std.specs.Prelude.{◌≡◌, ◌<◌, ◌++◌, ◌∷◌, [], Some, None, IfOk, IfSome, IsSome, MatchOption, OnOk, OnErr, MatchResult, length};
+ghost use Rattle.bl_syntax.specs.declared.limits.TheConstants.{MOST_EVENTS};
 ghost use Rattle.op_gate.specs.Decision.{IsPlanned};
 ghost use Rattle.access_history.specs.WellFormed.{IsWellFormed};
 ghost use Rattle.journal_records.specs.EventSpelling.{HasFittingFields};
@@ -304,7 +305,7 @@ impl Gate {
     /// Keeps the pending event. It takes no memory.
     pub fn commit(&mut self)
         requires pending { IsSome self.old.pending }
-        requires counted { (replay self.old.base self.old.events).count < 2 ^ 48 - 1 }
+        requires counted { (replay self.old.base self.old.events).count < MOST_EVENTS }
         ensures kept { IfSome self.old.pending (λ event. self.new ≡ record self.old { events = self.old.events ++ event ∷ []; pending = None }) }
     {
         if let Some(recorded) = self.pending.take() {

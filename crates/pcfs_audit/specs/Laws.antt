@@ -1,7 +1,8 @@
 -- Laws of reports: a history has at most one; on a lawful history it has no wrong row; and a
 -- history whose report has none is lawful.
-use Rattle.std.specs.Prelude.{◌≡◌, ◌↔◌, ◌≤◌, ◌+◌, ◌-◌, ◌^◌, List, length, Contains, Ok}
+use Rattle.std.specs.Prelude.{◌≡◌, ◌↔◌, ◌≤◌, ◌+◌, List, length, Contains, Ok}
 use Rattle.std.specs.List.{AllByRecursion}
+use Rattle.bl_syntax.specs.declared.limits.TheConstants.{MOST_EVENTS}
 use Rattle.bl_syntax.specs.Grant.{GrantView}
 use Rattle.bl_syntax.specs.Statement.{StatementView, IsStatement}
 use Rattle.proof_term.specs.Limits.{IsKeptProof}
@@ -39,7 +40,7 @@ LawfulHaveUnissuedRowsOnly = (authority : Authority) (base : BaseView) (events :
 -- over a lawful base, a history whose report has no wrong row is lawful
 abbrev pub RightHistoriesAreLawful : Type 0
 RightHistoriesAreLawful = (authority : Authority) (base : BaseView) (events : List Event) (report : Report)
-    → IsLawfulBase authority base → base.count + length events ≤ 2 ^ 48 - 1
+    → IsLawfulBase authority base → base.count + length events ≤ MOST_EVENTS
     → AllByRecursion IsTypedEvent events
     → IsReport authority base events report → HasUnissuedRowsOnly report
     → IsLawful authority base events

@@ -1,6 +1,7 @@
 //! The audit of a history.
 
-ghost use Rattle.std.specs.Prelude.{◌≡◌, ◌≤◌, ◌+◌, ◌-◌, ◌^◌, ℕ, List, Bool, IfOk, length};
+ghost use Rattle.std.specs.Prelude.{◌≡◌, ◌≤◌, ◌+◌, ℕ, List, Bool, IfOk, length};
+ghost use Rattle.bl_syntax.specs.declared.limits.TheConstants.{MOST_EVENTS};
 ghost use Rattle.pcfs_audit.specs.Credentials.{AreCredentials};
 ghost use Rattle.pcfs_audit.specs.Dossier.{IsDossier};
 ghost use Rattle.pcfs_audit.specs.Report.{AreRows, IsReport, authority_by};
@@ -27,7 +28,7 @@ fn report_rows(
     all: &[Credentials],
 ) -> Result<ReportRows, NoMemory>
     requires dossier { IsDossier dossier.now }
-    requires counted { dossier.now.base.now.count + length dossier.now.events.now ≤ 2 ^ 48 - 1 }
+    requires counted { dossier.now.base.now.count + length dossier.now.events.now ≤ MOST_EVENTS }
     requires all { length all.now ≡ length dossier.now.events.now }
     ensures { IfOk result (λ rows. (accepts : List ℕ → List ℕ → List ℕ → Bool) →
         AreCredentials (authority_by dossier.now.key accepts) dossier.now.base.now
@@ -51,7 +52,7 @@ fn report_rows(
 // The report on a history whose events have these credentials.
 fn report_on(alloc: Global, dossier: &Dossier, all: &[Credentials]) -> Result<Report, NoMemory>
     requires dossier { IsDossier dossier.now }
-    requires counted { dossier.now.base.now.count + length dossier.now.events.now ≤ 2 ^ 48 - 1 }
+    requires counted { dossier.now.base.now.count + length dossier.now.events.now ≤ MOST_EVENTS }
     requires all { length all.now ≡ length dossier.now.events.now }
     ensures { IfOk result (λ report. (accepts : List ℕ → List ℕ → List ℕ → Bool) →
         AreCredentials (authority_by dossier.now.key accepts) dossier.now.base.now
@@ -77,7 +78,7 @@ pub fn audit<S: Signatures>(
     key: &[u8],
     ring: &S,
 ) -> Result<Report, NoMemory>
-    requires { base.now.count + length events.now ≤ 2 ^ 48 - 1 }
+    requires { base.now.count + length events.now ≤ MOST_EVENTS }
     ensures { IfOk result (IsReport (authority_by key.now (S.Signatures.accepted ring.now)) base.now events.now) }
 {
     let key = SealKey::new(key);
@@ -107,7 +108,7 @@ pub fn audit_pieces<R: Threads + Sync, S: Signatures + Sync>(
     ring: &S,
     pieces: usize,
 ) -> Result<Report, NoMemory>
-    requires counted { base.now.count + length events.now ≤ 2 ^ 48 - 1 }
+    requires counted { base.now.count + length events.now ≤ MOST_EVENTS }
     requires some { 1 ≤ pieces }
     ensures { IfOk result (IsReport (authority_by key.now (S.Signatures.accepted ring.now)) base.now events.now) }
 {

@@ -1,6 +1,7 @@
 //! The auditor: it follows the events in order, over a world of its own, up to the first with which something is wrong.
 
-ghost use Rattle.std.specs.Prelude.{◌≡◌, ◌<◌, ◌+◌, ◌-◌, ◌^◌, [], ℕ, false, IfOk, IsTrue, OnOk, Some, None};
+ghost use Rattle.std.specs.Prelude.{◌≡◌, ◌<◌, ◌+◌, [], ℕ, false, IfOk, IsTrue, OnOk, Some, None};
+ghost use Rattle.bl_syntax.specs.declared.limits.TheConstants.{MOST_EVENTS};
 ghost use Rattle.journal_records.specs.declared.event.Event.TheVariants as events;
 ghost use Rattle.access_history.specs.Authority.{Authority};
 ghost use Rattle.pcfs_audit.specs.Dossier.{IsDossier};
@@ -141,7 +142,7 @@ impl Auditor {
         event: &Event,
     ) -> Result<bool, NoMemory>
         requires dossier { IsDossier dossier.now }
-        requires counted { self.old.count < 2 ^ 48 - 1 }
+        requires counted { self.old.count < MOST_EVENTS }
         ensures audits { IfOk result (λ goes_on. AuditsWith dossier.now supports.now credentials event.now goes_on self.old self.new) }
         ensures count { OnOk result (self.new.count ≡ self.old.count + 1) }
     {

@@ -1,7 +1,8 @@
 -- The run of a script: its lines in order, each answered over the state that the lines before it
 -- left (this project's own).
-use Rattle.std.specs.Prelude.{◌≡◌, ◌≢◌, ◌⊎◌, ◌+◌, ◌-◌, ◌^◌, ◌<◌, ◌≤◌, length, ℕ, List, [], ◌∷◌, ◌++◌, Option, Some, None}
+use Rattle.std.specs.Prelude.{◌≡◌, ◌≢◌, ◌⊎◌, ◌+◌, ◌<◌, ◌≤◌, length, ℕ, List, [], ◌∷◌, ◌++◌, Option, Some, None}
 use Rattle.std.specs.List.{AllByRecursion}
+use Rattle.bl_syntax.specs.declared.limits.TheConstants.{MOST_EVENTS}
 use Rattle.journal_records.specs.declared.event.Event.{Event}
 use Rattle.access_history.specs.Base.{BaseView}
 use Rattle.access_history.specs.Lawful.{IsLawful}
@@ -51,7 +52,7 @@ pub record IsLawfulStanding (s : ScriptState) : Type 0 where
 abbrev pub IsFullIn : ScriptState → StoreEntry → Type 0
 IsFullIn s (happened event) = IsFull s.used (state_of_standing s).count event
 IsFullIn s (checkpointed pass) = (area_limit < length (image_spelling (state_of_standing s)) + 25) ⊎
-    (2 ^ 48 - 1 ≤ s.generation)
+    (MOST_EVENTS ≤ s.generation)
 IsFullIn s (stop_mark pass met) = ⊥
 
 -- what is to be added has room here, if there is something

@@ -1,5 +1,6 @@
 -- What a checkpoint of a store answers and keeps. This project's own.
-use Rattle.std.specs.Prelude.{◌≡◌, ◌≢◌, ◌⊎◌, ℕ, zero, suc, Bool, ◌+◌, ◌-◌, ◌^◌, ◌<◌, ◌≤◌, List, [], ◌∷◌, ◌++◌, length, not, is_some, Option, Some, None}
+use Rattle.std.specs.Prelude.{◌≡◌, ◌≢◌, ◌⊎◌, ℕ, zero, suc, Bool, ◌+◌, ◌<◌, ◌≤◌, List, [], ◌∷◌, ◌++◌, length, not, is_some, Option, Some, None}
+use Rattle.bl_syntax.specs.declared.limits.TheConstants.{MOST_EVENTS}
 use Rattle.pcfs_ports.specs.Faults.{HasRisen}
 use Rattle.pcfs_ports.specs.Disk.{IsPinned}
 use Rattle.journal_core.specs.Area.{area_limit, area_bytes, Closed}
@@ -16,7 +17,7 @@ use Rattle.pcfs_store.specs.Ready.{SurvivesWithOrWithout, IsReady, IsCurrent, Ke
 -- the image of the state does not fit with a closed gate after it, or there is no next generation
 abbrev pub IsFullForCheckpoint : {D : Type 0} → StoreView D → Type 0
 IsFullForCheckpoint s = (area_limit < length (image_spelling (state_of_store s)) + 25) ⊎
-    (2 ^ 48 - 1 ≤ s.generation)
+    (MOST_EVENTS ≤ s.generation)
 
 -- the store after a checkpoint: the disks have changed their places, and the one that was the other
 -- has an area of the next generation, with the image of the state and no records

@@ -1,7 +1,8 @@
 -- Histories in the bytes of an area, and what an opening finds of a history that was kept. This
 -- project's own.
-use Rattle.std.specs.Prelude.{◌≡◌, ◌⊎◌, ℕ, ◌+◌, ◌-◌, ◌^◌, ◌<◌, ◌≤◌, List, length, take, drop, map}
+use Rattle.std.specs.Prelude.{◌≡◌, ◌⊎◌, ℕ, ◌+◌, ◌<◌, ◌≤◌, List, length, take, drop, map}
 use Rattle.std.specs.List.{AllByRecursion}
+use Rattle.bl_syntax.specs.declared.limits.TheConstants.{MOST_EVENTS}
 use Rattle.journal_core.specs.Area.{area_limit, area_bytes, IsArea}
 use Rattle.journal_records.specs.declared.event.Event.{Event}
 use Rattle.access_history.specs.Base.{BaseView}
@@ -48,4 +49,4 @@ pub record Resumes (found_base : BaseView) (found : List Event) (base : BaseView
 -- gate the area would pass its limit, or the event has no number left.
 abbrev pub IsFull : ℕ → ℕ → Event → Type 0
 IsFull used count event = (area_limit < used + length (event_spelling event) + 6) ⊎
-    (2 ^ 48 - 1 ≤ count)
+    (MOST_EVENTS ≤ count)

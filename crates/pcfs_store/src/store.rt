@@ -1,6 +1,7 @@
 //! The store.
 
-ghost use Rattle.std.specs.Prelude.{◌≡◌, ◌≢◌, ◌↔◌, ◌<◌, ◌≤◌, ◌-◌, ◌^◌, [], Some, None, IsSome, IsTrue, length, is_some};
+ghost use Rattle.std.specs.Prelude.{◌≡◌, ◌≢◌, ◌↔◌, ◌<◌, ◌≤◌, [], Some, None, IsSome, IsTrue, length, is_some};
+ghost use Rattle.bl_syntax.specs.declared.limits.TheConstants.{MOST_EVENTS};
 ghost use Rattle.journal_core.specs.Area.{area_bytes, IsGeneration};
 ghost use Rattle.checkpoint.specs.Writing.{IsWrittenImageOf};
 ghost use Rattle.pcfs_store.specs.Image.{IsImageOf};
@@ -340,7 +341,7 @@ impl<D: Disk> Store<D> {
     // Makes a checkpoint with the image of the state.
     fn place_image(&mut self, alloc: Global, pass: u64, image: &[u8]) -> CheckpointReply
         requires running { self.old.stop ≡ None }
-        requires numbered { self.old.generation < 2 ^ 48 - 1 }
+        requires numbered { self.old.generation < MOST_EVENTS }
         requires image { IsWrittenImageOf (state_of_store self.old) image.now }
         ensures { Checkpoints D.clock D.left_since D.image D.faults self.old pass result self.new }
     {

@@ -1,8 +1,9 @@
 -- How a run of the program ends: its status, what it took, what it wrote, and what it leaves on its
 -- disks. If a port does not tell its bytes, nothing is said of them (this project's own).
-use Rattle.std.specs.Prelude.{◌≡◌, ◌⊎◌, ◌<◌, ◌≤◌, ◌+◌, ◌-◌, ◌^◌, ℕ, List, [], ◌++◌, String, codes, length, drop, Bool, Option, Some, None, IfSome}
+use Rattle.std.specs.Prelude.{◌≡◌, ◌⊎◌, ◌<◌, ◌≤◌, ◌+◌, ℕ, List, [], ◌++◌, String, codes, length, drop, Bool, Option, Some, None, IfSome}
 use Rattle.std.specs.Fmt.{decimal}
 use Rattle.std.specs.declared.alloc.Global.{Global}
+use Rattle.bl_syntax.specs.declared.limits.TheConstants.{MOST_EVENTS}
 use Rattle.pcfs_ports.specs.Faults.{HasRisen}
 use Rattle.pcfs_ports.specs.Observable.{with_back, HoldsSome}
 use Rattle.journal_core.specs.Area.{IsShut, Closed, area_bytes, area_limit, generation_of}
@@ -142,7 +143,7 @@ pub record IsNewestImage (generation : ℕ) (state : BaseView) (x y : List ℕ) 
 -- generation
 abbrev pub HasNoNextArea : ℕ → BaseView → Type 0
 HasNoNextArea generation state = (area_limit < length (image_spelling state) + 25) ⊎
-    (2 ^ 48 - 1 ≤ generation)
+    (MOST_EVENTS ≤ generation)
 
 -- the bytes of the disk whose area counted are as they were
 abbrev pub NewestStays : Disks → Disks → Type 0

@@ -1,6 +1,6 @@
 -- One turn at a store: what it replies that finds these entries, and which entries it adds at their
 -- end (this project's own).
-use Rattle.std.specs.Prelude.{◌≡◌, ◌⊎◌, ℕ, ℤ, ◌+◌, ◌-◌, ◌^◌, ◌<◌, ◌≤◌, List, [], ◌∷◌, ◌++◌, length, true, false, Option, Some, None}
+use Rattle.std.specs.Prelude.{◌≡◌, ◌⊎◌, ℕ, ℤ, ◌+◌, ◌<◌, ◌≤◌, List, [], ◌∷◌, ◌++◌, length, true, false, Option, Some, None}
 use Rattle.bl_syntax.specs.Citable.{AreCitable}
 use Rattle.policy_statement.specs.Messages.{login_message}
 use Rattle.policy_statement.specs.Ring.{is_accepted}
@@ -22,6 +22,7 @@ use Rattle.pcfs_store.specs.Entries.{Root, StoreEntry, happened, checkpointed, s
 use Rattle.checkpoint_image.specs.ImageSpelling.{image_spelling}
 use Rattle.journal_core.specs.Area.{area_limit}
 use Rattle.std.specs.Option.{option_map}
+use Rattle.bl_syntax.specs.declared.limits.TheConstants.{MOST_EVENTS}
 use Rattle.session_history.specs.Passes.{has_stop}
 use Rattle.session_history.specs.declared.request.TurnRequest.{TurnRequest}
 use Rattle.session_history.specs.declared.request.TurnRequest.TheVariants as requests
@@ -64,7 +65,7 @@ pub data AnswersTurn (root : Root) (state : BaseView) (pass : ℕ) (clock : ℤ)
 abbrev pub IsFullAfter : Root → List StoreEntry → StoreEntry → Type 0
 IsFullAfter root before (happened event) = IsFull (used_by root before) (state_of_entries root before).count event
 IsFullAfter root before (checkpointed pass) = (area_limit < length (image_spelling (state_of_entries root before)) + 25) ⊎
-    (2 ^ 48 - 1 ≤ root.generation + checkpoints_among before)
+    (MOST_EVENTS ≤ root.generation + checkpoints_among before)
 IsFullAfter root before (stopped pass met) = ⊥
 
 -- the event that an entry has, if it has one
