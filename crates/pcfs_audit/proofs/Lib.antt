@@ -1,5 +1,6 @@
 pub mod CitesLemmas
 pub mod CredentialLemmas
+pub mod DecodingLemmas
 pub mod EndsLemmas
 pub mod ExaminingLemmas
 pub mod FirstsLemmas

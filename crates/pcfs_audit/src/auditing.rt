@@ -89,9 +89,9 @@ pub fn audit<S: Signatures>(
     report_on(alloc, &dossier, all.as_slice())
 }
 
-// How many of so many a piece has at least, if there are to be so many pieces. It is rounded down: a piece is halved only if
-// each half has as many, so what is left over would halve the number of pieces.
-fn least_of(count: usize, pieces: usize) -> usize
+/// How many of so many a piece has at least, if there are to be so many pieces. It is rounded down: a piece is halved only if
+/// each half has as many, so what is left over would halve the number of pieces.
+pub(crate) fn least_of(count: usize, pieces: usize) -> usize
     requires { 1 ≤ pieces }
 {
     (count / pieces).max(1)

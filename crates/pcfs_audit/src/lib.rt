@@ -11,6 +11,7 @@ mod admission;
 mod auditing;
 mod auditor;
 mod credentials;
+mod decoding;
 mod digests;
 mod dossier;
 mod ends;
@@ -26,5 +27,6 @@ mod statements;
 mod supports;
 
 pub use auditing::{audit, audit_pieces};
+pub use decoding::events_in_pieces;
 pub use report::{Finding, Report, ReportRow, ReportRows};
 pub use report_text::write_report;

@@ -12,7 +12,7 @@ use crate::answering::{DONE, OUT_OF_MEMORY, write_last_line};
 use access_history::History;
 use bl_syntax::{Bytes, NoMemory};
 use journal_records::events_of;
-use pcfs_audit::{Report, audit, audit_pieces, write_report};
+use pcfs_audit::{Report, audit, audit_pieces, events_in_pieces, write_report};
 use pcfs_ports::Sink;
 use pcfs_secrets::Secrets;
 use std::alloc::Global;
@@ -34,12 +34,24 @@ fn report_on<R: Threads + Sync>(
 {
     history.lemma_is_lawful();
     let base = history.base();
-    let decoded = events_of(alloc, history.events())?;
-    let events = decoded.as_slice();
     let key = secrets.seal_key.as_slice();
     match pieces {
-        None => audit(alloc, base, events, key, &secrets.ring),
-        Some(pieces) => audit_pieces(rt, alloc, base, events, key, &secrets.ring, pieces),
+        None => {
+            let events = events_of(alloc, history.events())?;
+            audit(alloc, base, events.as_slice(), key, &secrets.ring)
+        }
+        Some(pieces) => {
+            let events = events_in_pieces(rt, alloc, history.events(), pieces)?;
+            audit_pieces(
+                rt,
+                alloc,
+                base,
+                events.as_slice(),
+                key,
+                &secrets.ring,
+                pieces,
+            )
+        }
     }
 }
 
