@@ -1,22 +1,12 @@
--- Events that are read from records.
-use Rattle.std.proofs.Common.{◌≡◌, List, [], ◌∷◌, map, refl, sym, ap, subst, ◌∙◌}
-use Rattle.std.specs.Prelude.{IfOk, Ok}
-use Rattle.std.specs.declared.result.Result.{Result}
-use Rattle.std.specs.List.{AllZip}
-use Rattle.bl_syntax.specs.declared.lists.NoMemory.{NoMemory}
-use Rattle.journal_records.specs.declared.event.Event.{Event}
+-- Lists whose items are the same at each place.
+use Rattle.std.proofs.Common.{◌≡◌, ℕ, suc, List, [], ◌∷◌, length, refl, sym, ap, ◌∙◌, arith, Some}
+use Rattle.std.specs.List.{slice_get}
+use Rattle.std.proofs.lemmas.Option.{same_Some}
 
--- it was read as this event, or memory ran out
-abbrev pub IsReadAs : Event → Result Event NoMemory → Type 0
-IsReadAs event read = IfOk read (λ one. one ≡ event)
-
-read_each : (events all : List Event) → AllZip IsReadAs events (map Ok all) → all ≡ events
-read_each [] [] each = refl
-read_each [] (one ∷ all) each = absurd each
-read_each (event ∷ events) [] each = absurd each
-read_each (event ∷ events) (one ∷ all) each = ap (λ (e : Event). e ∷ all) each.0 ∙ ap (λ (es : List Event). event ∷ es) (read_each events all each.1)
-
--- what all threads read, if memory sufficed
-pub read_all : (events : List Event) (read : List (Result Event NoMemory)) (oks all : List Event) → AllZip IsReadAs events read → read ≡ map Ok oks → all ≡ oks → all ≡ events
-read_all events read oks all each are_oks same =
-    same ∙ read_each events oks (subst (AllZip IsReadAs events) are_oks each)
+pub same_items : {A : Type 0} (items all : List A) → length all ≡ length items → ((place : ℕ) (item : A) → slice_get all place ≡ Some item → slice_get items place ≡ Some item) → all ≡ items
+same_items [] [] counted each = refl
+same_items [] (one ∷ all) counted each = absurd (omega (arith, counted))
+same_items (item ∷ items) [] counted each = absurd (omega (arith, counted))
+same_items {A} (item ∷ items) (one ∷ all) counted each =
+    let more : length all ≡ length items = omega (arith, counted) in
+    ap (λ (a : A). a ∷ all) (sym (same_Some item one (each 0 one refl))) ∙ ap (λ (rest : List A). item ∷ rest) (same_items items all more (λ place it found. each (suc place) it found))

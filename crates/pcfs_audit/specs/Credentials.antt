@@ -52,12 +52,6 @@ pub record AreCredentials (authority : Authority) (base : BaseView) (events : Li
   pub each : (place : ℕ) (credentials : Credentials) → slice_get all place ≡ Some credentials →
       HasCredentialsAt authority base events place credentials
 
--- these were found of so many events, in order
-pub record AreFound (Finds : ℕ → Credentials → Type 0) (count : ℕ) (all : List Credentials) : Type 0 where
-  pub counted : length all ≡ count
-  pub each : (place : ℕ) (credentials : Credentials) → slice_get all place ≡ Some credentials →
-      Finds place credentials
-
 -- ---- what the papers tell of a state
 
 -- before the event at that place the papers have so many statements and issues, which are those of

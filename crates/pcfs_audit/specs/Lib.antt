@@ -3,6 +3,7 @@ pub mod Credentials
 pub mod Dossier
 pub mod DossierCredentials
 pub mod Ends
+pub mod Examining
 pub mod Finding
 pub mod Firsts
 pub mod Following

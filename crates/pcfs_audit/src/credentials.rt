@@ -223,6 +223,8 @@ struct Examination<'d, 'h, S> {
 }
 
 impl<'d, 'h, S: Signatures> Examiner for Examination<'d, 'h, S> {
+    type Found = Credentials;
+
     ghost has = { λ it place. IsDossier it.dossier.now × (place < length it.dossier.now.events.now) };
 
     ghost finds = { λ it place. HasCredentialsIn it.dossier.now (S.Signatures.accepted it.ring.now) place };

@@ -1,37 +1,38 @@
-//! Events that are tested each by itself, in several threads.
+//! What is found at each of many places by itself, in several threads.
 
 ghost use Rattle.std.specs.Prelude.{◌<◌, ℕ, IfOk};
-ghost use Rattle.pcfs_audit.specs.Credentials.{AreFound};
-ghost use Rattle.pcfs_audit.specs.declared.credentials.Credentials.{Credentials as CredentialsView};
+ghost use Rattle.pcfs_audit.specs.Examining.{AreFound};
 
-use crate::credentials::Credentials;
 use bl_syntax::NoMemory;
 use rayon::prelude::*;
 use std::alloc::Global;
 use std::thread::Threads;
 
-/// Finds the credentials of the event at a place.
+/// Finds something of what stands at a place.
 pub trait Examiner {
-    // It has an event at that place.
+    /// What is found.
+    type Found: Send + Drop;
+
+    // Something stands at that place.
     ghost has: { Self → ℕ → Type 0 };
 
-    // The event at that place has these credentials.
-    ghost finds: { Self → ℕ → CredentialsView → Type 0 };
+    // This is found of what stands at that place.
+    ghost finds: { Self → ℕ → Self.Found → Type 0 };
 
-    /// The credentials of the event at that place.
-    fn examine(&self, place: usize) -> Result<Credentials, NoMemory>
+    /// What is found of what stands at that place.
+    fn examine(&self, place: usize) -> Result<Self::Found, NoMemory>
         requires { has self.now place }
         ensures { IfOk result (finds self.now place) };
 }
 
-/// The credentials of so many events, in order, found in several threads, each for at least `least` events.
+/// What is found at so many places, in order, in several threads, each for at least `least` places.
 pub fn examine_in_pieces<R: Threads + Sync, E: Examiner + Sync>(
     rt: &R,
     alloc: Global,
     examiner: &E,
     count: usize,
     least: usize,
-) -> Result<Vec<Credentials>, NoMemory>
+) -> Result<Vec<E::Found>, NoMemory>
     requires { (place : ℕ) → place < count → E.Examiner.has examiner.now place }
     ensures { IfOk result (λ all. AreFound (E.Examiner.finds examiner.now) count all.items) }
 {
@@ -39,7 +40,7 @@ pub fn examine_in_pieces<R: Threads + Sync, E: Examiner + Sync>(
         .into_par_iter()
         .with_min_len(least)
         .map(
-            |place: usize| -> Result<Credentials, NoMemory>
+            |place: usize| -> Result<E::Found, NoMemory>
                 requires { E.Examiner.has examiner.now place }
                 ensures { IfOk result (E.Examiner.finds examiner.entry.now place) }
             { examiner.examine(place) },

@@ -1,14 +1,22 @@
--- The threads read the events in the order of their records.
-use Rattle.std.proofs.Common.{ap, ◌∙◌}
-use Rattle.rayon.proofs.ToStd.{slice-AllZip}
-use Rattle.pcfs_audit.proofs.ExaminingLemmas.{IfOk-of_match}
-use Rattle.pcfs_audit.proofs.DecodingLemmas.{IsReadAs, read_all}
+-- The threads share the records.
+use denote.Exit.{no}
+use denote.Ref.{NamedLft}
+use denote.Param.Send.{IsSync, arg_sync, param_sync, sendable}
+use denote.Param.SendFields.{as_row_sync, declared_sync}
+use Rattle.std.proofs.Crossing as heap
+use Rattle.rayon.proofs.ListFacts.{IfOk-then}
+use Rattle.pcfs_audit.specs.contracts.decoding.Decoding as Decoding
+use Rattle.pcfs_audit.proofs.DecodingLemmas.{same_items}
 use Rattle.pcfs_audit.proofs.decoding.events_in_pieces.Goals as goal
 
-pub returns-in-Ok : goal.returns-in-Ok
-returns-in-Ok g c =
-    let slice = ap (λ it. it.slice.now) c.with_min_len.ensures.base ∙ c.par_iter.ensures in
-    let done = c.in-Ok.ensures in
-    let chain = rw (c.map.ensures.base, c.map.ensures.f) at done.1 in
-    IfOk-of_match c.in-Ok.all _ _ _ done.2 (λ all made.
-    read_all c.args.records.now done.0 made.0 all.items (slice-AllZip chain.0 c.args.records.now (chain.1 ∙ slice) IsReadAs done.0 chain.2) made.1 made.2)
+decoding_sync : (r : NamedLft) → IsSync (Decoding.the_row r)
+decoding_sync r = declared_sync (Decoding.the_type r) (
+  search (sendable, as_row_sync, heap.crosses, heap.sync) depth 40 fits 20000,
+  (search (sendable, as_row_sync, heap.crosses, heap.sync) depth 40 fits 20000, tt),
+)
+
+pub examine_in_pieces-requires-sync-E : goal.examine_in_pieces-requires-sync-E
+examine_in_pieces-requires-sync-E g c κs within = param_sync _ _ (arg_sync _ no _ (decoding_sync _))
+
+pub returns : goal.returns
+returns g c = IfOk-then c.examine_in_pieces.result _ _ c.examine_in_pieces.ensures (λ all found. same_items c.args.records.now all.items found.counted found.each)
