@@ -6,10 +6,10 @@ ghost use Rattle.command_words.specs.CommandWords.{GivesNumber};
 ghost use Rattle.command_words.specs.Tasks.{IsTaskOf};
 ghost use Rattle.command_words.specs.declared.words.Task.{Task};
 
-use crate::numerals::long_number;
 use crate::words::Task;
 use bl_syntax::limits::MOST_EVENTS;
 use clap::ArgMatches;
+use line_words::numerals::long_number;
 
 /// The most pieces of an audit.
 const MOST_PIECES: u64 = 64;

@@ -7,7 +7,6 @@
 mod commands;
 mod given;
 pub mod laws;
-mod numerals;
 mod words;
 
 pub use words::{Task, task_of};

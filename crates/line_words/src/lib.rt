@@ -11,7 +11,7 @@ mod fault;
 mod kinds;
 pub mod laws;
 mod named;
-mod numerals;
+pub mod numerals;
 mod procap_word;
 mod reading;
 
