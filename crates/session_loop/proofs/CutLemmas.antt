@@ -1,5 +1,5 @@
 -- The items that are cut off the front of bytes, one after the other.
-use Rattle.std.proofs.Common.{◌≡◌, ◌<◌, ◌≤◌, ◌+◌, ℕ, List, [], ◌∷◌, ◌++◌, length, arith, length-append}
+use Rattle.std.proofs.Common.{◌≤◌, ◌+◌, ℕ, List, [], ◌∷◌, ◌++◌, length, arith, length-append}
 use Rattle.session_loop.specs.Cutting.{Cutting, CuttingLaws, Cuts, none, one_more}
 
 module _ (c : Cutting) (laws : CuttingLaws c) where

@@ -1,11 +1,10 @@
 -- What is answered and written, item by item.
-use Rattle.std.proofs.Common.{◌≡◌, ◌∙◌, ℕ, List, [], ◌∷◌, ◌++◌, length, Option, refl, sym, ap, subst}
+use Rattle.std.proofs.Common.{◌≡◌, ◌∙◌, ℕ, List, [], ◌∷◌, ◌++◌, Option, sym, ap, subst}
 use Rattle.pcfs_ports.specs.Observable.{with_back, HoldsSome}
 use Rattle.session_loop.specs.declared.heard.Heard.TheVariants as heards
-use Rattle.session_loop.specs.Cutting.{Cuts, none}
+use Rattle.session_loop.specs.Cutting.{none}
 use Rattle.session_loop.specs.Talking.{Talking, TalkingLaws}
-use Rattle.session_loop.specs.Written.{output_of}
-use Rattle.session_loop.specs.Heard.{IsAnswered, IsStill, IsBadNext, HasHeard, IsLastAnswered, HasNoLast, IsBadLast}
+use Rattle.session_loop.specs.Heard.{IsAnswered, IsStill, IsBadNext, HasHeard, IsLastAnswered, HasNoLast}
 use Rattle.session_loop.specs.Spoken.{IsSpoken, IsUnsent, SpeaksFront, IsCutWithin, SpeaksToBad, SpeaksLast, IsLastUnsent, SpeaksAll, SpeaksOne, SpeaksNone, SpeaksBad}
 use Rattle.session_loop.proofs.CutLemmas.{cuts_one, cuts_join}
 use Rattle.session_loop.proofs.PortLemmas.{with_back-nil, nothing_out}
@@ -50,7 +49,7 @@ module _ {P : Type 0} (t : Talking P) (laws : TalkingLaws t) where
 
   -- ---- the bytes that are left
 
-  pub SpeaksFront-none : (state : t.State) (mark : t.cutting.Mark) (left : List ℕ) (at : P) (held : Option (List ℕ)) → SpeaksFront t state mark left at at held held
+  unfoldable pub SpeaksFront-none : (state : t.State) (mark : t.cutting.Mark) (left : List ℕ) (at : P) (held : Option (List ℕ)) → SpeaksFront t state mark left at at held held
   SpeaksFront-none state mark left at held = record { items = []; end = state; to = mark; rest = left; cut = none mark left; spoken = IsSpoken-none state at held }
 
   module _ (state : t.State) (mark : t.cutting.Mark) (left : List ℕ) (old now new : P) (held held_now held_after : Option (List ℕ)) (f : SpeaksFront t state mark left old now held held_now) where
@@ -131,11 +130,13 @@ module _ {P : Type 0} (t : Talking P) (laws : TalkingLaws t) where
 
   module _ (state : t.State) (mark : t.cutting.Mark) (left : List ℕ) (old : P) (held : Option (List ℕ)) where
     pub IsSpeaking-start : (Stands : t.State → t.cutting.Mark → List ℕ → Type 0) → Stands state mark left → IsSpeaking t state mark left old held Stands old held
+    unfolding SpeaksFront-none
     IsSpeaking-start Stands stands = record { front = SpeaksFront-none state mark left old held; stands = stands }
 
     module _ (Stands Next : t.State → t.cutting.Mark → List ℕ → Type 0) (now new : P) (held_now held_after : Option (List ℕ)) (s : IsSpeaking t state mark left old held Stands now held_now) where
       -- one more
       pub IsSpeaking-more : ((state : t.State) (mark : t.cutting.Mark) (left : List ℕ) → Stands state mark left → SpeaksOne t state mark left now new held_now held_after Next) → IsSpeaking t state mark left old held Next new held_after
+      unfolding SpeaksFront-then
       IsSpeaking-more one =
           let f = s.front in
           let o = one f.end f.to f.rest s.stands in
@@ -160,12 +161,14 @@ module _ {P : Type 0} (t : Talking P) (laws : TalkingLaws t) where
 
       -- none comes whole after them
       pub SpeaksAll-open : ((state : t.State) (mark : t.cutting.Mark) (left : List ℕ) → Stands state mark left → SpeaksNone t state mark left now new held_now held_after Next) → SpeaksAll t state mark left old new held held_after Next
+      unfolding front_at
       SpeaksAll-open none_more =
           let n = none_more s.front.end s.front.to s.front.rest s.stands in
           record { front = front_at n.same n.out; is_open = n.is_open; stands = n.stands }
 
       -- what comes after them is none
       pub SpeaksToBad-bad : ((state : t.State) (mark : t.cutting.Mark) (left : List ℕ) → Stands state mark left → SpeaksBad t state mark left now new held_now held_after Next) → SpeaksToBad t state mark left old new held held_after
+      unfolding front_at
       SpeaksToBad-bad bad =
           let n = bad s.front.end s.front.to s.front.rest s.stands in
           record { front = front_at n.same n.out; is_bad = n.is_bad }

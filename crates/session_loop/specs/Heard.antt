@@ -2,7 +2,6 @@
 use Rattle.std.specs.Prelude.{◌≡◌, ℕ, List, [], ◌∷◌}
 use Rattle.session_loop.specs.declared.heard.Heard.{Heard}
 use Rattle.session_loop.specs.declared.heard.Heard.TheVariants as heards
-use Rattle.session_loop.specs.Cutting.{Cutting}
 use Rattle.session_loop.specs.Talking.{Talking}
 
 module _ {P : Type 0} (t : Talking P) (Stands : t.State → t.cutting.Mark → List ℕ → Type 0)

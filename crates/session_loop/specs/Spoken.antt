@@ -1,5 +1,5 @@
 -- What calls do that answer items of a talk, from one moment to a later one (this project's own).
-use Rattle.std.specs.Prelude.{◌≡◌, ℕ, List, [], ◌∷◌, ◌++◌, Bool, true, false, Option}
+use Rattle.std.specs.Prelude.{◌≡◌, ℕ, List, [], ◌∷◌, Bool, true, false, Option}
 use Rattle.pcfs_ports.specs.Observable.{with_back, HoldsSome}
 use Rattle.session_loop.specs.declared.talk_end.TalkEnd.{TalkEnd}
 use Rattle.session_loop.specs.declared.talk_end.TalkEnd.TheVariants as ends

@@ -1,6 +1,6 @@
 -- How a talk ends: what was taken, what was answered, and what was written. If the input does not
 -- tell what it has, or the output what it holds, nothing is said of that (this project's own).
-use Rattle.std.specs.Prelude.{◌≡◌, ℕ, List, ◌++◌, Option}
+use Rattle.std.specs.Prelude.{◌≡◌, ℕ, List, ◌++◌}
 use Rattle.pcfs_ports.specs.Faults.{HasRisen}
 use Rattle.pcfs_ports.specs.Observable.{with_back, TakesFirst}
 use Rattle.session_loop.specs.declared.talk_end.TalkEnd.{TalkEnd}

@@ -1,5 +1,5 @@
 -- A talk: the items of an input, each of which is answered by one reply (this project's own).
-use Rattle.std.specs.Prelude.{◌≡◌, ℕ, List, [], ◌∷◌, ◌++◌, length}
+use Rattle.std.specs.Prelude.{◌≡◌, ℕ, List, [], ◌++◌, length}
 use Rattle.session_loop.specs.Cutting.{Cutting, CuttingLaws}
 
 -- what is said in a talk of which each answer may change what stands in `P`

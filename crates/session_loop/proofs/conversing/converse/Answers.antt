@@ -1,5 +1,5 @@
 -- The items that came whole are answered, piece by piece.
-use Rattle.std.proofs.Common.{◌≡◌, ◌≤◌, length, take, Err, ap, ◌∙◌, refl, arith}
+use Rattle.std.proofs.Common.{◌≡◌, ◌≤◌, ◌<◌, ◌+◌, length, take, Err, ap, ◌∙◌, refl, arith}
 use Rattle.pcfs_ports.specs.Faults.{raise}
 use Rattle.session_loop.proofs.PortLemmas.{nothing_taken, IsShown-front, taken_shown, room_stays, risen_later}
 use Rattle.session_loop.proofs.StillLemmas.{NothingFailedBefore-then}
@@ -23,12 +23,13 @@ returns-in-Err-clause-ends g c start stands = TalkEnds-unbegun (g.T.Talk.talking
 
 pub returns-in-Err-read_piece-clause-ends : goal.returns-in-Err-read_piece-clause-ends
 returns-in-Err-read_piece-clause-ends g c start stands =
-    TalkEnds-read_fault (g.T.Talk.talking c.args.clock.now) (g.met.T.Talk.laws c.args.clock.now) start _ _ _ _ _ _ _ (c.loop-taken.invariant.reading start stands) c.in-Err-read_piece.ensures.err
+    TalkEnds-read_fault (g.T.Talk.talking c.args.clock.now) (g.met.T.Talk.laws c.args.clock.now) start _ _ _ _ _ _ _ c.loop-taken.invariant.within (c.loop-taken.invariant.reading start stands) c.in-Err-read_piece.ensures.err
     (risen_later _ _ _ c.loop-taken.invariant.read_never_falls c.in-Err-read_piece.ensures.risen)
 
 pub returns-then-count-eq0-clause-ends : goal.returns-then-count-eq0-clause-ends
 returns-then-count-eq0-clause-ends g c start stands =
-    TalkEnds-last (g.T.Talk.talking c.args.clock.now) (g.met.T.Talk.laws c.args.clock.now) start _ _ _ _ _ _ _ _ _ _ (c.loop-taken.invariant.reading start stands)
+    let below : c.loop-taken.taken < 1073741824 = omega arith in
+    TalkEnds-last (g.T.Talk.talking c.args.clock.now) (g.met.T.Talk.laws c.args.clock.now) start _ _ _ _ _ _ _ _ _ _ below (c.loop-taken.invariant.reading start stands)
     (nothing_taken _ _ _ _ c.if-count-eq0.true c.in-Ok-read_piece.ensures.taken) (c.in-Ok-read_piece.ensures.end c.if-count-eq0.true)
     (λ is. risen_later _ _ _ c.loop-taken.invariant.write_never_falls (c.answer_last.ensures.risen is)) c.answer_last.ensures.ends
 
@@ -37,7 +38,8 @@ returns-in-Err-answer_piece-clause-ends g c start stands =
     let fits : length c.read_piece.new.piece ≤ c.loop-taken.piece.len = omega (arith, c.loop-taken.piece.ok.0, c.deref_mut.ensures.len, c.read_piece.auto.piece) in
     let shown = IsShown-front c.in-Ok-read_piece.count c.loop-taken.piece.len c.read_piece.new.piece c.loop-taken.piece.items c.deref.result.now c.deref.ensures.value c.in-Ok-read_piece.ensures.bound fits in
     let small : length (take c.in-Ok-read_piece.count c.deref.result.now) ≤ 65536 = omega (arith, shown.len, c.in-Ok-read_piece.ensures.bound, fits, c.loop-taken.piece.ok.0, c.loop-taken.invariant.room) in
-    TalkEnds-piece (g.T.Talk.talking c.args.clock.now) (g.met.T.Talk.laws c.args.clock.now) start _ _ _ _ _ _ _ _ _ _ (c.loop-taken.invariant.reading start stands) (taken_shown _ _ _ _ _ shown c.in-Ok-read_piece.ensures.taken) small _
+    let fits_all : c.loop-taken.taken + length (take c.in-Ok-read_piece.count c.deref.result.now) ≤ 1073741824 = omega (arith, shown.len, c.in-Ok-read_piece.ensures.few, c.loop-taken.invariant.within) in
+    TalkEnds-piece (g.T.Talk.talking c.args.clock.now) (g.met.T.Talk.laws c.args.clock.now) start _ _ _ _ _ _ _ _ _ _ (c.loop-taken.invariant.reading start stands) (taken_shown _ _ _ _ _ shown c.in-Ok-read_piece.ensures.taken) small fits_all _
     (λ is. risen_later _ _ _ c.loop-taken.invariant.write_never_falls (c.in-Err-answer_piece.ensures.risen (ap Err is))) c.in-Err-answer_piece.ensures.ends
 
 pub loop-taken-preserved : goal.loop-taken-preserved
