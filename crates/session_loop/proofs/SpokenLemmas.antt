@@ -4,7 +4,7 @@ use Rattle.pcfs_ports.specs.Observable.{with_back, HoldsSome}
 use Rattle.session_loop.specs.declared.heard.Heard.TheVariants as heards
 use Rattle.session_loop.specs.Cutting.{none}
 use Rattle.session_loop.specs.Talking.{Talking, TalkingLaws}
-use Rattle.session_loop.specs.Heard.{IsAnswered, IsStill, IsBadNext, HasHeard, IsLastAnswered, HasNoLast}
+use Rattle.session_loop.specs.Heard.{IsAnswered, HasHeard, IsLastAnswered, HasNoLast}
 use Rattle.session_loop.specs.Spoken.{IsSpoken, IsUnsent, SpeaksFront, IsCutWithin, SpeaksToBad, SpeaksLast, IsLastUnsent, SpeaksAll, SpeaksOne, SpeaksNone, SpeaksBad}
 use Rattle.session_loop.proofs.CutLemmas.{cuts_one, cuts_join}
 use Rattle.session_loop.proofs.PortLemmas.{with_back-nil, nothing_out}
@@ -78,11 +78,6 @@ module _ {P : Type 0} (t : Talking P) (laws : TalkingLaws t) where
   -- ---- one item
 
   module _ (Stands : t.State → t.cutting.Mark → List ℕ → Type 0) (state : t.State) (mark : t.cutting.Mark) (left : List ℕ) (old new : P) (held held_after : Option (List ℕ)) where
-    pub one_answered : (out : List ℕ) → HasHeard t Stands state mark left old new out heards.Answered → held_after ≡ with_back held out → SpeaksOne t state mark left old new held held_after Stands
-    one_answered out heard sent =
-        let a = heard.0 in
-        record { item = a.item; end = a.end; to = a.after; rest = a.rest; next = a.next; spoken = IsSpoken-one a.item a.reply state a.end old new held held_after a.said (sent ∙ ap (with_back held) heard.1); stands = a.stands }
-
     one_cut : (a : IsAnswered t Stands state mark left old new) → HoldsSome held held_after (t.text a.item a.reply) → IsCutWithin t state mark left old new held held_after
     one_cut a some = record {
       items = a.item ∷ [];
@@ -98,12 +93,6 @@ module _ {P : Type 0} (t : Talking P) (laws : TalkingLaws t) where
 
     pub one_unsent : IsAnswered t Stands state mark left old new → held_after ≡ held → IsCutWithin t state mark left old new held held_after
     one_unsent a same = one_cut a (nothing_out held held_after (t.text a.item a.reply) same)
-
-    pub one_open : IsStill t Stands state mark left old new → held_after ≡ held → SpeaksNone t state mark left old new held held_after Stands
-    one_open s same = record { is_open = s.is_open; same = s.same; out = same; stands = s.stands }
-
-    pub one_bad : IsBadNext t Stands state mark left old new → held_after ≡ held → SpeaksBad t state mark left old new held held_after Stands
-    one_bad s same = record { is_bad = s.is_bad; same = s.same; out = same }
 
     -- ---- the last one
 
