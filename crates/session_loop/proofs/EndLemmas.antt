@@ -81,7 +81,7 @@ module _ {P : Type 0} (t : Talking P) (laws : TalkingLaws t) (start : t.State) (
         (whole.while_reading
         (record { bytes = []; mark = t.cutting.first; rest = []; taken = with_front-nil before.left ∙ ap (with_front []) (sym left); cut = none t.cutting.first []; few = omega arith; limit = omega arith })
         (record { end = start; said = laws.none start old }))
-        (none_out t before.held after.held held)
+        (none_out t.text before.held after.held held)
 
     -- a talk of which items were answered
     spoke : (items : List t.cutting.Item) (end : t.State) (new : P) (held : Option (List ℕ)) → (s : IsSpoken t items start old new end before.held held) → Speaks t start old new items s.replies
@@ -108,9 +108,9 @@ module _ {P : Type 0} (t : Talking P) (laws : TalkingLaws t) (start : t.State) (
     -- it was told, or some first part of that
     tells_bad : (new : P) (items : List t.cutting.Item) (end : t.State) (between : Option (List ℕ)) (s : IsSpoken t items start old new end before.held between) (how : TalkEnd) → (how ≡ ends.WriteFault → HasRisen before.write_faults after.write_faults) →
         TalkReplies t start old new before after items s.replies ends.Bad → TellsBad t between after.held how → TalkEnds t start old new before after how
-    tells_bad new items end between s _ risen replies (told out) = whole.written ends.Bad items s.replies replies (told_after t before.held between after.held items s.replies s.out out)
+    tells_bad new items end between s _ risen replies (told out) = whole.written ends.Bad items s.replies replies (told_after t.text t.bad_text before.held between after.held items s.replies s.out out)
     tells_bad new items end between s _ risen replies (untold fault some) =
-        whole.cut_at_bad fault items s.replies (risen_for fault before.write_faults after.write_faults risen) replies (replies_after t before.held between after.held items s.replies s.out some)
+        whole.cut_at_bad fault items s.replies (risen_for fault before.write_faults after.write_faults risen) replies (replies_after t.text t.bad_text before.held between after.held items s.replies s.out some)
 
     -- ---- at a piece
 

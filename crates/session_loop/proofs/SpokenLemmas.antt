@@ -23,28 +23,28 @@ module _ {P : Type 0} (t : Talking P) (laws : TalkingLaws t) where
   IsSpoken-none state at held = record { replies = []; said = laws.none state at; out = with_back-nil held }
 
   pub IsUnsent-none : (state : t.State) (at : P) (held held_after : Option (List ℕ)) → held_after ≡ held → IsUnsent t [] state at at state held held_after
-  IsUnsent-none state at held held_after same = record { replies = []; said = laws.none state at; some = none_out t held held_after same }
+  IsUnsent-none state at held held_after same = record { replies = []; said = laws.none state at; some = none_out t.text held held_after same }
 
   module _ (item : t.cutting.Item) (reply : t.Reply) (state end : t.State) (old new : P) (held held_after : Option (List ℕ)) (said : t.Said state old new (item ∷ []) (reply ∷ []) end) where
     pub IsSpoken-one : held_after ≡ with_back held (t.text item reply) → IsSpoken t (item ∷ []) state old new end held held_after
-    IsSpoken-one out = record { replies = reply ∷ []; said = said; out = out ∙ ap (with_back held) (output-one t item reply) }
+    IsSpoken-one out = record { replies = reply ∷ []; said = said; out = out ∙ ap (with_back held) (output-one t.text item reply) }
 
     pub IsUnsent-one : HoldsSome held held_after (t.text item reply) → IsUnsent t (item ∷ []) state old new end held held_after
-    IsUnsent-one some = record { replies = reply ∷ []; said = said; some = one_last t held held_after item reply some }
+    IsUnsent-one some = record { replies = reply ∷ []; said = said; some = one_last t.text held held_after item reply some }
 
   module _ (items others : List t.cutting.Item) (state mid end : t.State) (old between new : P) (held held_between held_after : Option (List ℕ)) (one : IsSpoken t items state old between mid held held_between) where
     pub IsSpoken-then : IsSpoken t others mid between new end held_between held_after → IsSpoken t (items ++ others) state old new end held held_after
     IsSpoken-then other = record {
       replies = one.replies ++ other.replies;
       said = laws.further state mid end old between new items others one.replies other.replies one.said other.said;
-      out = out_after t held held_between held_after items others one.replies other.replies (laws.each state mid old between items one.replies one.said) one.out other.out;
+      out = out_after t.text held held_between held_after items others one.replies other.replies (laws.each state mid old between items one.replies one.said) one.out other.out;
     }
 
     pub IsUnsent-then : IsUnsent t others mid between new end held_between held_after → IsUnsent t (items ++ others) state old new end held held_after
     IsUnsent-then other = record {
       replies = one.replies ++ other.replies;
       said = laws.further state mid end old between new items others one.replies other.replies one.said other.said;
-      some = last_after t held held_between held_after items others one.replies other.replies (laws.each state mid old between items one.replies one.said) one.out other.some;
+      some = last_after t.text held held_between held_after items others one.replies other.replies (laws.each state mid old between items one.replies one.said) one.out other.some;
     }
 
   -- ---- the bytes that are left

@@ -17,7 +17,7 @@ module _ {P : Type 0} (t : Talking P) where
       (held held_after : Option (List ℕ)) : Type 0 where
     pub replies : List t.Reply
     pub said : t.Said state old new items replies end
-    pub out : held_after ≡ with_back held (output_of t items replies)
+    pub out : held_after ≡ with_back held (output_of t.text items replies)
 
   -- items are answered, and all their replies were written but the last, of which some first part
   -- was
@@ -25,7 +25,7 @@ module _ {P : Type 0} (t : Talking P) where
       (held held_after : Option (List ℕ)) : Type 0 where
     pub replies : List t.Reply
     pub said : t.Said state old new items replies end
-    pub some : HoldsButLast t held held_after items replies
+    pub some : HoldsButLast t.text held held_after items replies
 
   module _ (state : t.State) (mark : t.cutting.Mark) (left : List ℕ) (old new : P)
       (held held_after : Option (List ℕ)) where

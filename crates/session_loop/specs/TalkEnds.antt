@@ -59,13 +59,13 @@ module _ {P : Type 0} (t : Talking P) where
       pub data TalkEnds : TalkEnd → Type 0 where
         written : (how : TalkEnd) (items : List t.cutting.Item) (replies : List t.Reply) →
             TalkReplies items replies how →
-            after.held ≡ with_back before.held (all_told how (output_of t items replies)) →
+            after.held ≡ with_back before.held (all_told how (output_of t.text items replies)) →
             TalkEnds how
         cut_short : (fault : Unsent) (items : List t.cutting.Item) (replies : List t.Reply) →
             (fault ≡ Write → HasRisen before.write_faults after.write_faults) →
-            IsUnderWay items replies → HoldsButLast t before.held after.held items replies →
+            IsUnderWay items replies → HoldsButLast t.text before.held after.held items replies →
             TalkEnds (unsent_end fault)
         cut_at_bad : (fault : Unsent) (items : List t.cutting.Item) (replies : List t.Reply) →
             (fault ≡ Write → HasRisen before.write_faults after.write_faults) →
             TalkReplies items replies ends.Bad →
-            HoldsReplies t before.held after.held items replies → TalkEnds (unsent_end fault)
+            HoldsReplies t.text t.bad_text before.held after.held items replies → TalkEnds (unsent_end fault)
