@@ -3,7 +3,6 @@ use Rattle.std.proofs.Common.{◌≡◌, ◌∙◌, ℕ, List, [], ◌∷◌, �
 use Rattle.std.specs.Prelude.{ℤ}
 use Rattle.std.specs.Option.{option_map}
 use Rattle.bl_syntax.specs.declared.terms.NodeId.{NodeId}
-use Rattle.procap.specs.declared.procap.Procap.{Procap}
 use Rattle.journal_records.specs.declared.event.Event.{Event}
 use Rattle.access_history.specs.Base.{BaseView}
 use Rattle.pcfs_store.specs.Entries.{Root, StoreEntry, happened, stopped, state_of_entries}
@@ -12,7 +11,7 @@ use Rattle.session_history.specs.declared.reply.TurnReply.{TurnReply}
 use Rattle.session_history.specs.Laws.{asked_entry}
 use Rattle.session_history.specs.Turn.{StorePass, event_of, AnswersTurn, Turn}
 use Rattle.session_history.specs.Turn as turns
-use Rattle.nine_messages.specs.Requests.{RequestView, twalk, MessageView}
+use Rattle.nine_messages.specs.Requests.{twalk, MessageView}
 use Rattle.nine_messages.specs.Replies.{ReplyView}
 use Rattle.nine_fids.specs.declared.connection.Connection.{Connection}
 use Rattle.nine_fids.specs.declared.fid.FidFile.{FidFile}

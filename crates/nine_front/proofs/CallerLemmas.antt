@@ -27,7 +27,6 @@ use Rattle.nine_messages.specs.Replies.{ReplyView}
 use Rattle.nine_fids.specs.declared.connection.Connection.{Connection}
 use Rattle.nine_fids.specs.declared.control.Control.{Control}
 use Rattle.nine_fids.specs.declared.fid.FidFile.{FidFile}
-use Rattle.nine_fids.specs.declared.step.Answer.{Answer}
 use Rattle.nine_fids.specs.declared.step.Step.{Step}
 use Rattle.nine_fids.specs.declared.step.Step.TheVariants as steps
 use Rattle.nine_fids.specs.States.{begun_with}
@@ -36,7 +35,7 @@ use Rattle.nine_fids.specs.Tests.{IsAskedBy}
 use Rattle.nine_fids.specs.Walks.{last_of, standing_for, walked}
 use Rattle.nine_fids.proofs.LawLemmas.{Changes, leaves}
 use Rattle.nine_front.specs.Asked.{HasSigned, IsEventByAccepted, IsMetByAccepted, IsByAccepted}
-use Rattle.nine_front.specs.Asking.{IsTurnOf, act_of, look_of, after_login, after_turn}
+use Rattle.nine_front.specs.Asking.{IsTurnOf, look_of, after_login, after_turn}
 use Rattle.nine_front.specs.Placed.{WalksPlaced, all_found, goes_on, no_procap, lacks_memory, MessagePlaced, refused, answered, in_a_turn, walks, without_memory, MessagesPlaced, no_message, one_more}
 use Rattle.nine_front.specs.Placed as places
 
