@@ -10,7 +10,7 @@ use Rattle.session_history.specs.Turn.{StorePass}
 use Rattle.shared_store.specs.declared.entry.LockEntry.{LockEntry}
 use Rattle.shared_store.specs.LockHistory.{lock_history}
 use Rattle.shared_store.specs.Turning.{pass_at}
-use Rattle.shared_store.specs.Asking.{entries_seen, HasHistory, HasSeenFault}
+use Rattle.shared_store.specs.Asking.{entries_seen, HasHistory}
 use Rattle.shared_store.proofs.AskingLemmas.{seen_later}
 use Rattle.session_lines.proofs.DoneLemmas.{stays, goes_further}
 use Rattle.session_lines.proofs.TurnCountLemmas.{no_turn, turns_then}

@@ -1,5 +1,5 @@
 -- What is answered and written, message by message, and at the pieces of an input.
-use Rattle.std.proofs.Common.{◌≡◌, ◌∙◌, ◌≤◌, ◌-◌, ℕ, List, [], ◌∷◌, ◌++◌, length, drop, Bool, false, true, Option, refl, sym, ap, subst, arith}
+use Rattle.std.proofs.Common.{◌≡◌, ◌∙◌, ◌-◌, ℕ, List, [], ◌∷◌, ◌++◌, length, drop, Bool, false, true, Option, refl, sym, ap, subst, arith}
 use Rattle.std.specs.Prelude.{ℤ}
 use Rattle.pcfs_ports.specs.Observable.{with_back, HoldsSome}
 use Rattle.tree_lock.specs.Seen.{PassView}
@@ -18,7 +18,6 @@ use Rattle.nine_front.specs.declared.nine_end.NineEnd.TheVariants as ends
 use Rattle.nine_front.specs.Framing.{FramerState}
 use Rattle.nine_front.specs.Said.{HasAnswered}
 use Rattle.nine_front.specs.Spoken.{unsent_end, open_end, IsOver, fed, IsSpoken, IsCutOff, SpeaksHeld, IsCutWithin, EndsAtPiece, at_bad, cut_short}
-use Rattle.nine_front.specs.Taken.{output_of}
 use Rattle.nine_front.specs.Views.{reply_view_of}
 use Rattle.nine_front.proofs.CutLemmas.{left_after, cuts_next}
 use Rattle.nine_front.proofs.SaidLemmas.{HasSaid-none, HasSaid-message, HasSaid-then}

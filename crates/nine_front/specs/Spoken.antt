@@ -1,6 +1,6 @@
 -- What calls do that answer messages of a connection, from one moment to a later one (this
 -- project's own).
-use Rattle.std.specs.Prelude.{◌≡◌, ℕ, ℤ, List, [], ◌∷◌, ◌++◌, Bool, true, false, length, Option}
+use Rattle.std.specs.Prelude.{◌≡◌, ℕ, ℤ, List, [], ◌∷◌, ◌++◌, Bool, true, false, Option}
 use Rattle.pcfs_ports.specs.Observable.{with_back}
 use Rattle.tree_lock.specs.Seen.{PassView}
 use Rattle.pcfs_store.specs.Entries.{StoreEntry}

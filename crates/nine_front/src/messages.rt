@@ -1,7 +1,7 @@
 //! Messages that are answered, and their replies as they are written.
 
-ghost use Rattle.std.specs.Prelude.{◌≡◌, ◌≤◌, ◌∷◌, [], length, IfOk, OnOk, OnErr, IsErrOf};
-ghost use Rattle.pcfs_ports.specs.Faults.{HasRisen};
+ghost use Rattle.std.specs.Prelude.{◌≡◌, ◌≤◌, ◌∷◌, [], true, length, IfOk, OnOk, OnErr, IsErrOf};
+ghost use Rattle.pcfs_ports.specs.Faults.{HasRisen, raise};
 ghost use Rattle.pcfs_ports.specs.Observable.{with_back, HoldsSome};
 ghost use Rattle.nine_messages.specs.Requests.{IsMessage};
 ghost use Rattle.nine_messages.specs.Replies.{IsWritableReply, reply_spelling};
@@ -41,6 +41,9 @@ fn write_reply<O: Sink>(
     ensures steady_unsent { IsErrOf result SendFault.NoMemory →
         (O.faults output.new ≡ O.faults output.old) }
     ensures never_falls { O.faults output.old ≤ O.faults output.new }
+    ensures by_one { IsErrOf result SendFault.Write →
+        O.faults output.new ≡ raise (O.faults output.old) }
+    ensures broken { IsErrOf result SendFault.Write → O.broken output.new ≡ true }
 {
     let mut out = Bytes::new(alloc);
     if spell_reply(alloc, connection, tag, reply, &mut out).is_err() {
@@ -54,7 +57,8 @@ fn write_reply<O: Sink>(
 
 /// Answers a message, and writes its reply.
 ///
-/// `Write` comes only if the output's count of faults rose, and `NoMemory` if there was no memory for the bytes of the reply.
+/// `Write` comes only if the output's count of faults rose, by one, in the last call of the output, and `NoMemory` if there was no
+/// memory for the bytes of the reply.
 pub(crate) fn speak<R: Wait, D: Disk, C: TurnClock, O: Sink>(
     rt: &R,
     alloc: Global,
@@ -78,6 +82,9 @@ pub(crate) fn speak<R: Wait, D: Disk, C: TurnClock, O: Sink>(
     ensures steady_unsent { IsErrOf result SendFault.NoMemory →
         (O.faults output.new ≡ O.faults output.old) }
     ensures never_falls { O.faults output.old ≤ O.faults output.new }
+    ensures by_one { IsErrOf result SendFault.Write →
+        O.faults output.new ≡ raise (O.faults output.old) }
+    ensures broken { IsErrOf result SendFault.Write → O.broken output.new ≡ true }
     ensures same_lock { pass.new.lock ≡ lock.now }
 {
     let reply = answer(rt, alloc, lock, pass, clock, connection, &message.request);
@@ -110,6 +117,9 @@ pub(crate) fn speak_held<R: Wait, D: Disk, C: TurnClock, O: Sink>(
     ensures steady_unsent { IsErrOf result SendFault.NoMemory →
         (O.faults output.new ≡ O.faults output.old) }
     ensures never_falls { O.faults output.old ≤ O.faults output.new }
+    ensures by_one { IsErrOf result SendFault.Write →
+        O.faults output.new ≡ raise (O.faults output.old) }
+    ensures broken { IsErrOf result SendFault.Write → O.broken output.new ≡ true }
     ensures same_lock { pass.new.lock ≡ lock.now }
 {
     loop {

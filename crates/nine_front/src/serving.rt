@@ -1,7 +1,8 @@
 //! A connection: its messages as they come.
 
-ghost use Rattle.std.specs.Prelude.{◌≡◌, ◌<◌, ◌≤◌, IfOk, OnOk, OnErr, IfErr, IsErrOf, length, take, false};
-ghost use Rattle.pcfs_ports.specs.Faults.{HasRisen};
+ghost use Rattle.std.specs.Prelude.{◌≡◌, ◌≢◌, ◌<◌, ◌≤◌, IfOk, OnOk, OnErr, IfErr, IsErrOf, length, take, true, false};
+ghost use Rattle.pcfs_ports.specs.Faults.{HasRisen, raise};
+ghost use Rattle.pcfs_server.specs.Ends.{FailedLast};
 ghost use Rattle.pcfs_session.specs.Streams.{streams_of};
 ghost use Rattle.nine_front.specs.Ends.{NineEnds, NothingFailedBefore, OutputStandsStill};
 ghost use Rattle.nine_front.specs.Spoken.{SpeaksHeld, EndsAtPiece, fed, unsent_end, open_end};
@@ -49,6 +50,10 @@ fn speak_piece<R: Wait, D: Disk, C: TurnClock, O: Sink>(
     ensures steady { OnOk result (O.faults output.new ≡ O.faults output.old) }
     ensures steady_end { IfErr result (λ end. OutputStandsStill end (O.faults output.old) (O.faults output.new)) }
     ensures never_falls { O.faults output.old ≤ O.faults output.new }
+    ensures by_one { IsErrOf result NineEnd.WriteFault →
+        O.faults output.new ≡ raise (O.faults output.old) }
+    ensures broken { IsErrOf result NineEnd.WriteFault → O.broken output.new ≡ true }
+    ensures no_read { IfErr result (λ end. end ≢ NineEnd.ReadFault) }
     ensures same_lock { pass.new.lock ≡ lock.now }
 {
     match framer.feed(piece) {
@@ -80,10 +85,11 @@ fn end_of(framer: &MessageFramer) -> NineEnd
 
 /// Serves a connection that speaks 9P2000 over a shared store, with this nonce, under this pass.
 ///
-/// At `Done` the input was read to its end and each of its messages was answered. Each reply has its place in each history
-/// that begins with what the pass has seen at the end, after what it had seen at first, and places do not go back; what the
-/// pass was given by the replies is what its own entries grew by. If it took turns, what it has seen is a history, and the last
-/// of them came to the end of that.
+/// At `Done` the input was read to its end and each of its messages was answered. No call of the input failed, unless the
+/// connection ends by that, and none of the output, unless it ends by that; and then one failed, and it was the last. Each reply
+/// has its place in each history that begins with what the pass has seen at the end, after what it had seen at first, and places
+/// do not go back; what the pass was given by the replies is what its own entries grew by. If it took turns, what it has seen is
+/// a history, and the last of them came to the end of that.
 pub fn serve_nine<R: Wait, I: Source, O: Sink, D: Disk, C: TurnClock>(
     rt: &R,
     alloc: Global,
@@ -101,6 +107,10 @@ pub fn serve_nine<R: Wait, I: Source, O: Sink, D: Disk, C: TurnClock>(
     ensures nothing_failed { NothingFailedBefore
         (streams_of I.left I.faults O.held O.faults input.old output.old) result
         (streams_of I.left I.faults O.held O.faults input.new output.new) }
+    ensures read_failed { result ≡ NineEnd.ReadFault →
+        FailedLast (I.faults input.old) (I.faults input.new) (I.broken input.new) }
+    ensures write_failed { result ≡ NineEnd.WriteFault →
+        FailedLast (O.faults output.old) (O.faults output.new) (O.broken output.new) }
     ensures same_lock { pass.new.lock ≡ lock.now }
 {
     let mut connection = match Connection::new(alloc, &nonce) {

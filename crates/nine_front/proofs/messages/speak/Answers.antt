@@ -1,5 +1,4 @@
 -- The message is answered, and its reply is written, or some first part of it.
-use Rattle.std.proofs.Common.{◌∙◌}
 use Rattle.nine_front.proofs.SpokenLemmas.{spelled_by, some_by, writable_by, IsSpoken-message, IsCutOff-message}
 use Rattle.nine_front.proofs.messages.speak.Goals as goal
 

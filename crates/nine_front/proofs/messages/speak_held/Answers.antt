@@ -1,6 +1,7 @@
 -- Each message that was answered and taken is one more of the first messages.
 use Rattle.std.proofs.Common.{◌≡◌, ◌∙◌, Err, refl, ap, arith}
 use Rattle.nine_messages.specs.Views.{request_view}
+use Rattle.pcfs_ports.specs.Faults.{raise}
 use Rattle.pcfs_session.specs.declared.outbox.SendFault.TheVariants as faults
 use Rattle.pcfs_session.proofs.StoredLemmas.{HasRisen-earlier}
 use Rattle.nine_front.proofs.CutLemmas.{agreed_then, bytes_few}
@@ -40,6 +41,16 @@ pub returns-in-Err-clause-steady_unsent : goal.returns-in-Err-clause-steady_unse
 returns-in-Err-clause-steady_unsent g c is =
     let same : c.in-Err.fault ≡ faults.NoMemory = cc in
     c.in-Err.ensures.steady_unsent (ap Err same) ∙ c.loop-message.invariant.steady
+
+pub returns-in-Err-clause-by_one : goal.returns-in-Err-clause-by_one
+returns-in-Err-clause-by_one g c is =
+    let same : c.in-Err.fault ≡ faults.Write = cc in
+    c.in-Err.ensures.by_one (ap Err same) ∙ ap raise c.loop-message.invariant.steady
+
+pub returns-in-Err-clause-broken : goal.returns-in-Err-clause-broken
+returns-in-Err-clause-broken g c is =
+    let same : c.in-Err.fault ≡ faults.Write = cc in
+    c.in-Err.ensures.broken (ap Err same)
 
 pub take-requires-clause-few : goal.take-requires-clause-few
 take-requires-clause-few g c = agreed_then c.agreed_after-agreed.result c.agreed.result (request_view c.in-Message.message.request) c.agreed_after-agreed.ensures c.agreed.ensures.few

@@ -1,8 +1,9 @@
 -- The messages that came whole are answered, piece by piece.
 use Rattle.std.proofs.Common.{◌≡◌, ◌≤◌, ◌<◌, ◌+◌, length, take, Err, ap, ◌∙◌, refl, arith}
+use Rattle.pcfs_ports.specs.Faults.{raise}
 use Rattle.pcfs_session.proofs.StoredLemmas.{HasRisen-earlier}
 use Rattle.pcfs_session.proofs.TakenLemmas.{nothing_taken, IsShown-front, taken_shown, room_stays}
-use Rattle.nine_front.proofs.StillLemmas.{NothingFailedBefore-still, NothingFailedBefore-then}
+use Rattle.nine_front.proofs.StillLemmas.{NothingFailedBefore-still, NothingFailedBefore-then, open_no_read, open_no_write}
 use Rattle.nine_front.proofs.EndsLemmas.{NineEnds-unbegun, IsReading-start, IsReading-more, NineEnds-read_fault, NineEnds-too_long, NineEnds-piece, NineEnds-last}
 use Rattle.nine_front.proofs.serving.serve_nine.Goals as goal
 
@@ -86,3 +87,19 @@ returns-in-Err-speak_piece-clause-nothing_failed g c =
 
 pub returns-clause-nothing_failed : goal.returns-clause-nothing_failed
 returns-clause-nothing_failed g c = record { input = c.loop-taken.invariant.read_steady; output = c.loop-taken.invariant.write_steady }
+
+pub returns-in-Err-read_piece-clause-read_failed : goal.returns-in-Err-read_piece-clause-read_failed
+returns-in-Err-read_piece-clause-read_failed g c is = (c.in-Err-read_piece.ensures.by_one ∙ ap raise c.loop-taken.invariant.read_steady, c.in-Err-read_piece.ensures.broken)
+
+pub returns-then-count-eq0-clause-read_failed : goal.returns-then-count-eq0-clause-read_failed
+returns-then-count-eq0-clause-read_failed g c is = absurd (open_no_read _ _ c.end_of.ensures is)
+
+pub returns-then-count-eq0-clause-write_failed : goal.returns-then-count-eq0-clause-write_failed
+returns-then-count-eq0-clause-write_failed g c is = absurd (open_no_write _ _ c.end_of.ensures is)
+
+pub returns-in-Err-speak_piece-clause-read_failed : goal.returns-in-Err-speak_piece-clause-read_failed
+returns-in-Err-speak_piece-clause-read_failed g c is = absurd (c.in-Err-speak_piece.ensures.no_read is)
+
+pub returns-in-Err-speak_piece-clause-write_failed : goal.returns-in-Err-speak_piece-clause-write_failed
+returns-in-Err-speak_piece-clause-write_failed g c is =
+    (c.in-Err-speak_piece.ensures.by_one (ap Err is) ∙ ap raise c.loop-taken.invariant.write_steady, c.in-Err-speak_piece.ensures.broken (ap Err is))

@@ -2,7 +2,7 @@
 use Rattle.std.proofs.Common.{◌≡◌, ap, Err}
 use Rattle.nine_front.specs.declared.nine_end.NineEnd.TheVariants as ends
 use Rattle.nine_front.proofs.SpokenLemmas.{SpeaksHeld-open, EndsAtPiece-bad, EndsAtPiece-cut, EndsAtPiece-refused, unsent_write}
-use Rattle.nine_front.proofs.StillLemmas.{still_unsent}
+use Rattle.nine_front.proofs.StillLemmas.{still_unsent, unsent_no_read}
 use Rattle.nine_front.proofs.serving.speak_piece.Goals as goal
 
 pub returns-in-Err-clause-ends : goal.returns-in-Err-clause-ends
@@ -27,3 +27,16 @@ returns-in-Err-speak_held-clause-risen g c is =
 
 pub returns-in-Err-speak_held-clause-steady_end : goal.returns-in-Err-speak_held-clause-steady_end
 returns-in-Err-speak_held-clause-steady_end g c = still_unsent _ _ _ _ c.unsent_end.ensures (λ is. c.in-Err-speak_held.ensures.steady_unsent (ap Err is))
+
+pub returns-in-Err-speak_held-clause-by_one : goal.returns-in-Err-speak_held-clause-by_one
+returns-in-Err-speak_held-clause-by_one g c is =
+    let same : c.unsent_end.result ≡ ends.WriteFault = cc in
+    c.in-Err-speak_held.ensures.by_one (ap Err (unsent_write _ _ c.unsent_end.ensures same))
+
+pub returns-in-Err-speak_held-clause-broken : goal.returns-in-Err-speak_held-clause-broken
+returns-in-Err-speak_held-clause-broken g c is =
+    let same : c.unsent_end.result ≡ ends.WriteFault = cc in
+    c.in-Err-speak_held.ensures.broken (ap Err (unsent_write _ _ c.unsent_end.ensures same))
+
+pub returns-in-Err-speak_held-clause-no_read : goal.returns-in-Err-speak_held-clause-no_read
+returns-in-Err-speak_held-clause-no_read g c = unsent_no_read _ _ c.unsent_end.ensures
