@@ -78,3 +78,22 @@ module _ {I R : Type 0} (text : I → R → List ℕ) where
   -- no reply was written, and there is none
   pub none_out : (held held_after : Option (List ℕ)) → held_after ≡ held → HoldsButLast text held held_after [] []
   none_out held held_after same = record { some = record { count = 0; within = omega arith; held = same ∙ with_back-nil held }; earlier = omega arith }
+
+  -- the replies but the last have no more bytes than all
+  but_last_shorter : (items : List I) (replies : List R) → length (output_of text items (but_last replies)) ≤ length (output_of text items replies)
+  but_last_shorter [] replies = omega arith
+  but_last_shorter (item ∷ items) [] = omega arith
+  but_last_shorter (item ∷ items) (reply ∷ []) = omega arith
+  but_last_shorter (item ∷ items) (reply ∷ (next ∷ more)) =
+      omega (arith, longer (text item reply) (output_of text items (but_last (next ∷ more))) (output_of text items (next ∷ more)) [] (omega (arith, but_last_shorter items (next ∷ more))))
+
+  -- if nothing tells of what is no item, all of them are all but the last, and all of that
+  pub replies_alone : (held held_after : Option (List ℕ)) (items : List I) (replies : List R) → HoldsReplies text [] held held_after items replies → HoldsButLast text held held_after items replies
+  replies_alone held held_after items replies all = record {
+    some = record {
+      count = all.some.count;
+      within = omega (arith, all.some.within, ap length (append-nil (output_of text items replies)));
+      held = all.some.held ∙ ap (λ (b : List ℕ). with_back held (take all.some.count b)) (append-nil (output_of text items replies));
+    };
+    earlier = omega (arith, all.earlier, but_last_shorter items replies);
+  }
