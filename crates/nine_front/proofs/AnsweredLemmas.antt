@@ -33,7 +33,7 @@ use Rattle.nine_fids.specs.Taking.{IsTaken}
 use Rattle.nine_front.specs.Asking.{act_of, bytes_of, IsTurnOf, IsReplyTo, after_login, after_turn}
 use Rattle.nine_front.specs.Placed.{MessagePlaced, refused, answered, in_a_turn}
 use Rattle.nine_front.specs.Placed as places
-use Rattle.nine_front.specs.Said.{IsStopped, HasAnswered}
+use Rattle.nine_front.specs.Said.{HasAnswered}
 use Rattle.nine_front.specs.Walked.{MayHaveAsked, ComesTo, NeedsTurns}
 use Rattle.nine_front.proofs.StepLemmas.{comes_to, taken_to, comes_at, may_lack}
 use Rattle.nine_front.specs.Short.{IsShortReply}

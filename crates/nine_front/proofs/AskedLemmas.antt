@@ -3,7 +3,6 @@ use Rattle.std.proofs.Common.{◌≡◌, ◌∙◌, ℕ, List, [], ◌∷◌, �
 use Rattle.std.specs.Prelude.{ℤ}
 use Rattle.std.specs.Option.{option_map}
 use Rattle.bl_syntax.specs.declared.terms.NodeId.{NodeId}
-use Rattle.procap.specs.declared.procap.Procap.{Procap}
 use Rattle.journal_records.specs.declared.event.Event.{Event}
 use Rattle.access_history.specs.Base.{BaseView}
 use Rattle.pcfs_store.specs.Entries.{Root, StoreEntry, happened, stopped, state_of_entries}
@@ -12,13 +11,13 @@ use Rattle.session_history.specs.declared.reply.TurnReply.{TurnReply}
 use Rattle.session_history.specs.Laws.{asked_entry}
 use Rattle.session_history.specs.Turn.{StorePass, event_of, AnswersTurn, Turn}
 use Rattle.session_history.specs.Turn as turns
-use Rattle.nine_messages.specs.Requests.{RequestView, twalk, MessageView}
+use Rattle.nine_messages.specs.Requests.{twalk, MessageView}
 use Rattle.nine_messages.specs.Replies.{ReplyView}
 use Rattle.nine_fids.specs.declared.connection.Connection.{Connection}
 use Rattle.nine_fids.specs.declared.fid.FidFile.{FidFile}
 use Rattle.nine_fids.specs.declared.step.Step.TheVariants as steps
 use Rattle.nine_fids.specs.Steps.{decided}
-use Rattle.nine_front.specs.Asked.{Asks, in_one_turn, in_a_walk, IsAskedFor, AreAskedFor}
+use Rattle.nine_front.specs.Asked.{Asks, in_one_turn, in_a_walk, OneOfMessages, IsAskedByMessage, AreAskedByMessages}
 use Rattle.nine_front.specs.Asking.{look_of}
 use Rattle.nine_front.specs.Placed.{WalksPlaced, all_found, goes_on, no_procap, lacks_memory, MessagePlaced, refused, answered, in_a_turn, walks, without_memory, MessagesPlaced, no_message, one_more}
 use Rattle.nine_front.specs.Placed as places
@@ -66,25 +65,38 @@ turn_adds gives p before request _ _ (turns.failed clock answer entry running sh
     subst (Adds gives p before request) (sym (plain p.root (state_of_entries p.root before) p.number clock request answer (Some entry) answers).1) (record { moment = clock; shown = shown; answer = answer; answers = answers })
 turn_adds gives p before request _ _ turns.without_memory = tt
 
+-- ---- one of some messages
+
+module _ (gives : List StoreEntry → ℤ → Type 0) (p : StorePass) (history : List StoreEntry) (start : Connection) (from : ℕ) (heard : List MessageView) where
+  -- the last one
+  abbrev pub one_here : (told : List ReplyView) (s : Connection) (at : ℕ) (added : List StoreEntry) (m : MessageView) → MessagesPlaced gives p history start from heard told s at added → OneOfMessages gives p history start from (heard ++ m ∷ [])
+  one_here told s at added m placed = record { earlier = heard; message = m; later = []; among = refl; told = told; state = s; at = at; added = added; so_far = placed }
+
+  -- it is one of more
+  abbrev pub one_of_more : (more : List MessageView) → OneOfMessages gives p history start from heard → OneOfMessages gives p history start from (heard ++ more)
+  one_of_more more o = record {
+    earlier = o.earlier;
+    message = o.message;
+    later = o.later ++ more;
+    among = ap (λ (l : List MessageView). l ++ more) o.among ∙ append_assoc o.earlier (o.message ∷ o.later) more;
+    told = o.told;
+    state = o.state;
+    at = o.at;
+    added = o.added;
+    so_far = o.so_far;
+  }
+
 -- ---- what a message adds
 
 module _ (gives : List StoreEntry → ℤ → Type 0) (p : StorePass) (history : List StoreEntry) (start : Connection) (from : ℕ) where
-  all_both : (messages : List MessageView) (xs ys : List StoreEntry) → AreAskedFor gives p history start from messages xs → AreAskedFor gives p history start from messages ys → AreAskedFor gives p history start from messages (xs ++ ys)
+  all_both : (messages : List MessageView) (xs ys : List StoreEntry) → AreAskedByMessages gives p history start from messages xs → AreAskedByMessages gives p history start from messages ys → AreAskedByMessages gives p history start from messages (xs ++ ys)
   all_both messages [] ys one other = other
   all_both messages (x ∷ xs) ys one other = (one.0, all_both messages xs ys one.1 other)
 
   module _ (heard : List MessageView) (told : List ReplyView) (s : Connection) (at : ℕ) (added : List StoreEntry) (m : MessageView) (placed : MessagesPlaced gives p history start from heard told s at added) where
-    asked : (request : TurnRequest) (found after : List StoreEntry) (entry : StoreEntry) → Asks s m.request request → history ≡ found ++ (entry ∷ after) → Adds gives p found request (asked_entry entry) → IsAskedFor gives p history start from (heard ++ m ∷ []) entry
+    asked : (request : TurnRequest) (found after : List StoreEntry) (entry : StoreEntry) → Asks s m.request request → history ≡ found ++ (entry ∷ after) → Adds gives p found request (asked_entry entry) → IsAskedByMessage gives p history start from (heard ++ m ∷ []) entry
     asked request found after entry asks parts adds = record {
-      earlier = heard;
-      m = m;
-      later = [];
-      among = refl;
-      told = told;
-      state = s;
-      at = at;
-      added = added;
-      so_far = placed;
+      one = one_here gives p history start from heard told s at added m placed;
       request = request;
       asks = asks;
       found = found;
@@ -95,14 +107,14 @@ module _ (gives : List StoreEntry → ℤ → Type 0) (p : StorePass) (history :
       answers = adds.answers;
     }
 
-    all_asked : (request : TurnRequest) (found after : List StoreEntry) → Asks s m.request request → (given : List StoreEntry) → history ≡ found ++ (given ++ after) → AddsOne gives p found request given → AreAskedFor gives p history start from (heard ++ m ∷ []) given
+    all_asked : (request : TurnRequest) (found after : List StoreEntry) → Asks s m.request request → (given : List StoreEntry) → history ≡ found ++ (given ++ after) → AddsOne gives p found request given → AreAskedByMessages gives p history start from (heard ++ m ∷ []) given
     all_asked request found after asks [] parts adds = tt
     all_asked request found after asks (entry ∷ []) parts adds = (asked request found after entry asks parts adds, tt)
     all_asked request found after asks (entry ∷ next ∷ more) parts adds = absurd adds
 
     -- the names of a walk, of which these were before
     walk_asked : (fid newfid : ℕ) (node : NodeId) (who : List ℕ) → decided s None m.request ≡ (steps.Walk node, s) → s.caller ≡ Some who → (earlier : List (List ℕ)) (place : ℕ) (directory : NodeId) (names : List (List ℕ)) (found : List FidFile) (end : Option (List ℕ)) (to : ℕ) (given : List StoreEntry) →
-        m.request ≡ twalk fid newfid (earlier ++ names) → WalksPlaced gives p history s.purse who place directory names found end to given → AreAskedFor gives p history start from (heard ++ m ∷ []) given
+        m.request ≡ twalk fid newfid (earlier ++ names) → WalksPlaced gives p history s.purse who place directory names found end to given → AreAskedByMessages gives p history start from (heard ++ m ∷ []) given
     walk_asked fid newfid node who is caller earlier _ _ _ _ _ _ _ same (all_found place directory) = tt
     walk_asked fid newfid node who is caller earlier _ _ _ _ _ _ _ same (goes_on place mid to directory child name names q replied kind found end given more fits turn named rest) =
         let t = turn.placed in
@@ -116,7 +128,7 @@ module _ (gives : List StoreEntry → ℤ → Type 0) (p : StorePass) (history :
     walk_asked fid newfid node who is caller earlier _ _ _ _ _ _ _ same (no_procap place directory name names none) = tt
     walk_asked fid newfid node who is caller earlier _ _ _ _ _ _ _ same (lacks_memory place directory name names q fits) = tt
 
-    message_asked : (place : ℕ) (reply : ReplyView) (after : Connection) (to : ℕ) (given : List StoreEntry) → MessagePlaced gives p history place s m.request reply after to given → AreAskedFor gives p history start from (heard ++ m ∷ []) given
+    message_asked : (place : ℕ) (reply : ReplyView) (after : Connection) (to : ℕ) (given : List StoreEntry) → MessagePlaced gives p history place s m.request reply after to given → AreAskedByMessages gives p history start from (heard ++ m ∷ []) given
     message_asked place _ _ _ _ (refused control error asks is) = tt
     message_asked place _ _ _ _ (answered control answer after asks is) = tt
     message_asked place _ _ _ _ (in_a_turn control step request replied reply to given asks is turn_is turn told_is) =
@@ -126,17 +138,9 @@ module _ (gives : List StoreEntry → ℤ → Type 0) (p : StorePass) (history :
 
   -- ---- more messages
 
-  asked_more : (heard more : List MessageView) (entry : StoreEntry) → IsAskedFor gives p history start from heard entry → IsAskedFor gives p history start from (heard ++ more) entry
+  asked_more : (heard more : List MessageView) (entry : StoreEntry) → IsAskedByMessage gives p history start from heard entry → IsAskedByMessage gives p history start from (heard ++ more) entry
   asked_more heard more entry a = record {
-    earlier = a.earlier;
-    m = a.m;
-    later = a.later ++ more;
-    among = ap (λ (l : List MessageView). l ++ more) a.among ∙ append_assoc a.earlier (a.m ∷ a.later) more;
-    told = a.told;
-    state = a.state;
-    at = a.at;
-    added = a.added;
-    so_far = a.so_far;
+    one = one_of_more gives p history start from heard more a.one;
     request = a.request;
     asks = a.asks;
     found = a.found;
@@ -147,11 +151,11 @@ module _ (gives : List StoreEntry → ℤ → Type 0) (p : StorePass) (history :
     answers = a.answers;
   }
 
-  all_more : (heard more : List MessageView) (given : List StoreEntry) → AreAskedFor gives p history start from heard given → AreAskedFor gives p history start from (heard ++ more) given
+  all_more : (heard more : List MessageView) (given : List StoreEntry) → AreAskedByMessages gives p history start from heard given → AreAskedByMessages gives p history start from (heard ++ more) given
   all_more heard more [] all = tt
   all_more heard more (entry ∷ given) all = (asked_more heard more entry all.0, all_more heard more given all.1)
 
-  pub entries_asked : (heard : List MessageView) (told : List ReplyView) (end : Connection) (to : ℕ) (given : List StoreEntry) → MessagesPlaced gives p history start from heard told end to given → AreAskedFor gives p history start from heard given
+  pub entries_asked : (heard : List MessageView) (told : List ReplyView) (end : Connection) (to : ℕ) (given : List StoreEntry) → MessagesPlaced gives p history start from heard told end to given → AreAskedByMessages gives p history start from heard given
   entries_asked _ _ _ _ _ no_message = tt
   entries_asked _ _ _ _ _ (one_more heard told s at given m reply after to more placed here) =
       all_both (heard ++ m ∷ []) given more (all_more heard (m ∷ []) given (entries_asked heard told s at given placed)) (message_asked heard told s at given m placed at reply after to more here)

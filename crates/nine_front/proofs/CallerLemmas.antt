@@ -6,7 +6,7 @@ use Rattle.std.specs.Option.{option_map}
 use Rattle.bl_syntax.specs.declared.terms.NodeId.{NodeId}
 use Rattle.procap.specs.declared.procap.Procap.{Procap}
 use Rattle.policy_statement.specs.Messages.{login_message}
-use Rattle.policy_statement.specs.Ring.{KeyView, is_accepted}
+use Rattle.policy_statement.specs.Ring.{is_accepted}
 use Rattle.journal_records.specs.declared.event.Event.{Event}
 use Rattle.journal_records.specs.declared.event.Event.TheVariants.{Registered, Issued, Withdrawn, Acted}
 use Rattle.access_history.specs.declared.request.StepRequest.{StepRequest}
@@ -27,7 +27,6 @@ use Rattle.nine_messages.specs.Replies.{ReplyView}
 use Rattle.nine_fids.specs.declared.connection.Connection.{Connection}
 use Rattle.nine_fids.specs.declared.control.Control.{Control}
 use Rattle.nine_fids.specs.declared.fid.FidFile.{FidFile}
-use Rattle.nine_fids.specs.declared.step.Answer.{Answer}
 use Rattle.nine_fids.specs.declared.step.Step.{Step}
 use Rattle.nine_fids.specs.declared.step.Step.TheVariants as steps
 use Rattle.nine_fids.specs.States.{begun_with}
@@ -35,10 +34,11 @@ use Rattle.nine_fids.specs.Steps.{Outcome, decided}
 use Rattle.nine_fids.specs.Tests.{IsAskedBy}
 use Rattle.nine_fids.specs.Walks.{last_of, standing_for, walked}
 use Rattle.nine_fids.proofs.LawLemmas.{Changes, leaves}
-use Rattle.nine_front.specs.Asked.{HasSigned, IsEventByAccepted, IsMetByAccepted, IsByAccepted}
-use Rattle.nine_front.specs.Asking.{IsTurnOf, act_of, look_of, after_login, after_turn}
+use Rattle.nine_front.specs.Asked.{Asks, in_one_turn, HasLoggedIn, IsEventByLogin, IsMetByLogin, IsByLogin}
+use Rattle.nine_front.specs.Asking.{IsTurnOf, look_of, after_login, after_turn}
 use Rattle.nine_front.specs.Placed.{WalksPlaced, all_found, goes_on, no_procap, lacks_memory, MessagePlaced, refused, answered, in_a_turn, walks, without_memory, MessagesPlaced, no_message, one_more}
 use Rattle.nine_front.specs.Placed as places
+use Rattle.nine_front.proofs.AskedLemmas.{one_here, one_of_more}
 
 -- ---- what a request leaves that is answered at once
 
@@ -96,66 +96,72 @@ turn_accepted gives p before request _ _ who nonce signature (turns.kept clock a
 turn_accepted gives p before request _ _ who nonce signature (turns.failed clock answer entry running shown answers room) asks told = absurd cc
 turn_accepted gives p before request _ _ who nonce signature turns.without_memory asks told = absurd cc
 
-module _ (ring : List KeyView) (nonce : List ℕ) where
+module _ (gives : List StoreEntry → ℤ → Type 0) (p : StorePass) (history : List StoreEntry) (nonce : List ℕ) (from : ℕ) where
+  abbrev Logged : List MessageView → List ℕ → Type 0
+  Logged messages who = HasLoggedIn gives p history nonce from messages who
+
+  abbrev By : List MessageView → StoreEntry → Type 0
+  By messages entry = IsByLogin gives p history nonce from messages entry
+
   -- ---- more messages
 
-  pub signed_more : (messages more : List MessageView) (who : List ℕ) → HasSigned ring nonce messages who → HasSigned ring nonce (messages ++ more) who
-  signed_more messages more who h = record {
-    before = h.before;
-    m = h.m;
-    after = h.after ++ more;
-    among = ap (λ (l : List MessageView). l ++ more) h.among ∙ append_assoc h.before (h.m ∷ h.after) more;
-    state = h.state;
-    asked = h.asked;
-    asks = h.asks;
+  logged_more : (messages more : List MessageView) (who : List ℕ) → Logged messages who → Logged (messages ++ more) who
+  logged_more messages more who h = record {
+    one = one_of_more gives p history (begun_with nonce) from messages more h.one;
     signature = h.signature;
-    is = h.is;
+    asks = h.asks;
     accepted = h.accepted;
+    reply = h.reply;
+    after = h.after;
+    to = h.to;
+    given = h.given;
+    placed = h.placed;
+    logged_in = h.logged_in;
   }
 
-  event_more : (messages more : List MessageView) (event : Event) → IsEventByAccepted ring nonce messages event → IsEventByAccepted ring nonce (messages ++ more) event
-  event_more messages more (Acted pass caller op procaps moment) by_some = signed_more messages more caller by_some
+  event_more : (messages more : List MessageView) (event : Event) → IsEventByLogin gives p history nonce from messages event → IsEventByLogin gives p history nonce from (messages ++ more) event
+  event_more messages more (Acted pass caller op procaps moment) by_some = logged_more messages more caller by_some
   event_more messages more (Registered pass statement signature) by_some = by_some
   event_more messages more (Issued pass cited proof grant) by_some = by_some
   event_more messages more (Withdrawn pass number signature) by_some = by_some
 
-  entry_more : (messages more : List MessageView) (entry : StoreEntry) → IsByAccepted ring nonce messages entry → IsByAccepted ring nonce (messages ++ more) entry
+  entry_more : (messages more : List MessageView) (entry : StoreEntry) → By messages entry → By (messages ++ more) entry
   entry_more messages more (happened event) by_some = event_more messages more event by_some
   entry_more messages more (checkpointed pass) by_some = by_some
   entry_more messages more (stopped pass None) by_some = by_some
   entry_more messages more (stopped pass (Some event)) by_some = event_more messages more event by_some
 
-  all_more : (messages more : List MessageView) (given : List StoreEntry) → AllByRecursion (IsByAccepted ring nonce messages) given → AllByRecursion (IsByAccepted ring nonce (messages ++ more)) given
+  all_more : (messages more : List MessageView) (given : List StoreEntry) → AllByRecursion (By messages) given → AllByRecursion (By (messages ++ more)) given
   all_more messages more [] all = tt
   all_more messages more (entry ∷ given) all = (entry_more messages more entry all.0, all_more messages more given all.1)
 
-  all_both : (messages : List MessageView) (xs ys : List StoreEntry) → AllByRecursion (IsByAccepted ring nonce messages) xs → AllByRecursion (IsByAccepted ring nonce messages) ys → AllByRecursion (IsByAccepted ring nonce messages) (xs ++ ys)
+  all_both : (messages : List MessageView) (xs ys : List StoreEntry) → AllByRecursion (By messages) xs → AllByRecursion (By messages) ys → AllByRecursion (By messages) (xs ++ ys)
   all_both messages [] ys one other = other
   all_both messages (x ∷ xs) ys one other = (one.0, all_both messages xs ys one.1 other)
 
   -- ---- who is logged in
 
-  abbrev IsSignedIn : List MessageView → Option (List ℕ) → Type 0
-  IsSignedIn messages None = Unit {0}
-  IsSignedIn messages (Some who) = HasSigned ring nonce messages who
+  abbrev IsCallerLogged : List MessageView → Option (List ℕ) → Type 0
+  IsCallerLogged messages None = Unit {0}
+  IsCallerLogged messages (Some who) = Logged messages who
 
-  signed_in_more : (messages more : List MessageView) (caller : Option (List ℕ)) → IsSignedIn messages caller → IsSignedIn (messages ++ more) caller
-  signed_in_more messages more None signed = tt
-  signed_in_more messages more (Some who) signed = signed_more messages more who signed
+  caller_more : (messages more : List MessageView) (caller : Option (List ℕ)) → IsCallerLogged messages caller → IsCallerLogged (messages ++ more) caller
+  caller_more messages more None logged = tt
+  caller_more messages more (Some who) logged = logged_more messages more who logged
 
-  -- the connection has this nonce, and whoever is logged in was by one of these messages
+  -- the connection has this nonce, and one of these messages logged in whoever is
   record Stands (messages : List MessageView) (s : Connection) : Type 0 where
     over : s.nonce ≡ nonce
-    signed : IsSignedIn messages s.caller
+    logged : IsCallerLogged messages s.caller
 
   stands_alike : (messages more : List MessageView) (s after : Connection) → IsAlike s after → Stands messages s → Stands (messages ++ more) after
   stands_alike messages more s after alike h = record {
     over = alike.0 ∙ h.over;
-    signed = signed_in_more messages more after.caller (subst (IsSignedIn messages) (sym alike.1) h.signed);
+    logged = caller_more messages more after.caller (subst (IsCallerLogged messages) (sym alike.1) h.logged);
   }
 
-  signed_as : (messages : List MessageView) (s : Connection) (who : List ℕ) → Stands messages s → s.caller ≡ Some who → HasSigned ring nonce messages who
-  signed_as messages s who h caller = subst (IsSignedIn messages) caller h.signed
+  logged_as : (messages : List MessageView) (s : Connection) (who : List ℕ) → Stands messages s → s.caller ≡ Some who → Logged messages who
+  logged_as messages s who h caller = subst (IsCallerLogged messages) caller h.logged
 
   -- ---- what a turn keeps
 
@@ -164,13 +170,13 @@ module _ (ring : List KeyView) (nonce : List ℕ) where
   IsActBy messages (requests.Step (acts.Register statement signature)) = ⊥
   IsActBy messages (requests.Step (acts.Withdraw number signature)) = ⊥
   IsActBy messages (requests.Step (acts.Issue checked)) = ⊥
-  IsActBy messages (requests.Step (acts.Act who op procaps)) = HasSigned ring nonce messages who
+  IsActBy messages (requests.Step (acts.Act who op procaps)) = Logged messages who
   IsActBy messages (requests.Step (acts.ShowProcap number who)) = ⊥
   IsActBy messages (requests.Cite numbers) = ⊥
   IsActBy messages requests.Checkpoint = ⊥
   IsActBy messages (requests.Login who over signature) = Unit {0}
 
-  event_by : (messages : List MessageView) (authority : Authority) (state : BaseView) (pass : ℕ) (clock : ℤ) (request : StepRequest) (reply : StepReply) (event : Event) → IsActBy messages (requests.Step request) → Answers authority state pass clock request reply (Some event) → IsEventByAccepted ring nonce messages event
+  event_by : (messages : List MessageView) (authority : Authority) (state : BaseView) (pass : ℕ) (clock : ℤ) (request : StepRequest) (reply : StepReply) (event : Event) → IsActBy messages (requests.Step request) → Answers authority state pass clock request reply (Some event) → IsEventByLogin gives p history nonce from messages event
   event_by messages authority state pass clock request reply event by_some (registered statement signature may) = by_some
   event_by messages authority state pass clock request reply event by_some (withdrawn number signature may) = by_some
   event_by messages authority state pass clock request reply event by_some (issued checked rising granted stand) = by_some
@@ -178,7 +184,7 @@ module _ (ring : List KeyView) (nonce : List ℕ) where
 
   abbrev IsEntryBy : List MessageView → Option StoreEntry → Type 0
   IsEntryBy messages None = Unit {0}
-  IsEntryBy messages (Some entry) = IsByAccepted ring nonce messages entry
+  IsEntryBy messages (Some entry) = By messages entry
 
   of_answer : (messages : List MessageView) (authority : Authority) (state : BaseView) (pass : ℕ) (clock : ℤ) (request : StepRequest) (reply : StepReply) (event : Option Event) → IsActBy messages (requests.Step request) → Answers authority state pass clock request reply event → IsEntryBy messages (option_map happened event)
   of_answer messages authority state pass clock request reply None by_some answers = tt
@@ -193,109 +199,114 @@ module _ (ring : List KeyView) (nonce : List ℕ) where
   of_turn_answer messages root state pass clock _ _ _ by_some (turns.rejects who over signature is) = tt
 
   -- what was being added when a disk failed
-  met_by : (messages : List MessageView) (entry : StoreEntry) → IsByAccepted ring nonce messages entry → IsMetByAccepted ring nonce messages (event_of entry)
+  met_by : (messages : List MessageView) (entry : StoreEntry) → By messages entry → IsMetByLogin gives p history nonce from messages (event_of entry)
   met_by messages (happened event) by_some = by_some
   met_by messages (checkpointed pass) by_some = by_some
   met_by messages (stopped pass met) by_some = by_some
 
-  turn_by : (messages : List MessageView) (gives : List StoreEntry → ℤ → Type 0) (p : StorePass) (before : List StoreEntry) (request : TurnRequest) (reply : TurnReply) (given : List StoreEntry) → IsActBy messages request → Turn gives p before request reply given → AllByRecursion (IsByAccepted ring nonce messages) given
-  turn_by messages gives p before request _ _ by_some (turns.was_stopped is) = tt
-  turn_by messages gives p before request _ _ by_some (turns.answered clock answer running shown answers) = tt
-  turn_by messages gives p before request _ _ by_some (turns.full clock answer entry running shown answers is_full) = tt
-  turn_by messages gives p before request _ _ by_some (turns.kept clock answer entry running shown answers room) =
+  turn_by : (messages : List MessageView) (before : List StoreEntry) (request : TurnRequest) (reply : TurnReply) (given : List StoreEntry) → IsActBy messages request → Turn gives p before request reply given → AllByRecursion (By messages) given
+  turn_by messages before request _ _ by_some (turns.was_stopped is) = tt
+  turn_by messages before request _ _ by_some (turns.answered clock answer running shown answers) = tt
+  turn_by messages before request _ _ by_some (turns.full clock answer entry running shown answers is_full) = tt
+  turn_by messages before request _ _ by_some (turns.kept clock answer entry running shown answers room) =
       (of_turn_answer messages p.root (state_of_entries p.root before) p.number clock request answer (Some entry) by_some answers, tt)
-  turn_by messages gives p before request _ _ by_some (turns.failed clock answer entry running shown answers room) =
+  turn_by messages before request _ _ by_some (turns.failed clock answer entry running shown answers room) =
       (met_by messages entry (of_turn_answer messages p.root (state_of_entries p.root before) p.number clock request answer (Some entry) by_some answers), tt)
-  turn_by messages gives p before request _ _ by_some turns.without_memory = tt
+  turn_by messages before request _ _ by_some turns.without_memory = tt
 
   -- who acts by the turn of a step
   step_by : (messages : List MessageView) (s : Connection) (m : RequestView) (step : Step) (request : TurnRequest) → Stands messages s → IsTurnOf s m step request → IsActBy messages request
   step_by messages s m (steps.Refused error) request h turn = absurd turn
   step_by messages s m (steps.Answered answer) request h turn = absurd turn
   step_by messages s m (steps.Login who signature) request h turn = subst (IsActBy messages) (sym turn) tt
-  step_by messages s m (steps.Read node p offset len) request h turn = subst (IsActBy messages) (sym turn.2) (signed_as messages s turn.0 h turn.1)
-  step_by messages s m (steps.Write node p offset) request h turn = subst (IsActBy messages) (sym turn.2) (signed_as messages s turn.0 h turn.1)
+  step_by messages s m (steps.Read node p offset len) request h turn = subst (IsActBy messages) (sym turn.2) (logged_as messages s turn.0 h turn.1)
+  step_by messages s m (steps.Write node p offset) request h turn = subst (IsActBy messages) (sym turn.2) (logged_as messages s turn.0 h turn.1)
   step_by messages s m (steps.Walk node) request h turn = absurd turn
 
-module _ (gives : List StoreEntry → ℤ → Type 0) (p : StorePass) (history : List StoreEntry) (nonce : List ℕ) where
-  -- ---- after a message
+  -- ---- a message after others
 
-  login_stands : (messages : List MessageView) (s : Connection) (m : MessageView) (asked : Option Control) (who signature : List ℕ) (replied : TurnReply) (before given : List StoreEntry) → Stands p.root.ring nonce messages s → IsAskedBy s m.request asked →
-      decided s asked m.request ≡ (steps.Login who signature, s) → Turn gives p before (requests.Login who s.nonce signature) replied given → Stands p.root.ring nonce (messages ++ m ∷ []) (after_login s who replied)
-  login_stands messages s m asked who signature (turn_replies.Step reply) before given h asks is turn = stands_alike p.root.ring nonce messages (m ∷ []) s s (refl, refl) h
-  login_stands messages s m asked who signature (turn_replies.Cited cites) before given h asks is turn = stands_alike p.root.ring nonce messages (m ∷ []) s s (refl, refl) h
-  login_stands messages s m asked who signature turn_replies.LoggedIn before given h asks is turn =
-      let accepted = turn_accepted gives p before (requests.Login who s.nonce signature) turn_replies.LoggedIn given who s.nonce signature turn refl refl in
-      record {
-        over = h.over;
-        signed = record {
-          before = messages;
-          m = m;
-          after = [];
-          among = refl;
-          state = s;
-          asked = asked;
-          asks = asks;
-          signature = signature;
-          is = is;
-          accepted = subst (λ (n : List ℕ). is_accepted p.root.ring who (login_message who n) signature ≡ true) h.over accepted;
-        };
-      }
-  login_stands messages s m asked who signature turn_replies.Checkpointed before given h asks is turn = stands_alike p.root.ring nonce messages (m ∷ []) s s (refl, refl) h
-  login_stands messages s m asked who signature turn_replies.Full before given h asks is turn = stands_alike p.root.ring nonce messages (m ∷ []) s s (refl, refl) h
-  login_stands messages s m asked who signature turn_replies.Stopped before given h asks is turn = stands_alike p.root.ring nonce messages (m ∷ []) s s (refl, refl) h
-  login_stands messages s m asked who signature turn_replies.NoMemory before given h asks is turn = stands_alike p.root.ring nonce messages (m ∷ []) s s (refl, refl) h
+  module _ (messages : List MessageView) (told : List ReplyView) (s : Connection) (at : ℕ) (added : List StoreEntry) (m : MessageView) (so_far : MessagesPlaced gives p history (begun_with nonce) from messages told s at added) (h : Stands messages s) where
+    stays : Stands (messages ++ m ∷ []) s
+    stays = stands_alike messages (m ∷ []) s s (refl, refl) h
 
-  turn_stands : (messages : List MessageView) (s : Connection) (m : MessageView) (asked : Option Control) (step : Step) (request : TurnRequest) (replied : TurnReply) (before given : List StoreEntry) → Stands p.root.ring nonce messages s → IsAskedBy s m.request asked →
-      decided s asked m.request ≡ (step, s) → IsTurnOf s m.request step request → Turn gives p before request replied given → Stands p.root.ring nonce (messages ++ m ∷ []) (after_turn s step replied)
-  turn_stands messages s m asked (steps.Refused error) request replied before given h asks is turns_is turn = absurd turns_is
-  turn_stands messages s m asked (steps.Answered answer) request replied before given h asks is turns_is turn = absurd turns_is
-  turn_stands messages s m asked (steps.Login who signature) request replied before given h asks is turns_is turn =
-      login_stands messages s m asked who signature replied before given h asks is (subst (λ (r : TurnRequest). Turn gives p before r replied given) turns_is turn)
-  turn_stands messages s m asked (steps.Read node q offset len) request replied before given h asks is turns_is turn = stands_alike p.root.ring nonce messages (m ∷ []) s s (refl, refl) h
-  turn_stands messages s m asked (steps.Write node q offset) request replied before given h asks is turns_is turn = stands_alike p.root.ring nonce messages (m ∷ []) s s (refl, refl) h
-  turn_stands messages s m asked (steps.Walk node) request replied before given h asks is turns_is turn = absurd turns_is
+    -- an accepted login
+    logs_in : (who signature : List ℕ) (before taken : List StoreEntry) (reply : ReplyView) (to : ℕ) (given : List StoreEntry) → Asks s m.request (requests.Login who s.nonce signature) →
+        Turn gives p before (requests.Login who s.nonce signature) turn_replies.LoggedIn taken → MessagePlaced gives p history at s m.request reply (record s { caller = Some who }) to given → Stands (messages ++ m ∷ []) (record s { caller = Some who })
+    logs_in who signature before taken reply to given asks turn here =
+        let accepted = turn_accepted gives p before (requests.Login who s.nonce signature) turn_replies.LoggedIn taken who s.nonce signature turn refl refl in
+        record {
+          over = h.over;
+          logged = record {
+            one = one_here gives p history (begun_with nonce) from messages told s at added m so_far;
+            signature = signature;
+            asks = subst (λ (n : List ℕ). Asks s m.request (requests.Login who n signature)) h.over asks;
+            accepted = subst (λ (n : List ℕ). is_accepted p.root.ring who (login_message who n) signature ≡ true) h.over accepted;
+            reply = reply;
+            after = record s { caller = Some who };
+            to = to;
+            given = given;
+            placed = here;
+            logged_in = refl;
+          };
+        }
 
-  message_stands : (messages : List MessageView) (s : Connection) (m : MessageView) (from : ℕ) (reply : ReplyView) (after : Connection) (to : ℕ) (given : List StoreEntry) → Stands p.root.ring nonce messages s → MessagePlaced gives p history from s m.request reply after to given → Stands p.root.ring nonce (messages ++ m ∷ []) after
-  message_stands messages s m from _ _ _ _ h (refused asked error asks is) = stands_alike p.root.ring nonce messages (m ∷ []) s s (refl, refl) h
-  message_stands messages s m from _ _ _ _ h (answered asked answer after asks is) = stands_alike p.root.ring nonce messages (m ∷ []) s after (alike_decided s asked m.request (steps.Answered answer) after is) h
-  message_stands messages s m from _ _ _ _ h (in_a_turn asked step request replied reply to given asks is turns_is turn told) = turn_stands messages s m asked step request replied turn.before given h asks is turns_is turn.turn
-  message_stands messages s m from _ _ _ _ h (walks fid newfid names node who found end to given same is caller walk) =
-      stands_alike p.root.ring nonce messages (m ∷ []) s (walked s newfid (length names) found) (alike_walked s newfid (length names) found) h
-  message_stands messages s m from _ _ _ _ h (without_memory may) = stands_alike p.root.ring nonce messages (m ∷ []) s s (refl, refl) h
+    login_stands : (who signature : List ℕ) (replied : TurnReply) (before taken : List StoreEntry) (reply : ReplyView) (to : ℕ) (given : List StoreEntry) → Asks s m.request (requests.Login who s.nonce signature) →
+        Turn gives p before (requests.Login who s.nonce signature) replied taken → MessagePlaced gives p history at s m.request reply (after_login s who replied) to given → Stands (messages ++ m ∷ []) (after_login s who replied)
+    login_stands who signature (turn_replies.Step done) before taken reply to given asks turn here = stays
+    login_stands who signature (turn_replies.Cited cites) before taken reply to given asks turn here = stays
+    login_stands who signature turn_replies.LoggedIn before taken reply to given asks turn here = logs_in who signature before taken reply to given asks turn here
+    login_stands who signature turn_replies.Checkpointed before taken reply to given asks turn here = stays
+    login_stands who signature turn_replies.Full before taken reply to given asks turn here = stays
+    login_stands who signature turn_replies.Stopped before taken reply to given asks turn here = stays
+    login_stands who signature turn_replies.NoMemory before taken reply to given asks turn here = stays
 
-  messages_stand : (from : ℕ) (messages : List MessageView) (replies : List ReplyView) (end : Connection) (to : ℕ) (given : List StoreEntry) → MessagesPlaced gives p history (begun_with nonce) from messages replies end to given → Stands p.root.ring nonce messages end
-  messages_stand from _ _ _ _ _ no_message = record { over = refl; signed = tt }
-  messages_stand from _ _ _ _ _ (one_more messages replies s at given m reply after to more placed here) =
-      message_stands messages s m at reply after to more (messages_stand from messages replies s at given placed) here
+    turn_stands : (step : Step) (request : TurnRequest) (replied : TurnReply) (before taken : List StoreEntry) (reply : ReplyView) (to : ℕ) (given : List StoreEntry) → IsTurnOf s m.request step request → Asks s m.request request →
+        Turn gives p before request replied taken → MessagePlaced gives p history at s m.request reply (after_turn s step replied) to given → Stands (messages ++ m ∷ []) (after_turn s step replied)
+    turn_stands (steps.Refused error) request replied before taken reply to given turns_is asks turn here = absurd turns_is
+    turn_stands (steps.Answered answer) request replied before taken reply to given turns_is asks turn here = absurd turns_is
+    turn_stands (steps.Login who signature) request replied before taken reply to given turns_is asks turn here =
+        login_stands who signature replied before taken reply to given (subst (Asks s m.request) turns_is asks) (subst (λ (r : TurnRequest). Turn gives p before r replied taken) turns_is turn) here
+    turn_stands (steps.Read node q offset len) request replied before taken reply to given turns_is asks turn here = stays
+    turn_stands (steps.Write node q offset) request replied before taken reply to given turns_is asks turn here = stays
+    turn_stands (steps.Walk node) request replied before taken reply to given turns_is asks turn here = absurd turns_is
 
-  pub logins_accepted : (from : ℕ) (messages : List MessageView) (replies : List ReplyView) (end : Connection) (to : ℕ) (given : List StoreEntry) (who : List ℕ) → MessagesPlaced gives p history (begun_with nonce) from messages replies end to given → end.caller ≡ Some who → HasSigned p.root.ring nonce messages who
-  logins_accepted from messages replies end to given who placed caller = signed_as p.root.ring nonce messages end who (messages_stand from messages replies end to given placed) caller
+    message_stands : (reply : ReplyView) (after : Connection) (to : ℕ) (given : List StoreEntry) → MessagePlaced gives p history at s m.request reply after to given → Stands (messages ++ m ∷ []) after
+    message_stands _ _ _ _ (refused asked error asks is) = stays
+    message_stands _ _ _ _ (answered asked answer after asks is) = stands_alike messages (m ∷ []) s after (alike_decided s asked m.request (steps.Answered answer) after is) h
+    message_stands _ _ _ _ (in_a_turn asked step request replied reply to given asks is turns_is turn told_is) =
+        turn_stands step request replied turn.before given reply to given turns_is (in_one_turn asked step request asks is turns_is) turn.turn (in_a_turn asked step request replied reply to given asks is turns_is turn told_is)
+    message_stands _ _ _ _ (walks fid newfid names node who found end to given same is caller walk) =
+        stands_alike messages (m ∷ []) s (walked s newfid (length names) found) (alike_walked s newfid (length names) found) h
+    message_stands _ _ _ _ (without_memory may) = stays
 
-  -- ---- what a message adds
+    -- what it adds
 
-  walk_by : (messages : List MessageView) (purse : List Procap) (who : List ℕ) → HasSigned p.root.ring nonce messages who → (from : ℕ) (node : NodeId) (names : List (List ℕ)) (found : List FidFile) (end : Option (List ℕ)) (to : ℕ) (given : List StoreEntry) →
-      WalksPlaced gives p history purse who from node names found end to given → AllByRecursion (IsByAccepted p.root.ring nonce messages) given
-  walk_by messages purse who signed _ _ _ _ _ _ _ (all_found from node) = tt
-  walk_by messages purse who signed _ _ _ _ _ _ _ (goes_on from at to node child name names q replied kind found end given more fits turn named rest) =
-      all_both p.root.ring nonce messages given more (turn_by p.root.ring nonce messages gives p turn.placed.before (look_of who node name q) replied given signed turn.placed.turn) (walk_by messages purse who signed at child names found end to more rest)
-  walk_by messages purse who signed _ _ _ _ _ _ _ (places.ends from to node name names q replied kind line given fits turn named is) =
-      turn_by p.root.ring nonce messages gives p turn.placed.before (look_of who node name q) replied given signed turn.placed.turn
-  walk_by messages purse who signed _ _ _ _ _ _ _ (no_procap from node name names none) = tt
-  walk_by messages purse who signed _ _ _ _ _ _ _ (lacks_memory from node name names q fits) = tt
+    walk_by : (purse : List Procap) (who : List ℕ) → Logged messages who → (place : ℕ) (node : NodeId) (names : List (List ℕ)) (found : List FidFile) (end : Option (List ℕ)) (to : ℕ) (given : List StoreEntry) → WalksPlaced gives p history purse who place node names found end to given →
+        AllByRecursion (By messages) given
+    walk_by purse who logged _ _ _ _ _ _ _ (all_found place node) = tt
+    walk_by purse who logged _ _ _ _ _ _ _ (goes_on place mid to node child name names q replied kind found end given more fits turn named rest) =
+        all_both messages given more (turn_by messages turn.placed.before (look_of who node name q) replied given logged turn.placed.turn) (walk_by purse who logged mid child names found end to more rest)
+    walk_by purse who logged _ _ _ _ _ _ _ (places.ends place to node name names q replied kind line given fits turn named is) = turn_by messages turn.placed.before (look_of who node name q) replied given logged turn.placed.turn
+    walk_by purse who logged _ _ _ _ _ _ _ (no_procap place node name names none) = tt
+    walk_by purse who logged _ _ _ _ _ _ _ (lacks_memory place node name names q fits) = tt
 
-  message_by : (messages : List MessageView) (s : Connection) (m : RequestView) (from : ℕ) (reply : ReplyView) (after : Connection) (to : ℕ) (given : List StoreEntry) → Stands p.root.ring nonce messages s → MessagePlaced gives p history from s m reply after to given → AllByRecursion (IsByAccepted p.root.ring nonce messages) given
-  message_by messages s m from _ _ _ _ h (refused asked error asks is) = tt
-  message_by messages s m from _ _ _ _ h (answered asked answer after asks is) = tt
-  message_by messages s m from _ _ _ _ h (in_a_turn asked step request replied reply to given asks is turns_is turn told) =
-      turn_by p.root.ring nonce messages gives p turn.before request replied given (step_by p.root.ring nonce messages s m step request h turns_is) turn.turn
-  message_by messages s m from _ _ _ _ h (walks fid newfid names node who found end to given same is caller walk) =
-      walk_by messages s.purse who (signed_as p.root.ring nonce messages s who h caller) from node names found end to given walk
-  message_by messages s m from _ _ _ _ h (without_memory may) = tt
+    message_by : (reply : ReplyView) (after : Connection) (to : ℕ) (given : List StoreEntry) → MessagePlaced gives p history at s m.request reply after to given → AllByRecursion (By messages) given
+    message_by _ _ _ _ (refused asked error asks is) = tt
+    message_by _ _ _ _ (answered asked answer after asks is) = tt
+    message_by _ _ _ _ (in_a_turn asked step request replied reply to given asks is turns_is turn told_is) = turn_by messages turn.before request replied given (step_by messages s m.request step request h turns_is) turn.turn
+    message_by _ _ _ _ (walks fid newfid names node who found end to given same is caller walk) = walk_by s.purse who (logged_as messages s who h caller) at node names found end to given walk
+    message_by _ _ _ _ (without_memory may) = tt
 
-  pub callers_accepted : (from : ℕ) (messages : List MessageView) (replies : List ReplyView) (end : Connection) (to : ℕ) (given : List StoreEntry) → MessagesPlaced gives p history (begun_with nonce) from messages replies end to given → AllByRecursion (IsByAccepted p.root.ring nonce messages) given
-  callers_accepted from _ _ _ _ _ no_message = tt
-  callers_accepted from _ _ _ _ _ (one_more messages replies s at given m reply after to more placed here) =
-      all_both p.root.ring nonce (messages ++ m ∷ []) given more
-      (all_more p.root.ring nonce messages (m ∷ []) given (callers_accepted from messages replies s at given placed))
-      (all_more p.root.ring nonce messages (m ∷ []) more (message_by messages s m.request at reply after to more (messages_stand from messages replies s at given placed) here))
+  messages_stand : (messages : List MessageView) (replies : List ReplyView) (end : Connection) (to : ℕ) (given : List StoreEntry) → MessagesPlaced gives p history (begun_with nonce) from messages replies end to given → Stands messages end
+  messages_stand _ _ _ _ _ no_message = record { over = refl; logged = tt }
+  messages_stand _ _ _ _ _ (one_more messages replies s at given m reply after to more placed here) =
+      message_stands messages replies s at given m placed (messages_stand messages replies s at given placed) reply after to more here
+
+  pub logins_accepted : (messages : List MessageView) (replies : List ReplyView) (end : Connection) (to : ℕ) (given : List StoreEntry) (who : List ℕ) → MessagesPlaced gives p history (begun_with nonce) from messages replies end to given → end.caller ≡ Some who → HasLoggedIn gives p history nonce from messages who
+  logins_accepted messages replies end to given who placed caller = logged_as messages end who (messages_stand messages replies end to given placed) caller
+
+  pub callers_accepted : (messages : List MessageView) (replies : List ReplyView) (end : Connection) (to : ℕ) (given : List StoreEntry) → MessagesPlaced gives p history (begun_with nonce) from messages replies end to given → AllByRecursion (IsByLogin gives p history nonce from messages) given
+  callers_accepted _ _ _ _ _ no_message = tt
+  callers_accepted _ _ _ _ _ (one_more messages replies s at given m reply after to more placed here) =
+      all_both (messages ++ m ∷ []) given more (all_more messages (m ∷ []) given (callers_accepted messages replies s at given placed))
+      (all_more messages (m ∷ []) more (message_by messages replies s at given m placed (messages_stand messages replies s at given placed) reply after to more here))

@@ -1,10 +1,10 @@
--- The messages that are cut off the front of what came, one after the other.
-use Rattle.std.proofs.Common.{◌≡◌, ◌∙◌, ◌<◌, ◌≤◌, ◌+◌, ◌-◌, ℕ, Bool, true, false, cond, nat_lt, min, List, [], ◌∷◌, ◌++◌, length, drop, Option, refl, sym, ap, subst, arith, append-nil, length-append}
+-- The message that is cut off the front of what came.
+use Rattle.std.proofs.Common.{◌≡◌, ◌∙◌, ◌≤◌, ◌+◌, ◌-◌, ℕ, Bool, true, false, cond, nat_lt, min, List, [], ◌∷◌, ◌++◌, length, drop, sym, ap, subst, arith, length-append}
 use Rattle.std.specs.Int.{w32, w64, to_le_bytes}
 use Rattle.std.proofs.lemmas.List.{drop_at}
 use Rattle.nine_messages.specs.Fields.{counted}
 use Rattle.nine_messages.specs.Requests.{RequestView, tversion, tattach, tflush, twalk, topen, tread, twrite, tclunk, tother, request_kind, request_fields, MessageView, spelling}
-use Rattle.nine_messages.specs.Cutting.{size_of, IsNext, IsOpen, without_size, within_message, agreed_after, Cuts, none, one_more}
+use Rattle.nine_messages.specs.Cutting.{IsNext, IsOpen, without_size, within_message, agreed_after, Cuts, none, one_more}
 use Rattle.nine_messages.proofs.CuttingLemmas.{next_facts, next_shrinks, cuts_more, cuts_join}
 use Rattle.nine_messages.proofs.MessageLemmas.{length-message}
 use Rattle.nine_front.specs.Asking.{bytes_of}
@@ -29,15 +29,6 @@ agreed_few agreed (tother kind body) few = few
 
 pub agreed_then : (agreed before : ℕ) (m : RequestView) → agreed ≡ agreed_after before m → before ≤ 65536 → agreed ≤ 65536
 agreed_then agreed before m is few = subst (λ (n : ℕ). n ≤ 65536) (sym is) (agreed_few before m few)
-
-pub cuts_few : (agreed to : ℕ) (left end : List ℕ) (messages : List MessageView) → agreed ≤ 65536 → Cuts agreed left messages to end → to ≤ 65536
-cuts_few _ _ _ _ _ few (none agreed left) = few
-cuts_few _ _ _ _ _ few (one_more agreed left m rest messages to end first others) = cuts_few (agreed_after agreed m.request) to rest end messages (agreed_few agreed m.request few) others
-
--- less than a message has fewer bytes than the greatest
-pub open_few : (agreed : ℕ) (left : List ℕ) → agreed ≤ 65536 → IsOpen agreed left → length left ≤ 65536
-open_few agreed left few (without_size short) = omega (arith, short)
-open_few agreed left few (within_message there least most short) = omega (arith, most, short)
 
 -- ---- the bytes that a message writes
 
@@ -82,25 +73,3 @@ within_all all whole rest count together is = omega arith
 
 pub count_within : (agreed : ℕ) (left rest : List ℕ) (m : MessageView) (count : ℕ) → IsNext agreed left m rest → count ≡ length left - length rest → count ≤ length left
 count_within agreed left rest m count next is = within_all (length left) (length (spelling m)) (length rest) count (next_facts agreed left rest m next).together is
-
--- one message more
-pub cuts_next : (agreed to : ℕ) (left end rest : List ℕ) (messages : List MessageView) (m : MessageView) → Cuts agreed left messages to end → IsNext to end m rest → Cuts agreed left (messages ++ m ∷ []) (agreed_after to m.request) rest
-cuts_next agreed to left end rest messages m cut next =
-    cuts_join agreed to (agreed_after to m.request) left end rest messages (m ∷ []) cut
-    (one_more to end m rest [] (agreed_after to m.request) rest next (none (agreed_after to m.request) rest))
-
--- those of a piece more
-pub cuts_then : (agreed mid to : ℕ) (bytes left piece end : List ℕ) (messages others : List MessageView) → Cuts agreed bytes messages mid left → Cuts mid (left ++ piece) others to end → Cuts agreed (bytes ++ piece) (messages ++ others) to end
-cuts_then agreed mid to bytes left piece end messages others first next =
-    cuts_join agreed mid to (bytes ++ piece) (left ++ piece) end messages others (cuts_more agreed mid bytes left piece messages first) next
-
--- a beginning has no more bytes left than there were
-pub cuts_shorter : (agreed to : ℕ) (left end : List ℕ) (messages : List MessageView) → Cuts agreed left messages to end → length end ≤ length left
-cuts_shorter _ _ _ _ _ (none agreed left) = omega arith
-cuts_shorter _ _ _ _ _ (one_more agreed left m rest messages to end first others) =
-    omega (arith, next_shrinks agreed left rest m first, cuts_shorter (agreed_after agreed m.request) to rest end messages others)
-
--- what is left of less than a message and a piece
-pub few_rest : (mid to : ℕ) (left piece end : List ℕ) (others : List MessageView) → mid ≤ 65536 → IsOpen mid left → length piece ≤ 65536 → Cuts mid (left ++ piece) others to end → length end ≤ 131072
-few_rest mid to left piece end others few open_left small cut =
-    omega (arith, small, open_few mid left few open_left, length-append left piece, cuts_shorter mid to (left ++ piece) end others cut)

@@ -1,5 +1,5 @@
 -- Each turn adds one entry at most, and messages have no more turns than their kinds and names.
-use Rattle.std.proofs.Common.{◌≡◌, ◌≤◌, ◌+◌, ℕ, List, [], ◌∷◌, ◌++◌, length, Bool, Option, sym, ap, subst, arith, length-append, zero-add}
+use Rattle.std.proofs.Common.{◌≡◌, ◌≤◌, ◌+◌, ℕ, List, [], ◌∷◌, ◌++◌, length, Option, sym, ap, subst, arith, length-append, zero-add}
 use Rattle.std.specs.Prelude.{ℤ}
 use Rattle.bl_syntax.specs.declared.terms.NodeId.{NodeId}
 use Rattle.procap.specs.declared.procap.Procap.{Procap}

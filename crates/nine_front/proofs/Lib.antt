@@ -5,17 +5,15 @@ pub mod ConnectionLemmas
 pub mod CutLemmas
 pub mod EndsLemmas
 pub mod FewLemmas
+pub mod HeardLemmas
 pub mod LimitLemmas
 pub mod PlacedLemmas
-pub mod SaidLemmas
-pub mod SpokenLemmas
 pub mod StillLemmas
 pub mod MarkLemmas
 pub mod MessageEndLemmas
 pub mod OneLemmas
 pub mod OneEndLemmas
 pub mod WordLemmas
-pub mod WrittenLemmas
 -- of requests and their turns
 pub mod ReplyLemmas
 pub mod ShortLemmas

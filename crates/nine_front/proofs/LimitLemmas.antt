@@ -1,5 +1,5 @@
 -- A connection stays within its limits.
-use Rattle.std.proofs.Common.{◌≡◌, ◌∙◌, ℕ, List, length, Option, Some, None, sym, ap, subst}
+use Rattle.std.proofs.Common.{◌≡◌, ◌∙◌, ℕ, List, length, Option, None, sym, ap, subst}
 use Rattle.std.specs.Prelude.{ℤ}
 use Rattle.bl_syntax.specs.declared.terms.NodeId.{NodeId}
 use Rattle.pcfs_store.specs.Entries.{StoreEntry}

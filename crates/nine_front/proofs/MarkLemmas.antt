@@ -1,5 +1,5 @@
 -- It is told that the store is stopped only if a mark is among the entries up to the place.
-use Rattle.std.proofs.Common.{◌≡◌, ◌∙◌, ◌+◌, ℕ, List, [], ◌∷◌, ◌++◌, length, take, Bool, true, Option, Some, None, refl, sym, ap, codes, append_assoc, length-append}
+use Rattle.std.proofs.Common.{◌≡◌, ◌∙◌, ◌+◌, ℕ, List, [], ◌∷◌, ◌++◌, length, take, true, Option, None, refl, sym, ap, codes, append_assoc, length-append}
 use Rattle.std.specs.Prelude.{ℤ}
 use Rattle.std.proofs.Math.Seq.{take-append_seam}
 use Rattle.bl_syntax.specs.declared.terms.NodeId.{NodeId}
@@ -15,7 +15,7 @@ use Rattle.session_history.specs.Turn.{StorePass, TurnPlaced}
 use Rattle.session_history.specs.Placed.{IsReplyOf}
 use Rattle.session_history.proofs.StopLemmas.{stop_there}
 use Rattle.nine_messages.specs.Requests.{RequestView}
-use Rattle.nine_messages.specs.Replies.{ReplyView, rwrite, rerror}
+use Rattle.nine_messages.specs.Replies.{ReplyView, rwrite}
 use Rattle.nine_fids.specs.declared.connection.Connection.{Connection}
 use Rattle.nine_fids.specs.declared.error.NineError.TheVariants as errors
 use Rattle.nine_fids.specs.declared.fid.FidFile.{FidFile}

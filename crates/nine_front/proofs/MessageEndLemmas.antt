@@ -26,7 +26,7 @@ use Rattle.session_history.specs.Laws.{IsUndisturbed}
 use Rattle.session_history.proofs.EndLemmas.{single_not_cited}
 use Rattle.session_history.proofs.StopLemmas.{stops_told}
 use Rattle.session_history.proofs.TurnLemmas.{turn_ends}
-use Rattle.shared_store.specs.Looking.{node_named, names_directory, LookPlaced}
+use Rattle.shared_store.specs.Looking.{node_named, names_directory}
 use Rattle.nine_messages.specs.Requests.{RequestView, tversion, tattach, tflush, twalk, topen, tread, twrite, tclunk, tother}
 use Rattle.nine_messages.specs.Replies.{ReplyView, rwrite, rerror}
 use Rattle.nine_fids.specs.declared.connection.Connection.{Connection}

@@ -1,5 +1,5 @@
 -- A request asks one thing, and one turn; and what a turn replies is told in one way.
-use Rattle.std.proofs.Common.{◌≡◌, ◌∙◌, ℕ, List, Bool, true, false, Option, Some, None, refl, sym, ap}
+use Rattle.std.proofs.Common.{◌≡◌, ◌∙◌, ℕ, List, Bool, true, false, Option, Some, sym, ap}
 use Rattle.file_world.specs.declared.operation.Op.{Op}
 use Rattle.file_world.specs.declared.operation.Op.TheVariants as operations
 use Rattle.procap.specs.declared.procap.Procap.{Procap}
@@ -12,7 +12,6 @@ use Rattle.nine_fids.specs.declared.connection.Connection.{Connection}
 use Rattle.nine_fids.specs.declared.control.Control.{Control}
 use Rattle.nine_fids.specs.declared.step.Step.{Step}
 use Rattle.nine_fids.specs.declared.step.Step.TheVariants as steps
-use Rattle.nine_fids.specs.Control.{IsAskedOf}
 use Rattle.nine_fids.specs.States.{fid_at}
 use Rattle.nine_fids.specs.Tests.{IsAskedIf, IsAskedBy, takes_lines}
 use Rattle.nine_fids.proofs.ControlLemmas.{asked_once}

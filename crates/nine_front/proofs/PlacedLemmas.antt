@@ -3,7 +3,7 @@ use Rattle.std.proofs.Common.{◌≡◌, ◌≤◌, ℕ, List, [], ◌∷◌, �
 use Rattle.std.specs.Prelude.{ℤ}
 use Rattle.bl_syntax.specs.declared.terms.NodeId.{NodeId}
 use Rattle.procap.specs.declared.procap.Procap.{Procap}
-use Rattle.pcfs_store.specs.Entries.{StoreEntry, state_of_entries}
+use Rattle.pcfs_store.specs.Entries.{StoreEntry}
 use Rattle.session_history.specs.Passes.{AllOfPass}
 use Rattle.session_history.specs.declared.request.TurnRequest.{TurnRequest}
 use Rattle.session_history.specs.declared.reply.TurnReply.{TurnReply}

@@ -1,5 +1,5 @@
 -- The texts of what turns of this front reply fit the count of an Rerror.
-use Rattle.std.proofs.Common.{◌≡◌, ◌≤◌, ◌+◌, ◌⊎◌, inl, inr, ℕ, zero, suc, ℤ, pos, negsuc, Bool, true, false, cond, IsTrue, List, [], ◌∷◌, ◌++◌, length, take, Option, Some, None, refl, sym, subst, arith, length-append, length-take}
+use Rattle.std.proofs.Common.{◌≡◌, ◌≤◌, ◌+◌, inl, inr, ℕ, zero, suc, ℤ, pos, negsuc, Bool, true, false, cond, IsTrue, List, [], ◌∷◌, ◌++◌, length, take, Option, Some, None, refl, sym, subst, arith, length-append, length-take}
 use Rattle.std.specs.Prelude.{codes, ◌-◌, ◌/◌, ◌%◌, ◌==◌}
 use Rattle.std.proofs.lemmas.Bool.{false≢true}
 use Rattle.std.specs.Fmt.{digits, decimal, signed_decimal, digits_onto, digit_glyph}
@@ -16,7 +16,6 @@ use Rattle.bl_syntax.specs.declared.terms.StatePred.TheVariants as state_preds
 use Rattle.bl_syntax.specs.Names.{is_principal_name, is_text}
 use Rattle.bl_syntax.proofs.WordLemmas.{short_name, short_text}
 use Rattle.bl_text.specs.Printed.{time_text, permission_text, term_text, constraint_text, state_text}
-use Rattle.file_world.specs.declared.operation.Op.{Op}
 use Rattle.file_world.specs.declared.operation.Op.TheVariants as operations
 use Rattle.file_world.specs.declared.refusal.Refusal.{Refusal}
 use Rattle.file_world.specs.declared.reply.TreeReply.{TreeReply}
@@ -36,7 +35,7 @@ use Rattle.access_history.specs.Answer.{Answers, unsigned, duplicate, registry_f
 use Rattle.access_history.specs.Authority.{Authority}
 use Rattle.access_history.specs.Base.{BaseView}
 use Rattle.line_wire.specs.GateText.{cause_text, denial_text, refusal_number, refused_text, rejection_text}
-use Rattle.line_wire.specs.OperationText.{tree_text, operation_text}
+use Rattle.line_wire.specs.OperationText.{tree_text}
 use Rattle.line_wire.specs.ReplyText.{step_text}
 use Rattle.pcfs_store.specs.Entries.{Root, StoreEntry, state_of_entries}
 use Rattle.session_history.specs.declared.request.TurnRequest.{TurnRequest}

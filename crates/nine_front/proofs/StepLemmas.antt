@@ -1,5 +1,5 @@
 -- What a request comes to: what it leaves, and who is logged in if turns are taken for it.
-use Rattle.std.proofs.Common.{◌≡◌, ◌∙◌, ◌⊎◌, ◌≤◌, ℕ, Bool, true, false, cond, eqb, min, is_none, List, length, Option, Some, None, refl, sym, ap, subst, arith, inl, inr}
+use Rattle.std.proofs.Common.{◌≡◌, ◌∙◌, ◌⊎◌, ◌≤◌, ℕ, Bool, true, false, cond, eqb, is_none, List, length, Option, Some, None, refl, sym, ap, subst, arith, inl, inr}
 use Rattle.std.proofs.lemmas.Bool.{and_cases, false≢true, ltb-false}
 use Rattle.std.proofs.lemmas.Option.{none-some}
 use Rattle.file_world.proofs.RowLemmas.{split}

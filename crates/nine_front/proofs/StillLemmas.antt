@@ -1,47 +1,56 @@
--- Counts of faults that stand still until a connection ends.
+-- Counts of faults stand still until a connection ends, as they do until its talk does.
 use Rattle.std.proofs.Common.{◌≡◌, ℕ, refl, sym, subst}
 use Rattle.pcfs_session.specs.Streams.{Streams}
-use Rattle.pcfs_session.specs.declared.outbox.SendFault.{SendFault}
-use Rattle.pcfs_session.specs.declared.outbox.SendFault.TheVariants.{Write, NoMemory}
+use Rattle.session_loop.specs.Ends as talks
+use Rattle.session_loop.specs.declared.talk_end.TalkEnd.{TalkEnd}
+use Rattle.session_loop.specs.declared.talk_end.TalkEnd.TheVariants as hows
 use Rattle.nine_front.specs.declared.nine_end.NineEnd.{NineEnd}
 use Rattle.nine_front.specs.declared.nine_end.NineEnd.TheVariants as ends
 use Rattle.nine_front.specs.Ends.{InputStandsStill, OutputStandsStill, NothingFailedBefore}
-use Rattle.nine_front.specs.Spoken.{unsent_end}
+use Rattle.nine_front.specs.NineTalking.{nine_end}
 
--- the output stood still up to an end
-pub output_then : (how : NineEnd) (before mid after : ℕ) → mid ≡ before → OutputStandsStill how mid after → OutputStandsStill how before after
-output_then how before mid after same still = subst (λ (n : ℕ). OutputStandsStill how n after) same still
+-- the same of ports
+abbrev pub ports_in : Streams → talks.Ports
+ports_in streams = record { left = streams.left; read_faults = streams.read_faults; held = streams.held; write_faults = streams.write_faults }
 
--- a reply that was not sent, since the output failed or memory ran out
-pub still_unsent : (fault : SendFault) (how : NineEnd) (before after : ℕ) → how ≡ unsent_end fault → (fault ≡ NoMemory → after ≡ before) → OutputStandsStill how before after
-still_unsent Write how before after is steady = subst (λ (h : NineEnd). OutputStandsStill h before after) (sym is) tt
-still_unsent NoMemory how before after is steady = subst (λ (h : NineEnd). OutputStandsStill h before after) (sym is) (steady refl)
+input_still : (how : TalkEnd) (before after : ℕ) → talks.InputStandsStill how before after → InputStandsStill (nine_end how) before after
+input_still hows.Done before after still = still
+input_still hows.Bad before after still = still
+input_still hows.ReadFault before after still = tt
+input_still hows.WriteFault before after still = still
+input_still hows.NoMemory before after still = still
+input_still hows.InputTooLong before after still = still
 
--- and the input, after an end that it had no part in
-input_same : (how : NineEnd) (before after : ℕ) → after ≡ before → InputStandsStill how before after
-input_same ends.Done before after same = same
-input_same ends.BadMessage before after same = same
-input_same ends.ReadFault before after same = tt
-input_same ends.WriteFault before after same = same
-input_same ends.NoMemory before after same = same
-input_same ends.InputTooLong before after same = same
+output_still : (how : TalkEnd) (before after : ℕ) → talks.OutputStandsStill how before after → OutputStandsStill (nine_end how) before after
+output_still hows.Done before after still = still
+output_still hows.Bad before after still = still
+output_still hows.ReadFault before after still = still
+output_still hows.WriteFault before after still = tt
+output_still hows.NoMemory before after still = still
+output_still hows.InputTooLong before after still = still
 
-output_same : (how : NineEnd) (before after : ℕ) → after ≡ before → OutputStandsStill how before after
-output_same ends.Done before after same = same
-output_same ends.BadMessage before after same = same
-output_same ends.ReadFault before after same = same
-output_same ends.WriteFault before after same = tt
-output_same ends.NoMemory before after same = same
-output_same ends.InputTooLong before after same = same
-
--- both stood still
-pub NothingFailedBefore-still : (before after : Streams) (how : NineEnd) → after.read_faults ≡ before.read_faults → after.write_faults ≡ before.write_faults → NothingFailedBefore before how after
-NothingFailedBefore-still before after how reads writes =
-    record { input = input_same how before.read_faults after.read_faults reads; output = output_same how before.write_faults after.write_faults writes }
-
--- the input stood still, and the output up to how the connection ends
-pub NothingFailedBefore-then : (before after : Streams) (how : NineEnd) (mid : ℕ) → after.read_faults ≡ before.read_faults → mid ≡ before.write_faults → OutputStandsStill how mid after.write_faults → NothingFailedBefore before how after
-NothingFailedBefore-then before after how mid reads writes still = record {
-  input = input_same how before.read_faults after.read_faults reads;
-  output = output_then how before.write_faults mid after.write_faults writes still;
+still_talk : (before after : Streams) (how : TalkEnd) → talks.NothingFailedBefore (ports_in before) how (ports_in after) → NothingFailedBefore before (nine_end how) after
+still_talk before after how still = record {
+  input = input_still how before.read_faults after.read_faults still.input;
+  output = output_still how before.write_faults after.write_faults still.output;
 }
+
+pub NothingFailedBefore-talk : (before after : Streams) (how : TalkEnd) (end : NineEnd) → end ≡ nine_end how → talks.NothingFailedBefore (ports_in before) how (ports_in after) → NothingFailedBefore before end after
+NothingFailedBefore-talk before after how end is still = subst (λ (n : NineEnd). NothingFailedBefore before n after) (sym is) (still_talk before after how still)
+
+-- a connection ends by a fault only if its talk does
+pub ends_by_read : (how : TalkEnd) → nine_end how ≡ ends.ReadFault → how ≡ hows.ReadFault
+ends_by_read hows.Done is = absurd cc
+ends_by_read hows.Bad is = absurd cc
+ends_by_read hows.ReadFault is = refl
+ends_by_read hows.WriteFault is = absurd cc
+ends_by_read hows.NoMemory is = absurd cc
+ends_by_read hows.InputTooLong is = absurd cc
+
+pub ends_by_write : (how : TalkEnd) → nine_end how ≡ ends.WriteFault → how ≡ hows.WriteFault
+ends_by_write hows.Done is = absurd cc
+ends_by_write hows.Bad is = absurd cc
+ends_by_write hows.ReadFault is = absurd cc
+ends_by_write hows.WriteFault is = refl
+ends_by_write hows.NoMemory is = absurd cc
+ends_by_write hows.InputTooLong is = absurd cc

@@ -1,10 +1,9 @@
 -- What becomes of a walk, name by name.
-use Rattle.std.proofs.Common.{◌≡◌, ◌∙◌, ◌+◌, inl, inr, ◌≤◌, ℕ, Bool, List, [], ◌∷◌, ◌++◌, length, map, Option, Some, None, IsSome, IfSome, unwrap_or, refl, sym, ap, subst, arith, append_assoc, append-nil}
+use Rattle.std.proofs.Common.{◌≡◌, ◌∙◌, ◌+◌, inl, inr, ◌≤◌, ℕ, Bool, List, [], ◌∷◌, ◌++◌, length, Option, Some, None, IsSome, IfSome, unwrap_or, refl, sym, ap, subst, arith, append_assoc, append-nil}
 use Rattle.std.specs.Prelude.{ℤ}
 use Rattle.std.proofs.lemmas.List.{length-map}
 use Rattle.std.proofs.lemmas.Bool.{false≢true}
 use Rattle.std.proofs.lemmas.Option.{none-some}
-use mathlib.Core.List.{IsPrefix}
 use Rattle.tree_lock.specs.Seen.{PassView}
 use Rattle.tree_lock.proofs.EntryLemmas.{prefix_trans}
 use Rattle.bl_syntax.specs.declared.terms.NodeId.{NodeId}
@@ -17,17 +16,16 @@ use Rattle.line_wire.specs.ReplyText.{reply_text}
 use Rattle.pcfs_store.specs.Entries.{StoreEntry}
 use Rattle.session_history.specs.declared.request.TurnRequest.{TurnRequest}
 use Rattle.session_history.specs.declared.reply.TurnReply.{TurnReply}
-use Rattle.session_history.specs.declared.reply.TurnReply.TheVariants as turn_replies
 use Rattle.session_history.specs.Turn.{StorePass}
 use Rattle.session_history.specs.Placed.{IsReplyOf}
 use Rattle.shared_store.specs.declared.entry.LockEntry.{LockEntry}
 use Rattle.shared_store.specs.LockHistory.{lock_history}
 use Rattle.shared_store.specs.Turning.{pass_at}
-use Rattle.shared_store.specs.Asking.{entries_seen, HasAsked, HasSeenFault}
+use Rattle.shared_store.specs.Asking.{entries_seen, HasSeenFault}
 use Rattle.shared_store.specs.Looking.{node_named, LookPlaced}
 use Rattle.session_lines.proofs.DoneLemmas.{stays, goes_further}
 use Rattle.session_lines.proofs.TurnCountLemmas.{no_turn, one_turn, turns_then}
-use Rattle.nine_messages.specs.Requests.{RequestView, twalk, IsText}
+use Rattle.nine_messages.specs.Requests.{twalk, IsText}
 use Rattle.nine_messages.specs.Replies.{ReplyView, rversion, rattach, rflush, rwalk, ropen, rread, rwrite, rclunk, rerror, IsWritableReply}
 use Rattle.nine_fids.specs.declared.error.NineError.TheVariants as errors
 use Rattle.nine_fids.specs.declared.fid.FidFile.{FidFile}

@@ -1,5 +1,5 @@
 -- Texts that say that the store is stopped, or that memory ran out: no text of a step or of an error is one of them.
-use Rattle.std.proofs.Common.{◌≡◌, ◌∙◌, ℕ, List, [], Bool, true, false, true≢false, refl, sym, ap, codes}
+use Rattle.std.proofs.Common.{◌≡◌, ◌∙◌, ℕ, List, [], true, false, true≢false, refl, sym, ap, codes}
 use Rattle.std.specs.Str.{bytes_eq}
 use Rattle.line_words.specs.Cutting.{first_cut}
 use Rattle.file_world.specs.declared.reply.TreeReply.{TreeReply}

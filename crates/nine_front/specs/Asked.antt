@@ -8,11 +8,12 @@ use Rattle.bl_syntax.specs.declared.terms.NodeId.{NodeId}
 use Rattle.bl_syntax.specs.declared.terms.Perm.TheVariants as perms
 use Rattle.procap.specs.declared.procap.Procap.{Procap}
 use Rattle.policy_statement.specs.Messages.{login_message}
-use Rattle.policy_statement.specs.Ring.{KeyView, is_accepted}
+use Rattle.policy_statement.specs.Ring.{is_accepted}
 use Rattle.journal_records.specs.declared.event.Event.{Event}
 use Rattle.journal_records.specs.declared.event.Event.TheVariants.{Registered, Issued, Withdrawn, Acted}
 use Rattle.pcfs_store.specs.Entries.{StoreEntry, happened, checkpointed, stopped, state_of_entries}
 use Rattle.session_history.specs.declared.request.TurnRequest.{TurnRequest}
+use Rattle.session_history.specs.declared.request.TurnRequest.TheVariants.{Login}
 use Rattle.session_history.specs.declared.reply.TurnReply.{TurnReply}
 use Rattle.session_history.specs.Laws.{asked_entry}
 use Rattle.session_history.specs.Turn.{StorePass, AnswersTurn}
@@ -27,7 +28,7 @@ use Rattle.nine_fids.specs.States.{begun_with}
 use Rattle.nine_fids.specs.Steps.{decided}
 use Rattle.nine_fids.specs.Tests.{IsAskedBy}
 use Rattle.nine_front.specs.Asking.{IsTurnOf, look_of}
-use Rattle.nine_front.specs.Placed.{MessagesPlaced}
+use Rattle.nine_front.specs.Placed.{MessagePlaced, MessagesPlaced}
 
 -- ---- what is asked for
 
@@ -42,24 +43,29 @@ pub data Asks (s : Connection) (m : RequestView) : TurnRequest → Type 0 where
       s.caller ≡ Some who → fitting s.purse who directory perms.Execute ≡ Some q →
       Asks s m (look_of who directory name q)
 
--- One of these messages, which are placed in a history from this state on, asks for the entry: in the
--- state of the connection after the messages before it, what it asks in a turn of the pass, which
--- finds the entries that the history has before this one, has an answer that adds the entry, or of a
--- mark what was being added when a disk failed, at a moment that the clock gives over the entries that
--- stand before it.
-pub record IsAskedFor (gives : List StoreEntry → ℤ → Type 0) (p : StorePass) (history : List StoreEntry)
-    (start : Connection) (from : ℕ) (messages : List MessageView) (entry : StoreEntry) : Type 0 where
+-- One of these messages, and the state of the connection after those before it, which are placed in a
+-- history from this state on.
+pub record OneOfMessages (gives : List StoreEntry → ℤ → Type 0) (p : StorePass) (history : List StoreEntry)
+    (start : Connection) (from : ℕ) (messages : List MessageView) : Type 0 where
   pub earlier : List MessageView
-  pub m : MessageView
+  pub message : MessageView
   pub later : List MessageView
-  pub among : messages ≡ earlier ++ m ∷ later
+  pub among : messages ≡ earlier ++ message ∷ later
   pub told : List ReplyView
   pub state : Connection
   pub at : ℕ
   pub added : List StoreEntry
   pub so_far : MessagesPlaced gives p history start from earlier told state at added
+
+-- One of these messages asks for the entry: in the state of the connection after the messages before
+-- it, what it asks in a turn of the pass, which finds the entries that the history has before this
+-- one, has an answer that adds the entry, or of a mark what was being added when a disk failed, at a
+-- moment that the clock gives over the entries that stand before it.
+pub record IsAskedByMessage (gives : List StoreEntry → ℤ → Type 0) (p : StorePass) (history : List StoreEntry)
+    (start : Connection) (from : ℕ) (messages : List MessageView) (entry : StoreEntry) : Type 0 where
+  pub one : OneOfMessages gives p history start from messages
   pub request : TurnRequest
-  pub asks : Asks state m.request request
+  pub asks : Asks one.state one.message.request request
   pub found : List StoreEntry
   pub begins : IsPrefix (found ++ entry ∷ []) history
   pub moment : ℤ
@@ -68,59 +74,63 @@ pub record IsAskedFor (gives : List StoreEntry → ℤ → Type 0) (p : StorePas
   pub answers : AnswersTurn p.root (state_of_entries p.root found) p.number moment request answer (Some (asked_entry entry))
 
 -- so of each of these entries
-abbrev pub AreAskedFor : (List StoreEntry → ℤ → Type 0) → StorePass → List StoreEntry → Connection → ℕ →
+abbrev pub AreAskedByMessages : (List StoreEntry → ℤ → Type 0) → StorePass → List StoreEntry → Connection → ℕ →
     List MessageView → List StoreEntry → Type 0
-AreAskedFor gives p history start from messages given = AllByRecursion (IsAskedFor gives p history start from messages) given
+AreAskedByMessages gives p history start from messages given =
+    AllByRecursion (IsAskedByMessage gives p history start from messages) given
 
 abbrev pub EntriesAreAskedFor : (List StoreEntry → ℤ → Type 0) → Type 0
 EntriesAreAskedFor gives = (p : StorePass) (history : List StoreEntry) (start : Connection) (from : ℕ)
     (messages : List MessageView) (replies : List ReplyView) (end : Connection) (to : ℕ)
     (given : List StoreEntry) →
     MessagesPlaced gives p history start from messages replies end to given →
-    AreAskedFor gives p history start from messages given
+    AreAskedByMessages gives p history start from messages given
 
 -- ---- by whom
 
--- One of these messages asks that this name be logged in over this nonce, by a signature that it
--- brings and the ring accepts.
-pub record HasSigned (ring : List KeyView) (nonce : List ℕ) (messages : List MessageView) (who : List ℕ) : Type 0 where
-  pub before : List MessageView
-  pub m : MessageView
-  pub after : List MessageView
-  pub among : messages ≡ before ++ m ∷ after
-  pub state : Connection
-  pub asked : Option Control
-  pub asks : IsAskedBy state m.request asked
+-- One of these messages logged this name in: in the state of the connection after the messages before
+-- it, it asks for that over the connection's nonce, by a signature that it brings and the ring
+-- accepts; and it is placed after them, and then that name is logged in.
+pub record HasLoggedIn (gives : List StoreEntry → ℤ → Type 0) (p : StorePass) (history : List StoreEntry)
+    (nonce : List ℕ) (from : ℕ) (messages : List MessageView) (who : List ℕ) : Type 0 where
+  pub one : OneOfMessages gives p history (begun_with nonce) from messages
   pub signature : List ℕ
-  pub is : decided state asked m.request ≡ (steps.Login who signature, state)
-  pub accepted : is_accepted ring who (login_message who nonce) signature ≡ true
+  pub asks : Asks one.state one.message.request (Login who nonce signature)
+  pub accepted : is_accepted p.root.ring who (login_message who nonce) signature ≡ true
+  pub reply : ReplyView
+  pub after : Connection
+  pub to : ℕ
+  pub given : List StoreEntry
+  pub placed : MessagePlaced gives p history one.at one.state one.message.request reply after to given
+  pub logged_in : after.caller ≡ Some who
 
--- an operation is by somebody who logged in by one of these messages; nothing else is kept
-abbrev pub IsEventByAccepted : List KeyView → List ℕ → List MessageView → Event → Type 0
-IsEventByAccepted ring nonce messages (Acted pass caller op procaps moment) = HasSigned ring nonce messages caller
-IsEventByAccepted ring nonce messages (Registered pass statement signature) = ⊥
-IsEventByAccepted ring nonce messages (Issued pass cited proof grant) = ⊥
-IsEventByAccepted ring nonce messages (Withdrawn pass number signature) = ⊥
+module _ (gives : List StoreEntry → ℤ → Type 0) (p : StorePass) (history : List StoreEntry) (nonce : List ℕ)
+    (from : ℕ) (messages : List MessageView) where
+  -- an operation is by somebody whom one of these messages logged in; nothing else is kept
+  abbrev pub IsEventByLogin : Event → Type 0
+  IsEventByLogin (Acted pass caller op procaps moment) = HasLoggedIn gives p history nonce from messages caller
+  IsEventByLogin (Registered pass statement signature) = ⊥
+  IsEventByLogin (Issued pass cited proof grant) = ⊥
+  IsEventByLogin (Withdrawn pass number signature) = ⊥
 
--- and so is what was being kept when a disk failed
-abbrev pub IsMetByAccepted : List KeyView → List ℕ → List MessageView → Option Event → Type 0
-IsMetByAccepted ring nonce messages None = ⊥
-IsMetByAccepted ring nonce messages (Some event) = IsEventByAccepted ring nonce messages event
+  -- and so is what was being kept when a disk failed
+  abbrev pub IsMetByLogin : Option Event → Type 0
+  IsMetByLogin None = ⊥
+  IsMetByLogin (Some event) = IsEventByLogin event
 
-abbrev pub IsByAccepted : List KeyView → List ℕ → List MessageView → StoreEntry → Type 0
-IsByAccepted ring nonce messages (happened event) = IsEventByAccepted ring nonce messages event
-IsByAccepted ring nonce messages (checkpointed pass) = ⊥
-IsByAccepted ring nonce messages (stopped pass met) = IsMetByAccepted ring nonce messages met
+  abbrev pub IsByLogin : StoreEntry → Type 0
+  IsByLogin (happened event) = IsEventByLogin event
+  IsByLogin (checkpointed pass) = ⊥
+  IsByLogin (stopped pass met) = IsMetByLogin met
 
 -- Each entry that a connection is given is an operation, or the mark of a disk that failed under one,
--- by somebody of whom one of its messages asked that they be logged in over its nonce, by a signature
--- that the ring accepts.
+-- by somebody whom one of its messages logged in over its nonce, by a signature that the ring accepts.
 abbrev pub CallersAreAccepted : (List StoreEntry → ℤ → Type 0) → Type 0
 CallersAreAccepted gives = (p : StorePass) (history : List StoreEntry) (nonce : List ℕ) (from : ℕ)
     (messages : List MessageView) (replies : List ReplyView) (end : Connection) (to : ℕ)
     (given : List StoreEntry) →
     MessagesPlaced gives p history (begun_with nonce) from messages replies end to given →
-    AllByRecursion (IsByAccepted p.root.ring nonce messages) given
+    AllByRecursion (IsByLogin gives p history nonce from messages) given
 
 -- Somebody is logged in only by such a message.
 abbrev pub LoginsAreAccepted : (List StoreEntry → ℤ → Type 0) → Type 0
@@ -128,4 +138,4 @@ LoginsAreAccepted gives = (p : StorePass) (history : List StoreEntry) (nonce : L
     (messages : List MessageView) (replies : List ReplyView) (end : Connection) (to : ℕ)
     (given : List StoreEntry) (who : List ℕ) →
     MessagesPlaced gives p history (begun_with nonce) from messages replies end to given →
-    end.caller ≡ Some who → HasSigned p.root.ring nonce messages who
+    end.caller ≡ Some who → HasLoggedIn gives p history nonce from messages who

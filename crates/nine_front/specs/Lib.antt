@@ -3,9 +3,10 @@ pub mod Asking
 pub mod Ends
 pub mod Framing
 pub mod Laws
+pub mod NineTalking
 pub mod Placed
 pub mod Said
-pub mod Spoken
+pub mod SaidLaws
 pub mod Taken
 pub mod Turns
 pub mod Views

@@ -1,6 +1,6 @@
 -- The messages of a connection in a history that others grow: each takes its turns at places that
 -- do not go back, and its reply is the answer over what was there (this project's own).
-use Rattle.std.specs.Prelude.{◌≡◌, ℕ, ℤ, List, [], ◌∷◌, ◌++◌, length, map, Bool, Option, Some, None, codes}
+use Rattle.std.specs.Prelude.{◌≡◌, ℕ, ℤ, List, [], ◌∷◌, ◌++◌, length, map, Bool, Option, Some, None}
 use Rattle.bl_syntax.specs.declared.terms.NodeId.{NodeId}
 use Rattle.bl_syntax.specs.declared.terms.Perm.TheVariants as perms
 use Rattle.procap.specs.declared.procap.Procap.{Procap}

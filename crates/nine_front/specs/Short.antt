@@ -1,10 +1,9 @@
 -- Which replies an Rerror can hold, whose text has fewer than 65,536 bytes (this project's own).
-use Rattle.std.specs.Prelude.{◌≤◌, ℕ, List, length, Bool, true, false}
+use Rattle.std.specs.Prelude.{◌≤◌, ℕ, length, Bool, true, false}
 use Rattle.bl_syntax.specs.declared.terms.Term.{Term}
 use Rattle.bl_syntax.specs.declared.terms.Term.TheVariants as terms
 use Rattle.bl_syntax.specs.declared.terms.StatePred.{StatePred}
 use Rattle.bl_syntax.specs.declared.terms.StatePred.TheVariants as state_preds
-use Rattle.bl_syntax.specs.declared.terms.Constraint.{Constraint}
 use Rattle.file_world.specs.declared.operation.Op.{Op}
 use Rattle.file_world.specs.declared.reply.TreeReply.{TreeReply}
 use Rattle.file_world.specs.declared.reply.TreeReply.TheVariants as trees

@@ -1,7 +1,8 @@
 -- The messages of what was taken of an input, and what is written for them. If the input does not
 -- tell what it has, these are some messages (this project's own).
 use Rattle.std.specs.Prelude.{◌≡◌, ◌≤◌, ◌<◌, ℕ, List, [], ◌∷◌, ◌++◌, length, Option}
-use Rattle.pcfs_ports.specs.Observable.{with_front, ReadsToEnd, TakesFirst, HoldsSome}
+use Rattle.pcfs_ports.specs.Observable.{with_front, ReadsToEnd, HoldsSome}
+use Rattle.session_loop.specs.Written as talks
 use Rattle.nine_messages.specs.Requests.{MessageView}
 use Rattle.nine_messages.specs.Replies.{ReplyView, reply_spelling}
 use Rattle.nine_messages.specs.Cutting.{Cuts, IsOpen, IsBad}
@@ -60,19 +61,14 @@ pub record IsCutOff (left left_after : Option (List ℕ)) (messages : List Messa
 
 -- ---- what is written
 
--- the replies to messages, each with the tag of its message
-abbrev pub output_of : List MessageView → List ReplyView → List ℕ
-output_of [] replies = []
-output_of (m ∷ messages) [] = []
-output_of (m ∷ messages) (reply ∷ replies) = reply_spelling m.tag reply ++ output_of messages replies
+-- the bytes of a reply, with the tag of its message
+abbrev pub reply_bytes : MessageView → ReplyView → List ℕ
+reply_bytes m reply = reply_spelling m.tag reply
 
--- all of a list but its last element
-abbrev pub but_last : {A : Type 0} → List A → List A
-but_last [] = []
-but_last (x ∷ []) = []
-but_last (x ∷ (y ∷ ys)) = x ∷ but_last (y ∷ ys)
+-- the replies to messages
+abbrev pub output_of : List MessageView → List ReplyView → List ℕ
+output_of = talks.output_of reply_bytes
 
 -- beside what it held, the output holds all replies but the last, and of the last some first part
-pub record HoldsButLast (held held_after : Option (List ℕ)) (messages : List MessageView) (replies : List ReplyView) : Type 0 where
-  pub some : HoldsSome held held_after (output_of messages replies)
-  pub earlier : length (output_of messages (but_last replies)) ≤ some.count
+abbrev pub HoldsButLast : Option (List ℕ) → Option (List ℕ) → List MessageView → List ReplyView → Type 0
+HoldsButLast = talks.HoldsButLast reply_bytes

@@ -1,7 +1,6 @@
 -- What a reply is to the client.
-use Rattle.std.specs.Prelude.{ℕ, List, map, Option, Some, None}
+use Rattle.std.specs.Prelude.{ℕ, List, Option}
 use Rattle.std.specs.Option.{option_map}
-use Rattle.line_wire.specs.declared.reply.LineReply.{LineReply}
 use Rattle.line_wire.specs.ReplyText.{reply_text}
 use Rattle.nine_messages.specs.Replies.{ReplyView, rread, rwrite, rerror}
 use Rattle.nine_fids.specs.Errors.{error_text}

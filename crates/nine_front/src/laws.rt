@@ -43,7 +43,7 @@ pub fn entries_are_asked_for<C: TurnClock>(clock: &C)
 }
 
 /// Somebody is logged in only by a message with a signature over the connection's nonce that the ring accepts; and each entry
-/// is an operation by somebody who was.
+/// is an operation by somebody who was, or the mark of a disk that failed under one.
 pub fn callers_are_accepted<C: TurnClock>(clock: &C)
     ensures logins { LoginsAreAccepted (C.gives clock.now) }
     ensures callers { CallersAreAccepted (C.gives clock.now) }
@@ -100,7 +100,8 @@ pub fn messages_have_one_end<C: TurnClock>(clock: &C)
     let _ = clock;
 }
 
-/// At a store that is not stopped each request has an end that is not disturbed.
+/// At a store that is not stopped each request that writes no more bytes than fit a message has an end that is not disturbed, if
+/// the clock gives some moment after whatever entries, and whoever is logged in has a principal's name.
 pub fn messages_have_an_end<C: TurnClock>(clock: &C)
     ensures { MessagesHaveAnEnd (C.gives clock.now) }
 {

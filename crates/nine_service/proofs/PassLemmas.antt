@@ -19,9 +19,10 @@ use Rattle.nine_front.specs.declared.nine_end.NineEnd.{NineEnd}
 use Rattle.nine_front.specs.Said.{Speaks}
 use Rattle.nine_front.specs.Ends.{NineReplies, NineEnds}
 use Rattle.nine_front.specs.Ends as ends
+use Rattle.nine_front.proofs.AskedLemmas.{entries_asked}
+use Rattle.nine_front.proofs.CallerLemmas.{callers_accepted}
 use Rattle.nine_front.proofs.PlacedLemmas.{messages_given}
 use Rattle.nine_service.specs.Passes.{NineSources, AreFirstMessages, AreOfNine, AreOfSeenNine}
-use Rattle.nine_service.proofs.AskedLemmas.{entries_asked, entries_by_login}
 
 -- ---- messages that were answered are the first of the input
 
@@ -73,7 +74,6 @@ module _ {D : Type 0} (faults : D → ℕ) (sources : NineSources) (nonce : List
         own_is = s.goes_on.own ∙ ap (λ (l : List (ℕ × LockEntry D)). l ++ numbered s.given) none;
         nine = λ opening entries begins.
             let placed = (s.placed opening entries begins).0 in
-            let asked = entries_asked sources.gives (pass_at opening old.number) entries nonce (entries_seen old) h.messages h.replies s.end s.to s.given placed in
             subst (λ (n : ℕ). AreOfNine sources (pass_at opening n) entries s.given) (sym s.goes_on.number)
             (record {
               nonce = nonce;
@@ -85,8 +85,8 @@ module _ {D : Type 0} (faults : D → ℕ) (sources : NineSources) (nonce : List
               sent = sent;
               placed = placed;
               of_pass = messages_given sources.gives (pass_at opening old.number) entries (begun_with nonce) (entries_seen old) h.messages h.replies s.end s.to s.given placed;
-              asked = asked;
-              callers = entries_by_login sources.gives (pass_at opening old.number) entries nonce (entries_seen old) h.messages s.given asked;
+              asked = entries_asked sources.gives (pass_at opening old.number) entries (begun_with nonce) (entries_seen old) h.messages h.replies s.end s.to s.given placed;
+              callers = callers_accepted sources.gives (pass_at opening old.number) entries nonce (entries_seen old) h.messages h.replies s.end s.to s.given placed;
             });
       }
 

@@ -16,8 +16,8 @@ use Rattle.nine_messages.specs.Requests.{MessageView}
 use Rattle.nine_messages.specs.Replies.{ReplyView}
 use Rattle.nine_fids.specs.declared.connection.Connection.{Connection}
 use Rattle.nine_fids.specs.States.{begun_with}
+use Rattle.nine_front.specs.Asked.{IsByLogin, AreAskedByMessages}
 use Rattle.nine_front.specs.Placed.{MessagesPlaced}
-use Rattle.nine_service.specs.Asked.{IsByLogin, AreAskedByMessages}
 
 -- what connections take from the ports: which moments the clock gives after how many events; and
 -- which messages the connection of a number may send, under which nonce
@@ -69,8 +69,8 @@ pub record AreOfNine (sources : NineSources) (p : StorePass) (history own : List
   pub sent : sources.may_send p.number nonce messages
   pub placed : MessagesPlaced sources.gives p history (begun_with nonce) from messages replies end to own
   pub of_pass : AllOfPass p.number own
-  pub asked : AreAskedByMessages sources.gives p history nonce from messages own
-  pub callers : AllByRecursion (IsByLogin p.root.ring nonce messages) own
+  pub asked : AreAskedByMessages sources.gives p history (begun_with nonce) from messages own
+  pub callers : AllByRecursion (IsByLogin sources.gives p history nonce from messages) own
 
 module _ {D : Type 0} where
   -- These are the own entries of the pass with this number at a lock: in each history that begins

@@ -149,9 +149,10 @@ impl<'a, D: Disk + Send, C: TurnClock, N: Nonces + 'a, L: Listener> Service<L::I
     ghost use Rattle.nine_front.specs.declared.nine_end.NineEnd.{NineEnd};
     ghost use Rattle.pcfs_session.specs.Streams.{streams_of};
     ghost use Rattle.nine_front.specs.Ends.{NineEnds, NothingFailedBefore};
+    ghost use Rattle.pcfs_server.specs.Ends.{FailedLast};
 
     // For each pass that was made a nonce was given. The passes that were taken in are those of the connections that are
-    // counted, with the entries of a session each, or have no entries.
+    // counted, with the entries that their messages were given, or have no entries.
     ghost is_door = { λ service door. (door.door.lock ≡ service.lock.now)
         × AreTakenOff (16 * door.door.made) (N.coming service.nonces.value) (N.coming door.nonces.now)
         × AreOfConnections (AreOfSeenNine (nine_sources_of (C.gives service.clock.now) L.In.left (inputs_of L.In.left (L.queue service.net.value)) (N.coming service.nonces.value)) door.door.seen) door.served door.door.retired };
@@ -229,7 +230,9 @@ impl<'a, D: Disk + Send, C: TurnClock, N: Nonces + 'a, L: Listener> Service<L::I
             (streams_of L.In.left L.In.faults L.Out.held L.Out.faults input.new output.new) ×
             NothingFailedBefore
             (streams_of L.In.left L.In.faults L.Out.held L.Out.faults input.old output.old) end
-            (streams_of L.In.left L.In.faults L.Out.held L.Out.faults input.new output.new) }
+            (streams_of L.In.left L.In.faults L.Out.held L.Out.faults input.new output.new) ×
+            (end ≡ NineEnd.ReadFault → FailedLast (L.In.faults input.old) (L.In.faults input.new) (L.In.broken input.new)) ×
+            (end ≡ NineEnd.WriteFault → FailedLast (L.Out.faults output.old) (L.Out.faults output.new) (L.Out.broken output.new)) }
     {
         serve_nine(
             rt,

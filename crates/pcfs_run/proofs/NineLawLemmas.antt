@@ -13,8 +13,8 @@ use Rattle.nine_messages.specs.Replies.{ReplyView}
 use Rattle.nine_messages.proofs.CuttingLemmas.{next_facts}
 use Rattle.nine_fids.specs.declared.connection.Connection.{Connection}
 use Rattle.nine_fids.specs.States.{begun_with}
+use Rattle.nine_front.specs.Asked.{IsAskedByMessage, AreAskedByMessages, IsByLogin}
 use Rattle.nine_front.specs.Placed.{MessagesPlaced, no_message, one_more}
-use Rattle.nine_service.specs.Asked.{IsAskedByMessage, AreAskedByMessages, IsByLogin}
 use Rattle.nine_service.specs.Passes.{NineSources, AreFirstMessages, MaySend, AreOfNine}
 use Rattle.pcfs_run.specs.NineLaws.{HasMessage}
 use Rattle.pcfs_run.proofs.UnsaidLemmas.{get_empty}
@@ -23,7 +23,8 @@ use Rattle.pcfs_run.proofs.UnsaidLemmas.{get_empty}
 
 module _ (sources : NineSources) (root : Root) (history : List StoreEntry) where
   messages_of_entries : (number : ℕ) (nonce : List ℕ) (from : ℕ) (messages : List MessageView) → sources.may_send number nonce messages → (entries : List StoreEntry) → AllOfPass number entries →
-      AreAskedByMessages sources.gives (record { root = root; number = number }) history nonce from messages entries → AllByRecursion (IsByLogin root.ring nonce messages) entries → AllByRecursion (HasMessage sources root history) entries
+      AreAskedByMessages sources.gives (record { root = root; number = number }) history (begun_with nonce) from messages entries → AllByRecursion (IsByLogin sources.gives (record { root = root; number = number }) history nonce from messages) entries →
+      AllByRecursion (HasMessage sources root history) entries
   messages_of_entries number nonce from messages sent [] of asked by = tt
   messages_of_entries number nonce from messages sent (entry ∷ entries) of asked by = (
     record {
@@ -31,8 +32,8 @@ module _ (sources : NineSources) (root : Root) (history : List StoreEntry) where
       from = from;
       messages = messages;
       sent = subst (λ (n : ℕ). sources.may_send n nonce messages) (sym of.0) sent;
-      asked = subst (λ (n : ℕ). IsAskedByMessage sources.gives (record { root = root; number = n }) history nonce from messages entry) (sym of.0) asked.0;
-      caller = by.0;
+      asked = subst (λ (n : ℕ). IsAskedByMessage sources.gives (record { root = root; number = n }) history (begun_with nonce) from messages entry) (sym of.0) asked.0;
+      caller = subst (λ (n : ℕ). IsByLogin sources.gives (record { root = root; number = n }) history nonce from messages entry) (sym of.0) by.0;
     },
     messages_of_entries number nonce from messages sent entries of.1 asked.1 by.1,
   )

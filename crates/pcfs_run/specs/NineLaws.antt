@@ -4,7 +4,8 @@ use Rattle.std.specs.List.{AllByRecursion}
 use Rattle.pcfs_store.specs.Entries.{Root, StoreEntry}
 use Rattle.session_history.specs.Passes.{entry_pass}
 use Rattle.nine_messages.specs.Requests.{MessageView}
-use Rattle.nine_service.specs.Asked.{IsAskedByMessage, IsByLogin}
+use Rattle.nine_fids.specs.States.{begun_with}
+use Rattle.nine_front.specs.Asked.{IsAskedByMessage, IsByLogin}
 use Rattle.nine_service.specs.Passes.{NineSources, AreOfNine}
 use Rattle.pcfs_run.specs.Passes.{AreOfPasses}
 
@@ -27,8 +28,8 @@ pub record HasMessage (sources : NineSources) (root : Root) (history : List Stor
   pub from : ℕ
   pub messages : List MessageView
   pub sent : sources.may_send (entry_pass entry) nonce messages
-  pub asked : IsAskedByMessage sources.gives (record { root = root; number = entry_pass entry }) history nonce from messages entry
-  pub caller : IsByLogin root.ring nonce messages entry
+  pub asked : IsAskedByMessage sources.gives (record { root = root; number = entry_pass entry }) history (begun_with nonce) from messages entry
+  pub caller : IsByLogin sources.gives (record { root = root; number = entry_pass entry }) history nonce from messages entry
 
 -- each entry that was added has such a message
 abbrev pub EachEntryHasItsMessage : NineSources → Type 0

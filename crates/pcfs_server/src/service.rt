@@ -67,7 +67,7 @@ pub trait Service<I: Source, O: Sink> {
     ghost kept: { Self.Door → Self.Kept };
 
     /// Admits a connection. `Failed` comes only if the door's count of faults rose, by one, by the last call that can fail; at
-    /// each other answer it stands still.
+    /// each other answer it stands still, and the last such call did not fail.
     fn admit(&self, alloc: Global, door: &mut Self::Door) -> Result<Self::Token, AdmitFault>
         requires belongs { is_door self.now door.old }
         requires room { 0 < room door.old }
@@ -84,7 +84,8 @@ pub trait Service<I: Source, O: Sink> {
         ensures kept { kept door.new ≡ kept door.old }
         ensures steady { result ≢ Err AdmitFault.Failed → faults door.new ≡ faults door.old }
         ensures by_one { IsErrOf result AdmitFault.Failed → faults door.new ≡ raise (faults door.old) }
-        ensures broken { IsErrOf result AdmitFault.Failed → broken door.new ≡ true };
+        ensures broken { IsErrOf result AdmitFault.Failed → broken door.new ≡ true }
+        ensures whole { result ≢ Err AdmitFault.Failed → broken door.new ≡ false };
 
     /// Attends the connection of the token's number, whatever its input and output do. It may wait.
     fn attend<R: Wait>(

@@ -1,7 +1,6 @@
 -- Each step has its own function.
 use Rattle.std.proofs.Common.{subst}
 use Rattle.nine_messages.specs.Views.{request_view}
-use Rattle.nine_fids.specs.declared.step.Step.{Step}
 use Rattle.nine_fids.specs.declared.step.Step.TheVariants as steps
 use Rattle.nine_front.specs.Walked.{ComesTo}
 use Rattle.nine_front.proofs.StepLemmas.{comes_to, is_walk}

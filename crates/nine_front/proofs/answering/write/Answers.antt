@@ -1,6 +1,5 @@
 -- One turn of who is logged in, if there is memory for the bytes.
 use Rattle.std.proofs.Common.{◌∙◌, length, ap, arith}
-use Rattle.std.specs.Prelude.{ℕ, List}
 use Rattle.file_world.specs.declared.operation.Op.TheVariants as operations
 use Rattle.nine_messages.specs.Views.{request_view}
 use Rattle.nine_fids.specs.declared.step.Step.TheVariants as steps

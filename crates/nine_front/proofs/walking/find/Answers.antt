@@ -1,5 +1,5 @@
 -- The first procap that fits is taken to a turn, if there is one and memory for it.
-use Rattle.std.proofs.Common.{subst, refl, codes, Option, Some, None, arith}
+use Rattle.std.proofs.Common.{subst, refl, codes, Option, Some, None}
 use Rattle.std.specs.Prelude.{◌≡◌}
 use Rattle.bl_syntax.specs.declared.terms.Perm.TheVariants as perms
 use Rattle.procap.specs.declared.procap.Procap.{Procap}

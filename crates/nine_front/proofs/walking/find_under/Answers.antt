@@ -1,5 +1,5 @@
 -- The turn names a node, or it ends the walk.
-use Rattle.std.proofs.Common.{sym, ◌∙◌}
+use Rattle.std.proofs.Common.{◌∙◌}
 use Rattle.nine_front.specs.Asking.{look_of}
 use Rattle.nine_front.proofs.MarkLemmas.{stopped_line}
 use Rattle.nine_front.proofs.ShortLemmas.{lookup_shortly, may_looked_short}

@@ -23,4 +23,5 @@ returns-clause-belongs g c =
     )
 
 pub returns-clause-served : goal.returns-clause-served
-returns-clause-served g c = (c.serve_nine.result, c.serve_nine.ensures.ends, c.serve_nine.ensures.nothing_failed)
+returns-clause-served g c =
+    (c.serve_nine.result, c.serve_nine.ensures.ends, c.serve_nine.ensures.nothing_failed, c.serve_nine.ensures.read_failed, c.serve_nine.ensures.write_failed)

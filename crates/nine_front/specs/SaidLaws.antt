@@ -1,4 +1,5 @@
--- Messages of a connection are answered one after the other.
+-- The laws of messages that are said, for the place of a connection among the talks: they are answered
+-- one after the other.
 use Rattle.std.proofs.Common.{◌≡◌, ◌≢◌, ◌∙◌, ◌+◌, ◌⊎◌, ⊎_elim, inl, inr, ℕ, zero, suc, List, [], ◌∷◌, ◌++◌, length, refl, sym, ap, subst, arith, append_assoc, append-nil, length-append}
 use Rattle.std.specs.Prelude.{ℤ}
 use mathlib.Core.List.{IsPrefix}
@@ -10,7 +11,7 @@ use Rattle.session_history.specs.Turn.{StorePass}
 use Rattle.shared_store.specs.declared.entry.LockEntry.{LockEntry}
 use Rattle.shared_store.specs.LockHistory.{lock_history}
 use Rattle.shared_store.specs.Turning.{pass_at}
-use Rattle.shared_store.specs.Asking.{entries_seen, HasHistory, HasSeenFault}
+use Rattle.shared_store.specs.Asking.{entries_seen, HasHistory}
 use Rattle.shared_store.proofs.AskingLemmas.{seen_later}
 use Rattle.session_lines.proofs.DoneLemmas.{stays, goes_further}
 use Rattle.session_lines.proofs.TurnCountLemmas.{no_turn, turns_then}
