@@ -15,7 +15,7 @@ use Rattle.pcfs_session.specs.ScriptRun.{ScriptState, script_pass}
 use Rattle.pcfs_session.specs.Stored.{StoreGoesOn}
 use Rattle.pcfs_session.specs.Streams.{Streams}
 use Rattle.pcfs_tools.specs.Broken.{Broken}
-use Rattle.pcfs_tools.specs.LastLine.{IsWritten, WroteNothing}
+use Rattle.pcfs_tools.specs.LastLine.{IsWritten, Wrote, WroteNothing}
 use Rattle.pcfs_tools.specs.ScriptStatus.{IsSilent}
 use Rattle.follow_run.specs.AnswerText.{answer_lines}
 use Rattle.follow_run.specs.FollowRun.{FollowRun, FollowsOver, HasEnded, frame_line}
@@ -57,9 +57,9 @@ TellsEnd Done held faults result held_after faults_after broken = IsSilent 0 hel
 TellsEnd (BadFrame place) held faults result held_after faults_after broken =
     IsWritten 16 (frame_line place) held faults result held_after faults_after broken
     ⊎ WroteNothing held faults result held_after faults_after
-TellsEnd ReadFault held faults result held_after faults_after broken = IsWritten 6 (with_line_end (codes "readfault")) held faults result held_after faults_after broken
-TellsEnd InputTooLong held faults result held_after faults_after broken = IsWritten 13 (with_line_end (codes "toolong")) held faults result held_after faults_after broken
-TellsEnd Stopped held faults result held_after faults_after broken = IsWritten 5 (with_line_end (codes "stopped")) held faults result held_after faults_after broken
+TellsEnd ReadFault held faults result held_after faults_after broken = Wrote 6 (codes "readfault") held faults result held_after faults_after broken
+TellsEnd InputTooLong held faults result held_after faults_after broken = Wrote 13 (codes "toolong") held faults result held_after faults_after broken
+TellsEnd Stopped held faults result held_after faults_after broken = Wrote 5 (codes "stopped") held faults result held_after faults_after broken
 TellsEnd WriteFault held faults result held_after faults_after broken = IsSilent 7 held faults result held_after faults_after
 TellsEnd NoMemory held faults result held_after faults_after broken = IsSilent 9 held faults result held_after faults_after
 

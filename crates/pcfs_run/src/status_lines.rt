@@ -29,7 +29,8 @@ fn served_line(alloc: Global, count: u64) -> Result<Bytes, NoMemory>
 
 // Writes how many connections were attended, and returns the status to end with.
 fn write_count<O: Sink>(alloc: Global, output: &mut O, count: u64) -> u8
-    ensures { TellsServed (ServeEnd.Done count) (O.held output.old) (O.faults output.old) result (O.held output.new) (O.faults output.new) (O.broken output.new) }
+    ensures { TellsServed (ServeEnd.Done count) (O.held output.old) (O.faults output.old) result
+        (O.held output.new) (O.faults output.new) (O.broken output.new) }
 {
     match served_line(alloc, count) {
         Ok(line) => write_last_line(output, line.as_slice(), DONE),
@@ -57,7 +58,8 @@ pub fn write_end<O: Sink, D: Disk>(
 ) -> u8
     ensures stopped { (pass : ℕ) → store.now.stop ≡ Some pass →
         Wrote 5 (codes "stopped") (O.held output.old) (O.faults output.old) result (O.held output.new) (O.faults output.new) (O.broken output.new) }
-    ensures running { store.now.stop ≡ None → TellsServed end (O.held output.old) (O.faults output.old) result (O.held output.new) (O.faults output.new) (O.broken output.new) }
+    ensures running { store.now.stop ≡ None →
+        TellsServed end (O.held output.old) (O.faults output.old) result (O.held output.new) (O.faults output.new) (O.broken output.new) }
 {
     if store.is_stopped() {
         return write_last_line(output, b"stopped\n", DISK_FAULT);

@@ -218,7 +218,8 @@ abbrev pub TellsCheckpoint : CheckpointReply → Option (List ℕ) → ℕ → �
 TellsCheckpoint checkpoints.Checkpointed held faults result held_after faults_after broken =
     Wrote 0 (codes "ok checkpoint") held faults result held_after faults_after broken
 TellsCheckpoint checkpoints.Full held faults result held_after faults_after broken = Wrote 14 (codes "full") held faults result held_after faults_after broken
-TellsCheckpoint checkpoints.Stopped held faults result held_after faults_after broken = Wrote 5 (codes "stopped") held faults result held_after faults_after broken
+TellsCheckpoint checkpoints.Stopped held faults result held_after faults_after broken =
+    Wrote 5 (codes "stopped") held faults result held_after faults_after broken
 TellsCheckpoint checkpoints.NoMemory held faults result held_after faults_after broken = WroteNothing held faults result held_after faults_after
 
 -- what is reported of why no store was made
