@@ -1,5 +1,5 @@
 -- Messages that are written in large pieces.
-use Rattle.std.proofs.Common.{◌≡◌, inl, inr, ◌+◌, ◌-◌, ◌^◌, ◌<◌, ◌≤◌, ℕ, zero, suc, List, [], ◌∷◌, ◌++◌, length, get_or, take, drop, Option, refl, sym, ap, ◌∙◌, subst, arith, append_assoc, append-nil}
+use Rattle.std.proofs.Common.{◌≡◌, inl, inr, ◌+◌, ◌-◌, ◌^◌, ◌<◌, ◌≤◌, ℕ, zero, suc, List, [], ◌∷◌, ◌++◌, length, get_or, take, drop, Bool, Option, refl, sym, ap, ◌∙◌, subst, arith, append_assoc, append-nil}
 use Rattle.std.specs.Prelude.{IfErr, Result, Err}
 use Rattle.std.proofs.lemmas.List.{length-take-le, take-append-drop, length-drop}
 use Rattle.policy_statement.specs.Ring.{KeyView}
@@ -10,12 +10,12 @@ use Rattle.access_history.specs.Replay.{replay}
 use Rattle.journal_records.specs.declared.event.Event.{Event}
 use Rattle.event_messages.specs.Messages.{Message, message_spelling, messages_spelling}
 use Rattle.payload_limits.specs.Limits.{PayloadsAreShort}
+use Rattle.pcfs_ports.specs.Faults.{raise}
 use Rattle.pcfs_ports.specs.Observable.{with_back, HoldsSome}
 use Rattle.pcfs_session.specs.Outbox.{GoesOut}
 use Rattle.pcfs_session.specs.declared.outbox.SendFault.{SendFault}
 use Rattle.pcfs_session.specs.declared.outbox.SendFault.TheVariants.{Write, NoMemory}
 use Rattle.pcfs_session.proofs.OutboxLemmas.{with_back-nil, GoesOut-all, GoesOut-more, GoesOut-part, GoesOut-some, GoesOut-whole, HoldsSome-more, all_out}
-use Rattle.pcfs_session.proofs.StoredLemmas.{HasRisen-earlier}
 use Rattle.op_gate.proofs.FittingLemmas.{fits_fields}
 use Rattle.recover.proofs.FollowingLemmas.{next_at}
 use Rattle.export_run.specs.Exported.{TellsExport, message_of, messages_of, messages_from}
@@ -103,29 +103,32 @@ part_sent held mid new messages all collected is going some =
     subst (λ (ms : List Message). HoldsSome held new (messages_spelling ms)) is (GoesOut-part held mid new (messages_spelling messages) collected (goes_out held mid messages collected going) some)
 
 -- the next message is not sent, and others are to come
-cut_at : (fault : SendFault) (held mid new : Option (List ℕ)) (faults before after : ℕ) (messages all others : List Message) (m : Message) (collected : List ℕ) → all ≡ (messages ++ m ∷ []) ++ others →
-    AreGoingOut held messages mid collected → faults ≤ before → IsUnsent fault mid before (collected ++ message_spelling m) new after → AreCutShort fault held faults all new after
-cut_at Write held mid new faults before after messages all others m collected is going later unsent =
+cut_at : (fault : SendFault) (held mid new : Option (List ℕ)) (faults before after : ℕ) (broken : Bool) (messages all others : List Message) (m : Message) (collected : List ℕ) → all ≡ (messages ++ m ∷ []) ++ others →
+    AreGoingOut held messages mid collected → before ≡ faults → IsUnsent fault mid before (collected ++ message_spelling m) new after broken → AreCutShort fault held faults all new after broken
+cut_at Write held mid new faults before after broken messages all others m collected is going still unsent =
     let spelled : messages_spelling all ≡ (messages_spelling messages ++ message_spelling m) ++ messages_spelling others =
     ap messages_spelling is ∙ spelling-append (messages ++ m ∷ []) others ∙ ap (λ (b : List ℕ). b ++ messages_spelling others) (spelled_more messages m) in
     let some = GoesOut-some held mid new (messages_spelling messages) collected (message_spelling m) (goes_out held mid messages collected going) unsent.1 in
-    (HasRisen-earlier faults before after later unsent.0, subst (HoldsSome held new) (sym spelled) (HoldsSome-more held new (messages_spelling messages ++ message_spelling m) (messages_spelling others) some))
-cut_at NoMemory held mid new faults before after messages all others m collected is going later unsent = record {
-  first = going.sent;
-  others = going.kept ++ m ∷ others;
-  parts = is ∙ append_assoc messages (m ∷ []) others ∙ ap (λ (ms : List Message). ms ++ m ∷ others) going.parts ∙ append_assoc going.sent going.kept (m ∷ others);
-  output = unsent ∙ going.output;
-}
+    ((unsent.0.0 ∙ ap raise still, unsent.0.1), subst (HoldsSome held new) (sym spelled) (HoldsSome-more held new (messages_spelling messages ++ message_spelling m) (messages_spelling others) some))
+cut_at NoMemory held mid new faults before after broken messages all others m collected is going still unsent = (
+  record {
+    first = going.sent;
+    others = going.kept ++ m ∷ others;
+    parts = is ∙ append_assoc messages (m ∷ []) others ∙ ap (λ (ms : List Message). ms ++ m ∷ others) going.parts ∙ append_assoc going.sent going.kept (m ∷ others);
+    output = unsent.0 ∙ going.output;
+  },
+  unsent.1 ∙ still,
+)
 
 -- the message of an event is not sent
-pub cut_short_at : (fault : SendFault) (held mid new : Option (List ℕ)) (faults before after first : ℕ) (events : List Event) (k number : ℕ) (event : Event) (collected : List ℕ) →
-    k ≤ length events → number ≡ first + k → take (k + 1) events ≡ take k events ++ event ∷ [] → AreGoingOut held (messages_of first (take k events)) mid collected → faults ≤ before →
-    IsUnsent fault mid before (collected ++ message_spelling (message_of number event)) new after → AreCutShort fault held faults (messages_of first events) new after
-cut_short_at fault held mid new faults before after first events k number event collected within is more going later unsent =
+pub cut_short_at : (fault : SendFault) (held mid new : Option (List ℕ)) (faults before after : ℕ) (broken : Bool) (first : ℕ) (events : List Event) (k number : ℕ) (event : Event) (collected : List ℕ) →
+    k ≤ length events → number ≡ first + k → take (k + 1) events ≡ take k events ++ event ∷ [] → AreGoingOut held (messages_of first (take k events)) mid collected → before ≡ faults →
+    IsUnsent fault mid before (collected ++ message_spelling (message_of number event)) new after broken → AreCutShort fault held faults (messages_of first events) new after broken
+cut_short_at fault held mid new faults before after broken first events k number event collected within is more going still unsent =
     let others = messages_of (first + length (take (k + 1) events)) (drop (k + 1) events) in
     let parts : messages_of first events ≡ (messages_of first (take k events) ++ message_of number event ∷ []) ++ others =
     messages_later first events (k + 1) ∙ ap (λ (ms : List Message). ms ++ others) (messages_more first events k number event within is more) in
-    cut_at fault held mid new faults before after (messages_of first (take k events)) (messages_of first events) others (message_of number event) collected parts going later unsent
+    cut_at fault held mid new faults before after broken (messages_of first (take k events)) (messages_of first events) others (message_of number event) collected parts going still unsent
 
 -- this is the fault
 pub at_fault : {A : Type 0} (r : Result A SendFault) (fault : SendFault) (P : SendFault → Type 0) → r ≡ Err fault → P fault → IfErr r P
@@ -158,8 +161,8 @@ pub messages_same : (base : BaseView) (all events : List Event) (from n : ℕ) �
 messages_same base all events from n is shown = ap (messages_of from) (shown ∙ ap (λ (m : ℕ). drop m all) is)
 
 -- the export of an equal history
-pub TellsExport-same : (base base' : BaseView) (events events' : List Event) (from : ℕ) (held held_after : Option (List ℕ)) (faults faults_after result : ℕ) → base ≡ base' → events ≡ events' →
-    TellsExport base events from held faults result held_after faults_after → TellsExport base' events' from held faults result held_after faults_after
-TellsExport-same base base' events events' from held held_after faults faults_after result same_base same_events tells =
-    subst (λ (b : BaseView). TellsExport b events' from held faults result held_after faults_after) same_base
-    (subst (λ (es : List Event). TellsExport base es from held faults result held_after faults_after) same_events tells)
+pub TellsExport-same : (base base' : BaseView) (events events' : List Event) (from : ℕ) (held held_after : Option (List ℕ)) (faults faults_after result : ℕ) (broken : Bool) → base ≡ base' → events ≡ events' →
+    TellsExport base events from held faults result held_after faults_after broken → TellsExport base' events' from held faults result held_after faults_after broken
+TellsExport-same base base' events events' from held held_after faults faults_after result broken same_base same_events tells =
+    subst (λ (b : BaseView). TellsExport b events' from held faults result held_after faults_after broken) same_base
+    (subst (λ (es : List Event). TellsExport base es from held faults result held_after faults_after broken) same_events tells)

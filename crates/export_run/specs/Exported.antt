@@ -1,5 +1,5 @@
 -- What an export of a history's events writes, and its status (this project's own).
-use Rattle.std.specs.Prelude.{◌≡◌, ◌<◌, ◌≤◌, ◌+◌, ◌-◌, ℕ, List, [], ◌∷◌, ◌++◌, codes, drop, Option}
+use Rattle.std.specs.Prelude.{◌≡◌, ◌<◌, ◌≤◌, ◌+◌, ◌-◌, ℕ, List, [], ◌∷◌, ◌++◌, codes, drop, Bool, Option}
 use Rattle.std.specs.Fmt.{decimal}
 use Rattle.pcfs_ports.specs.Observable.{with_back}
 use Rattle.access_history.specs.Base.{BaseView}
@@ -36,18 +36,19 @@ pub record HoldsFirst (held : Option (List ℕ)) (messages : List Message) (held
 -- The messages from that number on were written, none if it is after the last event; or the event of
 -- that number is in the base, and this was told. Or the output failed, and holds some first part of
 -- that; or memory ran out, and it holds the first of the messages, or no line. `held` and `faults`
--- are what the output held and the count of its faults.
+-- are what the output held and the count of its faults, and `broken` says whether its last call
+-- failed.
 pub data TellsExport (base : BaseView) (events : List Event) (from : ℕ)
-    (held : Option (List ℕ)) (faults result : ℕ) (held_after : Option (List ℕ)) (faults_after : ℕ) :
-    Type 0 where
+    (held : Option (List ℕ)) (faults result : ℕ) (held_after : Option (List ℕ)) (faults_after : ℕ)
+    (broken : Bool) : Type 0 where
   exported : base.count < from →
-      IsWritten 0 (messages_spelling (messages_from base events from)) held faults result held_after faults_after →
-      TellsExport base events from held faults result held_after faults_after
+      IsWritten 0 (messages_spelling (messages_from base events from)) held faults result held_after faults_after broken →
+      TellsExport base events from held faults result held_after faults_after broken
   cut_short : base.count < from → result ≡ 9 →
-      HoldsFirst held (messages_from base events from) held_after →
-      TellsExport base events from held faults result held_after faults_after
+      HoldsFirst held (messages_from base events from) held_after → faults_after ≡ faults →
+      TellsExport base events from held faults result held_after faults_after broken
   gone : from ≤ base.count →
-      Wrote 17 (gone_text base.count) held faults result held_after faults_after →
-      TellsExport base events from held faults result held_after faults_after
-  untold : from ≤ base.count → WroteNothing held result held_after →
-      TellsExport base events from held faults result held_after faults_after
+      Wrote 17 (gone_text base.count) held faults result held_after faults_after broken →
+      TellsExport base events from held faults result held_after faults_after broken
+  untold : from ≤ base.count → WroteNothing held faults result held_after faults_after →
+      TellsExport base events from held faults result held_after faults_after broken

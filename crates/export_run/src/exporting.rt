@@ -31,8 +31,8 @@ fn gone_line(alloc: Global, count: u64) -> Result<Bytes, NoMemory>
 
 // Writes that line, and returns the status to end with.
 fn write_gone<O: Sink>(alloc: Global, output: &mut O, count: u64) -> u8
-    ensures { Wrote 17 (gone_text count) (O.held output.old) (O.faults output.old) result (O.held output.new) (O.faults output.new)
-        ⊎ WroteNothing (O.held output.old) result (O.held output.new) }
+    ensures { Wrote 17 (gone_text count) (O.held output.old) (O.faults output.old) result (O.held output.new) (O.faults output.new) (O.broken output.new)
+        ⊎ WroteNothing (O.held output.old) (O.faults output.old) result (O.held output.new) (O.faults output.new) }
 {
     match gone_line(alloc, count) {
         Ok(line) => write_last_line(output, line.as_slice(), GONE),
@@ -54,7 +54,7 @@ fn events_after(events: &[EventRecord], first: u64) -> &[EventRecord]
 fn write_events<O: Sink>(alloc: Global, history: &History, from: u64, output: &mut O) -> u8
     requires { history.now.base.count < from }
     ensures { TellsExport history.now.base history.now.events from
-        (O.held output.old) (O.faults output.old) result (O.held output.new) (O.faults output.new) }
+        (O.held output.old) (O.faults output.old) result (O.held output.new) (O.faults output.new) (O.broken output.new) }
 {
     payloads_are_short();
     history.lemma_is_lawful();
@@ -72,7 +72,7 @@ fn write_events<O: Sink>(alloc: Global, history: &History, from: u64, output: &m
 /// the base, and `gone` with the base's count was written.
 pub fn export_history<O: Sink>(alloc: Global, history: &History, from: u64, output: &mut O) -> u8
     ensures { TellsExport history.now.base history.now.events from
-        (O.held output.old) (O.faults output.old) result (O.held output.new) (O.faults output.new) }
+        (O.held output.old) (O.faults output.old) result (O.held output.new) (O.faults output.new) (O.broken output.new) }
 {
     let count = history.base().count();
     if count < from {

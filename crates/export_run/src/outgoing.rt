@@ -1,7 +1,7 @@
 //! Messages on their way out: they are collected, and written in large pieces.
 
-ghost use Rattle.std.specs.Prelude.{◌≡◌, ◌≤◌, ◌<◌, ◌+◌, ◌^◌, ◌++◌, [], IfErr, OnOk, OnErr, length};
-ghost use Rattle.pcfs_ports.specs.Faults.{HasRisen};
+ghost use Rattle.std.specs.Prelude.{◌≡◌, ◌<◌, ◌+◌, ◌^◌, ◌++◌, [], true, IfErr, OnOk, OnErr, length};
+ghost use Rattle.pcfs_ports.specs.Faults.{raise};
 ghost use Rattle.pcfs_ports.specs.Observable.{with_back, HoldsSome};
 ghost use Rattle.event_messages.specs.Messages.{message_spelling, messages_spelling};
 ghost use Rattle.export_run.specs.Exported.{message_of, messages_of};
@@ -30,8 +30,9 @@ fn add_message(number: u64, event: &EventRecord, collected: &mut Bytes) -> Resul
 fn flush_if_enough<O: Sink>(collected: &mut Bytes, output: &mut O) -> Result<(), Failed>
     ensures ok { OnOk result (AreCollectedOrOut (O.held output.old) collected.old (O.held output.new) collected.new) }
     ensures err { OnErr result (HoldsSome (O.held output.old) (O.held output.new) collected.old) }
-    ensures risen { OnErr result (HasRisen (O.faults output.old) (O.faults output.new)) }
-    ensures never_falls { O.faults output.old ≤ O.faults output.new }
+    ensures steady { OnOk result (O.faults output.new ≡ O.faults output.old) }
+    ensures by_one { OnErr result (O.faults output.new ≡ raise (O.faults output.old)) }
+    ensures broken { OnErr result (O.broken output.new ≡ true) }
 {
     if ENOUGH <= collected.len() {
         return flush(collected, output);
@@ -50,8 +51,8 @@ fn send_message<O: Sink>(
     ensures ok { OnOk result (AreCollectedOrOut (O.held output.old)
         (collected.old ++ message_spelling (message_of number event.now)) (O.held output.new) collected.new) }
     ensures err { IfErr result (λ fault. IsUnsent fault (O.held output.old) (O.faults output.old)
-        (collected.old ++ message_spelling (message_of number event.now)) (O.held output.new) (O.faults output.new)) }
-    ensures never_falls { O.faults output.old ≤ O.faults output.new }
+        (collected.old ++ message_spelling (message_of number event.now)) (O.held output.new) (O.faults output.new) (O.broken output.new)) }
+    ensures steady { OnOk result (O.faults output.new ≡ O.faults output.old) }
 {
     match add_message(number, event, collected) {
         Ok(()) => Ok(flush_if_enough(collected, output)?),
@@ -71,7 +72,8 @@ pub fn write_messages<O: Sink>(
     requires counted { first + length events.now < 2 ^ 64 }
     ensures ok { OnOk result (O.held output.new ≡ with_back (O.held output.old) (messages_spelling (messages_of first events.now))) }
     ensures err { IfErr result (λ fault. AreCutShort fault (O.held output.old) (O.faults output.old)
-        (messages_of first events.now) (O.held output.new) (O.faults output.new)) }
+        (messages_of first events.now) (O.held output.new) (O.faults output.new) (O.broken output.new)) }
+    ensures steady { OnOk result (O.faults output.new ≡ O.faults output.old) }
 {
     let mut collected = Bytes::new(alloc);
     let mut number = first;

@@ -30,6 +30,10 @@ pub by_both : {A E : Type 0} (r : Result A E) (P Q R : E → Type 0) → ((e : E
 by_both (Ok x) P Q R both p q = tt
 by_both (Err e) P Q R both p q = both e p q
 
+-- a result has one fault
+pub one_fault : {A E : Type 0} (x y : E) (r : Result A E) → r ≡ Err x → r ≡ Err y → x ≡ y
+one_fault x y r first second = cc
+
 some_same : {A : Type 0} (x y : A) → Some x ≡ Some y → x ≡ y
 some_same x y is = cc
 

@@ -1,8 +1,7 @@
 -- The run of a follower over an input: its messages are taken in order, each over the state that
 -- those before it left, and a line is written for each (this project's own).
-use Rattle.std.specs.Prelude.{◌≡◌, ◌+◌, ◌<◌, ◌≤◌, length, ℕ, List, [], ◌∷◌, ◌++◌, codes, Option, Some, None}
+use Rattle.std.specs.Prelude.{◌≡◌, ◌+◌, ◌<◌, ◌≤◌, length, ℕ, List, [], ◌∷◌, ◌++◌, codes, Bool, Option, Some, None}
 use Rattle.std.specs.Fmt.{decimal}
-use Rattle.pcfs_ports.specs.Faults.{HasRisen}
 use Rattle.pcfs_ports.specs.Observable.{with_back, HoldsSome, TakesFirst}
 use Rattle.journal_records.specs.declared.event.Event.{Event}
 use Rattle.access_history.specs.Headline.{Headline}
@@ -14,12 +13,14 @@ use Rattle.recover.specs.AreaDamage.{IsDamagedPayload}
 use Rattle.follower.specs.declared.taking.Taken.{Taken}
 use Rattle.follower.specs.declared.taking.Taken.TheVariants.{Kept, Known, Missing, Damaged, Full, Stopped}
 use Rattle.follower.specs.Taking.{IsPayloadOf}
+use Rattle.pcfs_server.specs.Ends.{FailedLast}
 use Rattle.pcfs_session.specs.InterpreterView.{InterpreterView, standing_of}
 use Rattle.pcfs_session.specs.LineAnswer.{authority_under}
 use Rattle.pcfs_session.specs.ScriptEnds.{with_line_end}
 use Rattle.pcfs_session.specs.ScriptRun.{ScriptState, state_of_standing, standing_with, IsFullIn}
 use Rattle.pcfs_session.specs.Stored.{StoreGoesOn}
 use Rattle.pcfs_session.specs.Streams.{Streams}
+use Rattle.pcfs_tools.specs.Broken.{Broken}
 use Rattle.follow_run.specs.AnswerText.{answer_lines}
 use Rattle.follow_run.specs.Taken.{AreTaken, AreAllTaken, AreAll, HasBadFrame}
 
@@ -82,49 +83,57 @@ pub record FollowsOver (start : ScriptState) (messages : List Message) (end : Sc
 abbrev pub frame_line : ℕ → List ℕ
 frame_line place = with_line_end (codes "frame " ++ decimal place)
 
--- why no further message is taken after these, the status, and the last line that is written for it:
--- they are all of the input; at the place of the next one none stands; the input failed; too much
--- of it was taken; or a disk failed under the last of them
-pub data HasEnded (end : ScriptState) (before after : Streams) (messages : List Message) : ℕ → List ℕ → Type 0 where
-  done : AreAll before.left after.left messages → end.met ≡ None →
-      HasEnded end before after messages 0 []
-  bad_frame : HasBadFrame before.left after.left messages → end.met ≡ None →
-      HasEnded end before after messages 16 (frame_line (length (messages_spelling messages)))
-  read_fault : HasRisen before.read_faults after.read_faults →
+-- Why no further message is taken after these, the status, and the last line that is written for it:
+-- they are all of the input; at the place of the next one none stands; the input failed, at its last
+-- call; too much of it was taken; or a disk failed under the last of them. But for the third no call
+-- of the input failed. `broken` says whether its last call did.
+pub data HasEnded (end : ScriptState) (before after : Streams) (broken : Bool) (messages : List Message) : ℕ → List ℕ → Type 0 where
+  done : AreAll before.left after.left messages → after.read_faults ≡ before.read_faults →
+      end.met ≡ None → HasEnded end before after broken messages 0 []
+  bad_frame : HasBadFrame before.left after.left messages →
+      after.read_faults ≡ before.read_faults → end.met ≡ None →
+      HasEnded end before after broken messages 16 (frame_line (length (messages_spelling messages)))
+  read_fault : FailedLast before.read_faults after.read_faults broken →
       AreAllTaken before.left after.left messages → end.met ≡ None →
-      HasEnded end before after messages 6 (with_line_end (codes "readfault"))
+      HasEnded end before after broken messages 6 (with_line_end (codes "readfault"))
   input_too_long : TakesFirst 1073741824 before.left after.left →
-      AreAllTaken before.left after.left messages → end.met ≡ None →
-      HasEnded end before after messages 13 (with_line_end (codes "toolong"))
+      AreAllTaken before.left after.left messages → after.read_faults ≡ before.read_faults →
+      end.met ≡ None → HasEnded end before after broken messages 13 (with_line_end (codes "toolong"))
   stopped : (entry : StoreEntry) → AreTaken before.left after.left messages →
-      end.met ≡ Some entry → HasEnded end before after messages 5 (with_line_end (codes "stopped"))
+      after.read_faults ≡ before.read_faults → end.met ≡ Some entry →
+      HasEnded end before after broken messages 5 (with_line_end (codes "stopped"))
 
 -- How a run ends, by its status: the lines for the messages that were taken and the last line were
--- written. Or the output failed, and some first part of that was written, or of the lines for the
--- messages so far; or memory ran out, and it was some first part of these lines.
-pub data FollowEnds (start end : ScriptState) (before after : Streams) : ℕ → Type 0 where
+-- written. Or the output failed, at its last call, and some first part of that was written, or of
+-- the lines for the messages so far; or memory ran out, and it was some first part of these lines.
+-- No other call of the output failed, and of the input none, unless that is the cause.
+pub data FollowEnds (start end : ScriptState) (before after : Streams) (broken : Broken) : ℕ → Type 0 where
   written : (status : ℕ) (messages : List Message) (lines last : List ℕ) →
-      FollowsOver start messages end lines → HasEnded end before after messages status last →
+      FollowsOver start messages end lines →
+      HasEnded end before after broken.input messages status last →
       after.held ≡ with_back before.held (lines ++ last) →
-      FollowEnds start end before after status
+      after.write_faults ≡ before.write_faults → FollowEnds start end before after broken status
   last_line_cut : (status : ℕ) (messages : List Message) (lines last : List ℕ) →
-      FollowsOver start messages end lines → HasEnded end before after messages status last →
-      HasRisen before.write_faults after.write_faults →
-      HoldsSome before.held after.held (lines ++ last) → FollowEnds start end before after 7
+      FollowsOver start messages end lines →
+      HasEnded end before after broken.input messages status last →
+      FailedLast before.write_faults after.write_faults broken.output →
+      HoldsSome before.held after.held (lines ++ last) →
+      FollowEnds start end before after broken 7
   cut_short : (messages : List Message) (lines : List ℕ) → FollowsOver start messages end lines →
-      AreTaken before.left after.left messages → end.met ≡ None →
-      HasRisen before.write_faults after.write_faults →
-      HoldsSome before.held after.held lines → FollowEnds start end before after 7
+      AreTaken before.left after.left messages → after.read_faults ≡ before.read_faults →
+      end.met ≡ None → FailedLast before.write_faults after.write_faults broken.output →
+      HoldsSome before.held after.held lines → FollowEnds start end before after broken 7
   out_of_memory : (messages : List Message) (lines : List ℕ) →
       FollowsOver start messages end lines → AreTaken before.left after.left messages →
-      end.met ≡ None → HoldsSome before.held after.held lines →
-      FollowEnds start end before after 9
+      after.read_faults ≡ before.read_faults → end.met ≡ None →
+      HoldsSome before.held after.held lines → after.write_faults ≡ before.write_faults →
+      FollowEnds start end before after broken 9
 
 -- Below `clock`, `left_since`, `image` and `faults` tell of a disk what they do in `Stored`.
 module _ {D : Type 0} (clock : D → ℕ) (left_since : D → ℕ → List ℕ → Type 0) (image : D → Option (List ℕ)) (faults : D → ℕ) where
   -- the messages of the input are taken by a store and the run ends with this status, and the store
   -- goes on
-  pub record FollowsInput (old : InterpreterView D) (before : Streams) (status : ℕ) (new : InterpreterView D) (after : Streams) : Type 0 where
+  pub record FollowsInput (old : InterpreterView D) (before : Streams) (status : ℕ) (new : InterpreterView D) (after : Streams) (broken : Broken) : Type 0 where
     pub met : Option StoreEntry
-    pub ends : FollowEnds (standing_of old None) (standing_of new met) before after status
+    pub ends : FollowEnds (standing_of old None) (standing_of new met) before after broken status
     pub goes_on : StoreGoesOn clock left_since image faults old.store new.store met

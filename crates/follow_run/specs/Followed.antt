@@ -1,11 +1,11 @@
 -- What calls do that take messages over a store, from one place of an input to a later one (this
 -- project's own).
-use Rattle.std.specs.Prelude.{◌≡◌, ◌+◌, ◌⊎◌, ℕ, List, [], ◌∷◌, codes, length, Option, Some, None}
-use Rattle.pcfs_ports.specs.Faults.{HasRisen}
+use Rattle.std.specs.Prelude.{◌≡◌, ◌+◌, ◌⊎◌, ℕ, List, [], ◌∷◌, codes, length, Bool, Option, Some, None}
 use Rattle.pcfs_ports.specs.Observable.{with_back, HoldsSome}
 use Rattle.event_messages.specs.Messages.{Message}
 use Rattle.event_messages.specs.Reader.{MayGoOn, BeginsNoMessage}
 use Rattle.follower.specs.declared.taking.Taken.{Taken}
+use Rattle.pcfs_server.specs.Ends.{FailedLast}
 use Rattle.pcfs_store.specs.Entries.{StoreEntry}
 use Rattle.pcfs_store.specs.StoreView.{StoreView}
 use Rattle.pcfs_session.specs.InterpreterView.{standing_over}
@@ -14,7 +14,8 @@ use Rattle.pcfs_session.specs.ScriptEnds.{with_line_end}
 use Rattle.pcfs_session.specs.ScriptRun.{ScriptState, script_pass}
 use Rattle.pcfs_session.specs.Stored.{StoreGoesOn}
 use Rattle.pcfs_session.specs.Streams.{Streams}
-use Rattle.pcfs_tools.specs.LastLine.{IsWritten, WroteNothing}
+use Rattle.pcfs_tools.specs.Broken.{Broken}
+use Rattle.pcfs_tools.specs.LastLine.{IsWritten, Wrote, WroteNothing}
 use Rattle.pcfs_tools.specs.ScriptStatus.{IsSilent}
 use Rattle.follow_run.specs.AnswerText.{answer_lines}
 use Rattle.follow_run.specs.FollowRun.{FollowRun, FollowsOver, HasEnded, frame_line}
@@ -49,32 +50,36 @@ last_line_of WriteFault = []
 last_line_of NoMemory = []
 
 -- what is written at last, and the status: the line was written, or the output failed. At a place at
--- which no message stands memory may run out for its line
-abbrev pub TellsEnd : FollowEnd → Option (List ℕ) → ℕ → ℕ → Option (List ℕ) → ℕ → Type 0
-TellsEnd Done held faults result held_after faults_after = IsSilent 0 held faults result held_after faults_after
-TellsEnd (BadFrame place) held faults result held_after faults_after =
-    IsWritten 16 (frame_line place) held faults result held_after faults_after
-    ⊎ WroteNothing held result held_after
-TellsEnd ReadFault held faults result held_after faults_after = IsWritten 6 (with_line_end (codes "readfault")) held faults result held_after faults_after
-TellsEnd InputTooLong held faults result held_after faults_after = IsWritten 13 (with_line_end (codes "toolong")) held faults result held_after faults_after
-TellsEnd Stopped held faults result held_after faults_after = IsWritten 5 (with_line_end (codes "stopped")) held faults result held_after faults_after
-TellsEnd WriteFault held faults result held_after faults_after = IsSilent 7 held faults result held_after faults_after
-TellsEnd NoMemory held faults result held_after faults_after = IsSilent 9 held faults result held_after faults_after
+-- which no message stands memory may run out for its line. `broken` says whether the output's last
+-- call failed
+abbrev pub TellsEnd : FollowEnd → Option (List ℕ) → ℕ → ℕ → Option (List ℕ) → ℕ → Bool → Type 0
+TellsEnd Done held faults result held_after faults_after broken = IsSilent 0 held faults result held_after faults_after
+TellsEnd (BadFrame place) held faults result held_after faults_after broken =
+    IsWritten 16 (frame_line place) held faults result held_after faults_after broken
+    ⊎ WroteNothing held faults result held_after faults_after
+TellsEnd ReadFault held faults result held_after faults_after broken = Wrote 6 (codes "readfault") held faults result held_after faults_after broken
+TellsEnd InputTooLong held faults result held_after faults_after broken = Wrote 13 (codes "toolong") held faults result held_after faults_after broken
+TellsEnd Stopped held faults result held_after faults_after broken = Wrote 5 (codes "stopped") held faults result held_after faults_after broken
+TellsEnd WriteFault held faults result held_after faults_after broken = IsSilent 7 held faults result held_after faults_after
+TellsEnd NoMemory held faults result held_after faults_after broken = IsSilent 9 held faults result held_after faults_after
 
 -- how a run ends, before its last line: the lines for all messages that were taken are out; or the
--- output failed or memory ran out, and some first part of them is
-pub data IsEnding (start end : ScriptState) (before after : Streams) (how : FollowEnd) : Type 0 where
+-- output failed, at its last call, or memory ran out, and some first part of them is
+pub data IsEnding (start end : ScriptState) (before after : Streams) (broken : Broken) (how : FollowEnd) : Type 0 where
   all_told : (messages : List Message) (lines : List ℕ) → FollowsOver start messages end lines →
-      HasEnded end before after messages (status_of how) (last_line_of how) →
-      after.held ≡ with_back before.held lines → IsEnding start end before after how
+      HasEnded end before after broken.input messages (status_of how) (last_line_of how) →
+      after.held ≡ with_back before.held lines → after.write_faults ≡ before.write_faults →
+      IsEnding start end before after broken how
   unwritten : (messages : List Message) (lines : List ℕ) → how ≡ WriteFault →
       FollowsOver start messages end lines → AreTaken before.left after.left messages →
-      end.met ≡ None → HasRisen before.write_faults after.write_faults →
-      HoldsSome before.held after.held lines → IsEnding start end before after how
+      after.read_faults ≡ before.read_faults → end.met ≡ None →
+      FailedLast before.write_faults after.write_faults broken.output →
+      HoldsSome before.held after.held lines → IsEnding start end before after broken how
   without_memory : (messages : List Message) (lines : List ℕ) → how ≡ NoMemory →
       FollowsOver start messages end lines → AreTaken before.left after.left messages →
-      end.met ≡ None → HoldsSome before.held after.held lines →
-      IsEnding start end before after how
+      after.read_faults ≡ before.read_faults → end.met ≡ None →
+      HoldsSome before.held after.held lines → after.write_faults ≡ before.write_faults →
+      IsEnding start end before after broken how
 
 -- ---- from one message to the next
 
@@ -140,7 +145,7 @@ module _ {D : Type 0} (clock : D → ℕ) (left_since : D → ℕ → List ℕ �
         StopsWithin bytes place old new held held_after (BadFrame at)
 
   -- the messages of the input are taken by a store, which goes on, and this is how it ends
-  pub record EndsFollowing (old : StoreView D) (before : Streams) (how : FollowEnd) (new : StoreView D) (after : Streams) : Type 0 where
+  pub record EndsFollowing (old : StoreView D) (before : Streams) (how : FollowEnd) (new : StoreView D) (after : Streams) (broken : Broken) : Type 0 where
     pub met : Option StoreEntry
-    pub ends : IsEnding (standing_at old None) (standing_at new met) before after how
+    pub ends : IsEnding (standing_at old None) (standing_at new met) before after broken how
     pub goes_on : StoreGoesOn clock left_since image faults old new met

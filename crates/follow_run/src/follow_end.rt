@@ -50,7 +50,8 @@ fn new_frame_line(alloc: Global, place: u64) -> Result<Bytes, NoMemory>
 
 /// Writes the last line of a run that ended so, if it has one, and returns the status to end with.
 pub fn write_end<O: Sink>(alloc: Global, output: &mut O, end: FollowEnd) -> u8
-    ensures { TellsEnd end (O.held output.old) (O.faults output.old) result (O.held output.new) (O.faults output.new) }
+    ensures tells { TellsEnd end (O.held output.old) (O.faults output.old) result (O.held output.new) (O.faults output.new) (O.broken output.new) }
+    ensures untouched { end ≡ FollowEnd.WriteFault → O.broken output.new ≡ O.broken output.old }
 {
     match end {
         FollowEnd::Done => DONE,

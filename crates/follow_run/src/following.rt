@@ -1,12 +1,13 @@
 //! The run: the input is taken in pieces, and its messages are taken as they come.
 
-ghost use Rattle.std.specs.Prelude.{◌≡◌, ◌<◌, ◌≤◌, ◌+◌, ◌^◌, ◌++◌, [], None, OnOk, IfErr, IsErrOf, length};
-ghost use Rattle.pcfs_ports.specs.Faults.{HasRisen};
+ghost use Rattle.std.specs.Prelude.{◌≡◌, ◌≢◌, ◌<◌, ◌≤◌, ◌+◌, ◌^◌, ◌++◌, [], None, true, OnOk, IfErr, IsErrOf, length};
+ghost use Rattle.pcfs_ports.specs.Faults.{HasRisen, raise};
 ghost use Rattle.bl_syntax.specs.Codec.{AreBytes};
 ghost use Rattle.pcfs_session.specs.ScriptContext.{first_asker};
 ghost use Rattle.pcfs_session.specs.InterpreterView.{standing_over};
 ghost use Rattle.pcfs_session.specs.ScriptRun.{IsLawfulStanding, script_pass};
 ghost use Rattle.pcfs_session.specs.Streams.{streams_of};
+ghost use Rattle.pcfs_tools.specs.Broken.{broken_of};
 ghost use Rattle.follow_run.specs.FollowRun.{FollowsInput};
 ghost use Rattle.follow_run.specs.Followed.{TakesAll, StopsWithin, EndsFollowing, standing_at};
 
@@ -37,6 +38,9 @@ fn take_piece<D: Disk, O: Sink>(
     ensures risen { IsErrOf result FollowEnd.WriteFault →
         HasRisen (O.faults output.old) (O.faults output.new) }
     ensures never_falls { O.faults output.old ≤ O.faults output.new }
+    ensures steady { result ≢ Err FollowEnd.WriteFault → O.faults output.new ≡ O.faults output.old }
+    ensures by_one { IsErrOf result FollowEnd.WriteFault → O.faults output.new ≡ raise (O.faults output.old) }
+    ensures broken { IsErrOf result FollowEnd.WriteFault → O.broken output.new ≡ true }
 {
     match reader.feed(piece) {
         Ok(()) => take_messages(alloc, store, reader, output),
@@ -66,7 +70,8 @@ fn read_pieces<D: Disk, I: Source, O: Sink>(
     requires running { store.old.stop ≡ None }
     ensures ends { EndsFollowing D.clock D.left_since D.image D.faults store.old
         (streams_of I.left I.faults O.held O.faults input.old output.old) result store.new
-        (streams_of I.left I.faults O.held O.faults input.new output.new) }
+        (streams_of I.left I.faults O.held O.faults input.new output.new)
+        (broken_of I.broken O.broken input.new output.new) }
     ensures never_falls { O.faults output.old ≤ O.faults output.new }
 {
     let mut piece = match new_piece(alloc) {
@@ -96,7 +101,8 @@ fn read_pieces<D: Disk, I: Source, O: Sink>(
 /// input is taken in pieces, and of it no more is kept than a message and a piece.
 ///
 /// It goes on after each message that the store answers. It ends at the end of the input, or at the first place at which no
-/// message stands, or if a port or a disk fails or memory runs out. Returns the status to end with, and the store.
+/// message stands, or if a port or a disk fails or memory runs out: nothing is read after a read that failed, and nothing
+/// written after a write that failed. Returns the status to end with, and the store.
 pub fn follow_over<D: Disk, I: Source, O: Sink>(
     alloc: Global,
     store: Store<D>,
@@ -108,7 +114,8 @@ pub fn follow_over<D: Disk, I: Source, O: Sink>(
     ensures { FollowsInput D.clock D.left_since D.image D.faults (record { store = store; asker = first_asker script_pass })
         (streams_of I.left I.faults O.held O.faults input.old output.old) result.0
         (record { store = result.1; asker = first_asker script_pass })
-        (streams_of I.left I.faults O.held O.faults input.new output.new) }
+        (streams_of I.left I.faults O.held O.faults input.new output.new)
+        (broken_of I.broken O.broken input.new output.new) }
 {
     let mut store = store;
     let end = read_pieces(alloc, &mut store, input, output);

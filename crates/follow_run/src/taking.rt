@@ -1,7 +1,7 @@
 //! Messages that are taken by a store, with the lines for them.
 
-ghost use Rattle.std.specs.Prelude.{◌≡◌, ◌≤◌, ◌<◌, ◌+◌, ◌^◌, ◌∷◌, [], None, OnOk, IfErr, IsErrOf, length};
-ghost use Rattle.pcfs_ports.specs.Faults.{HasRisen};
+ghost use Rattle.std.specs.Prelude.{◌≡◌, ◌≢◌, ◌≤◌, ◌<◌, ◌+◌, ◌^◌, ◌∷◌, [], None, true, OnOk, IfErr, IsErrOf, length};
+ghost use Rattle.pcfs_ports.specs.Faults.{HasRisen, raise};
 ghost use Rattle.bl_syntax.specs.Codec.{AreBytes};
 ghost use Rattle.pcfs_ports.specs.Observable.{with_back};
 ghost use Rattle.follow_run.specs.AnswerText.{answer_line};
@@ -28,6 +28,9 @@ fn write_answer<O: Sink>(
     ensures risen { IsErrOf result FollowEnd.WriteFault →
         HasRisen (O.faults output.old) (O.faults output.new) }
     ensures never_falls { O.faults output.old ≤ O.faults output.new }
+    ensures steady { result ≢ Err FollowEnd.WriteFault → O.faults output.new ≡ O.faults output.old }
+    ensures by_one { IsErrOf result FollowEnd.WriteFault → O.faults output.new ≡ raise (O.faults output.old) }
+    ensures broken { IsErrOf result FollowEnd.WriteFault → O.broken output.new ≡ true }
 {
     let line = match answer_line(alloc, number, taken) {
         Ok(line) => line,
@@ -55,6 +58,9 @@ pub fn take_message<D: Disk, O: Sink>(
     ensures risen { IsErrOf result FollowEnd.WriteFault →
         HasRisen (O.faults output.old) (O.faults output.new) }
     ensures never_falls { O.faults output.old ≤ O.faults output.new }
+    ensures steady { result ≢ Err FollowEnd.WriteFault → O.faults output.new ≡ O.faults output.old }
+    ensures by_one { IsErrOf result FollowEnd.WriteFault → O.faults output.new ≡ raise (O.faults output.old) }
+    ensures broken { IsErrOf result FollowEnd.WriteFault → O.broken output.new ≡ true }
 {
     let taken = take(alloc, store, number, payload);
     match taken {
@@ -83,6 +89,9 @@ pub fn take_messages<D: Disk, O: Sink>(
     ensures risen { IsErrOf result FollowEnd.WriteFault →
         HasRisen (O.faults output.old) (O.faults output.new) }
     ensures never_falls { O.faults output.old ≤ O.faults output.new }
+    ensures steady { result ≢ Err FollowEnd.WriteFault → O.faults output.new ≡ O.faults output.old }
+    ensures by_one { IsErrOf result FollowEnd.WriteFault → O.faults output.new ≡ raise (O.faults output.old) }
+    ensures broken { IsErrOf result FollowEnd.WriteFault → O.broken output.new ≡ true }
 {
     'messages: loop {
         let (number, payload) = match reader.next() {

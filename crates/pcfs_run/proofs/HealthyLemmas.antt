@@ -1,5 +1,5 @@
 -- A run over ports that do not fail ends with one of these statuses, by its cause.
-use Rattle.std.proofs.Common.{◌≡◌, ◌⊎◌, inl, inr, ◌≤◌, ℕ, List, [], ◌∷◌, String, Option, Some, pos, refl, sym, subst}
+use Rattle.std.proofs.Common.{◌≡◌, ◌⊎◌, inl, inr, ◌≤◌, ℕ, Bool, List, [], ◌∷◌, String, Option, Some, pos, refl, sym, subst, arith}
 use Rattle.std.specs.declared.alloc.Global.{Global}
 use Rattle.bl_syntax.specs.declared.terms.TimePoint.TheVariants.{At}
 use Rattle.line_faults.specs.LongLines.{HasLongLine}
@@ -7,6 +7,7 @@ use Rattle.line_text.specs.Lines.{lines_of}
 use Rattle.pcfs_ports.specs.Faults.{HasRisen}
 use Rattle.pcfs_ports.specs.Observable.{ReadsToEnd}
 use Rattle.pcfs_secrets.specs.declared.secrets.Secrets.{Secrets}
+use Rattle.pcfs_server.specs.Ends.{FailedLast}
 use Rattle.pcfs_server.specs.declared.end.ServeEnd.{ServeEnd}
 use Rattle.command_words.specs.Tasks.{AsksFor}
 use Rattle.command_words.specs.declared.words.Task.TheVariants.{Script, Stored, Audit, Export, Follow, Check, Modes, RootSign}
@@ -53,6 +54,10 @@ use Rattle.pcfs_run.specs.Served as serving
 use Rattle.pcfs_run.specs.Healthy.{AreHealthy, EndsHealthy, IsUnfit, long_line, too_many_bytes, damaged, absent}
 use Rattle.pcfs_run.specs.Healthy as healthy
 
+-- a call that failed was counted
+risen_last : (before after : ℕ) (broken : Bool) → FailedLast before after broken → HasRisen before after
+risen_last before after broken failed below = omega (arith, failed.0, below)
+
 module _ (secrets : Secrets) (words : List (String Global)) (before after : ServePorts) (sound : AreHealthy before after) where
   abbrev Ends : ℕ → Type 0
   Ends status = EndsHealthy secrets words before after status
@@ -65,9 +70,16 @@ module _ (secrets : Secrets) (words : List (String Global)) (before after : Serv
   no_net_fault (inl listener) = sound.listener listener
   no_net_fault (inr nonces) = sound.nonces nonces
 
+  no_read_failed : FailedLast before.ports.streams.read_faults after.ports.streams.read_faults after.ports.broken.input → ⊥
+  no_read_failed failed = sound.input (risen_last before.ports.streams.read_faults after.ports.streams.read_faults after.ports.broken.input failed)
+
+  no_write_failed : FailedLast before.ports.streams.write_faults after.ports.streams.write_faults after.ports.broken.output → ⊥
+  no_write_failed failed = sound.output (risen_last before.ports.streams.write_faults after.ports.streams.write_faults after.ports.broken.output failed)
+
   -- the output did not fail after it had had so many faults
-  not_since : (faults : ℕ) → before.ports.streams.write_faults ≤ faults → HasRisen faults after.ports.streams.write_faults → ⊥
-  not_since faults later risen = sound.output (HasRisen-earlier before.ports.streams.write_faults faults after.ports.streams.write_faults later risen)
+  not_since : (faults : ℕ) → before.ports.streams.write_faults ≤ faults → FailedLast faults after.ports.streams.write_faults after.ports.broken.output → ⊥
+  not_since faults later failed =
+      sound.output (HasRisen-earlier before.ports.streams.write_faults faults after.ports.streams.write_faults later (risen_last faults after.ports.streams.write_faults after.ports.broken.output failed))
 
   -- ---- scripts
 
@@ -77,7 +89,7 @@ module _ (secrets : Secrets) (words : List (String Global)) (before after : Serv
     ended_at = record after.ports.streams { held = held; write_faults = faults }
 
     abbrev Tells : ScriptEnd → Type 0
-    Tells how = TellsEnd how held faults status after.ports.streams.held after.ports.streams.write_faults
+    Tells how = TellsEnd how held faults status after.ports.streams.held after.ports.streams.write_faults after.ports.broken.output
 
     by_writes : (how : ScriptEnd) (whole : List ℕ) → ScriptWrites start end before.ports.streams ended_at how whole → Tells how → Ends status
     by_writes _ _ (scripts.done bytes written reads short run running) tells = subst Ends (sym tells.0) healthy.done
@@ -99,38 +111,38 @@ module _ (secrets : Secrets) (words : List (String Global)) (before after : Serv
     by_end _ (scripts.out_of_memory whole way some) tells = subst Ends (sym tells.0) healthy.out_of_memory
     by_end _ (scripts.out_of_memory_at_long_line whole writes some) tells = subst Ends (sym tells.0) healthy.out_of_memory
 
-  of_script : (status : ℕ) (start end : ScriptState) → AsksFor words Script ⊎ AsksFor words Stored → ((met : StoreEntry) → end.met ≡ Some met → status ≡ 5 → ⊥) → ScriptStatus start end before.ports.streams after.ports.streams status → Ends status
+  of_script : (status : ℕ) (start end : ScriptState) → AsksFor words Script ⊎ AsksFor words Stored → ((met : StoreEntry) → end.met ≡ Some met → status ≡ 5 → ⊥) → ScriptStatus start end before.ports.streams after.ports.streams after.ports.broken status → Ends status
   of_script status start end asks runs_on s = by_end status s.held s.write_faults s.never_falls asks start end runs_on s.how s.ends s.tells
 
-  of_memory : (status : ℕ) → AsksFor words Script → MemoryEnds secrets before.ports.streams after.ports.streams status → Ends status
+  of_memory : (status : ℕ) → AsksFor words Script → MemoryEnds secrets before.ports.streams after.ports.streams after.ports.broken status → Ends status
   of_memory _ asks (in_memory.ended status end runs_on s) = of_script status _ end (inl asks) (λ met is five. runs_on five) s
   of_memory _ asks (in_memory.disk_failed end s) = healthy.out_of_memory
 
   -- ---- messages that are taken
 
   module _ (end : ScriptState) (asks : AsksFor words Follow) (runs_on : (met : StoreEntry) → end.met ≡ Some met → ⊥) where
-    by_ended : (messages : List Message) (status : ℕ) (last : List ℕ) → HasEnded end before.ports.streams after.ports.streams messages status last → Ends status
-    by_ended messages _ _ (follows.done all running) = healthy.done
-    by_ended messages _ _ (follows.bad_frame bad running) = healthy.no_message messages asks bad
-    by_ended messages _ _ (follows.read_fault risen all running) = absurd (sound.input risen)
-    by_ended messages _ _ (follows.input_too_long first all running) = healthy.messages_too_many_bytes asks first
-    by_ended messages _ _ (follows.stopped entry taken met) = absurd (runs_on entry met)
+    by_ended : (messages : List Message) (status : ℕ) (last : List ℕ) → HasEnded end before.ports.streams after.ports.streams after.ports.broken.input messages status last → Ends status
+    by_ended messages _ _ (follows.done all reads running) = healthy.done
+    by_ended messages _ _ (follows.bad_frame bad reads running) = healthy.no_message messages asks bad
+    by_ended messages _ _ (follows.read_fault failed all running) = absurd (no_read_failed failed)
+    by_ended messages _ _ (follows.input_too_long first all reads running) = healthy.messages_too_many_bytes asks first
+    by_ended messages _ _ (follows.stopped entry taken reads met) = absurd (runs_on entry met)
 
-    of_following : (start : ScriptState) (status : ℕ) → FollowEnds start end before.ports.streams after.ports.streams status → Ends status
-    of_following start _ (follows.written status messages lines last over ended out) = by_ended messages status last ended
-    of_following start _ (follows.last_line_cut status messages lines last over ended risen some) = absurd (sound.output risen)
-    of_following start _ (follows.cut_short messages lines over taken running risen some) = absurd (sound.output risen)
-    of_following start _ (follows.out_of_memory messages lines over taken running some) = healthy.out_of_memory
+    of_following : (start : ScriptState) (status : ℕ) → FollowEnds start end before.ports.streams after.ports.streams after.ports.broken status → Ends status
+    of_following start _ (follows.written status messages lines last over ended out writes) = by_ended messages status last ended
+    of_following start _ (follows.last_line_cut status messages lines last over ended failed some) = absurd (no_write_failed failed)
+    of_following start _ (follows.cut_short messages lines over taken reads running failed some) = absurd (no_write_failed failed)
+    of_following start _ (follows.out_of_memory messages lines over taken reads running some writes) = healthy.out_of_memory
 
   -- ---- events that are exported
 
   module _ (from generation : ℕ) (image : List ℕ) (start : ScriptState) (asks : AsksFor words (Export from)) (opened : IsOpened secrets generation image before.ports.disks start) where
-    of_export : (status : ℕ) → TellsExport start.base start.events from before.ports.streams.held before.ports.streams.write_faults status after.ports.streams.held after.ports.streams.write_faults → Ends status
+    of_export : (status : ℕ) → TellsExport start.base start.events from before.ports.streams.held before.ports.streams.write_faults status after.ports.streams.held after.ports.streams.write_faults after.ports.broken.output → Ends status
     of_export status (exports.exported later (inl told)) = subst Ends (sym told.0) healthy.done
-    of_export status (exports.exported later (inr failed)) = absurd (sound.output failed.1)
-    of_export status (exports.cut_short later is some) = subst Ends (sym is) healthy.out_of_memory
+    of_export status (exports.exported later (inr failed)) = absurd (no_write_failed failed.1)
+    of_export status (exports.cut_short later is some writes) = subst Ends (sym is) healthy.out_of_memory
     of_export status (exports.gone within (inl told)) = subst Ends (sym told.0) (healthy.events_gone from generation image start asks opened within)
-    of_export status (exports.gone within (inr failed)) = absurd (sound.output failed.1)
+    of_export status (exports.gone within (inr failed)) = absurd (no_write_failed failed.1)
     of_export status (exports.untold within untold) = subst Ends (sym untold.0) healthy.out_of_memory
 
   -- ---- an inquiry
@@ -142,9 +154,9 @@ module _ (secrets : Secrets) (words : List (String Global)) (before after : Serv
   by_answer _ _ asks (inquiries.read_fault risen) = absurd (sound.input risen)
   by_answer _ _ asks (inquiries.too_long first) = healthy.inquiry_too_many_bytes asks first
 
-  of_inquiry : (status : ℕ) → AsksFor words Check → TellsInquiry before.ports.streams after.ports.streams status → Ends status
+  of_inquiry : (status : ℕ) → AsksFor words Check → TellsInquiry before.ports.streams after.ports.streams after.ports.broken.output status → Ends status
   of_inquiry status asks (inquired.answered found line ends (inl told)) = subst Ends (sym told.0) (by_answer found line asks ends)
-  of_inquiry status asks (inquired.answered found line ends (inr failed)) = absurd (sound.output failed.1)
+  of_inquiry status asks (inquired.answered found line ends (inr failed)) = absurd (no_write_failed failed.1)
   of_inquiry status asks (inquired.unanswered untold) = subst Ends (sym untold.0) healthy.out_of_memory
 
   -- ---- a table of modes
@@ -161,9 +173,9 @@ module _ (secrets : Secrets) (words : List (String Global)) (before after : Serv
     by_table _ _ (tables.read_fault risen) = absurd (sound.input risen)
     by_table _ _ (tables.too_long first) = healthy.table_too_many_bytes from to asks first
 
-    of_modes : (status : ℕ) → TellsModes from to before.ports.streams after.ports.streams status → Ends status
+    of_modes : (status : ℕ) → TellsModes from to before.ports.streams after.ports.streams after.ports.broken.output status → Ends status
     of_modes status (stated.stated found written ends (inl told)) = subst Ends (sym told.0) (by_table found written ends)
-    of_modes status (stated.stated found written ends (inr failed)) = absurd (sound.output failed.1)
+    of_modes status (stated.stated found written ends (inr failed)) = absurd (no_write_failed failed.1)
     of_modes status (stated.unstated untold) = subst Ends (sym untold.0) healthy.out_of_memory
 
   -- ---- statements to be signed
@@ -183,9 +195,9 @@ module _ (secrets : Secrets) (words : List (String Global)) (before after : Serv
     by_signing _ _ (signing.read_fault risen) = absurd (sound.input risen)
     by_signing _ _ (signing.too_long first) = healthy.signing_too_many_bytes height from asks first
 
-    of_signing : (status : ℕ) → TellsSigning height from before.ports.streams after.ports.streams status → Ends status
+    of_signing : (status : ℕ) → TellsSigning height from before.ports.streams after.ports.streams after.ports.broken.output status → Ends status
     of_signing status (signed.signed found written ends (inl told)) = subst Ends (sym told.0) (by_signing found written ends)
-    of_signing status (signed.signed found written ends (inr failed)) = absurd (sound.output failed.1)
+    of_signing status (signed.signed found written ends (inr failed)) = absurd (no_write_failed failed.1)
     of_signing status (signed.unsigned untold) = subst Ends (sym untold.0) healthy.out_of_memory
 
   -- ---- a run with one line
@@ -213,13 +225,13 @@ module _ (secrets : Secrets) (words : List (String Global)) (before after : Serv
   of_run rests _ alone apart (runs.in_memory status asks same ends) = of_memory status asks ends
   of_run rests _ alone apart (runs.stored status generation image start end asks opened back ends) = of_script status start end (inr asks) (λ met is five. no_disk_failed (back.failed met is)) ends
   of_run rests _ alone apart (runs.followed status generation image start end asks opened back ends) = of_following end asks (λ met is. no_disk_failed (back.failed met is)) start status ends
-  of_run rests _ alone apart (runs.exported from status generation image start asks opened same rest left tells) = of_export from generation image start asks opened status tells
-  of_run rests _ alone apart (runs.told status line cause left out) = by_cause rests status line alone apart cause
-  of_run rests _ alone apart (runs.cut_short status line cause left risen some) = absurd (sound.output risen)
+  of_run rests _ alone apart (runs.exported from status generation image start asks opened same rest input tells) = of_export from generation image start asks opened status tells
+  of_run rests _ alone apart (runs.told status line cause input out writes) = by_cause rests status line alone apart cause
+  of_run rests _ alone apart (runs.cut_short status line cause input failed some) = absurd (no_write_failed failed)
   of_run rests _ alone apart (runs.inquired status asks same ends) = of_inquiry status asks ends
   of_run rests _ alone apart (runs.modes_told from to status asks same ends) = of_modes from to asks status ends
   of_run rests _ alone apart (runs.signing_told height from status asks same ends) = of_signing height from asks status ends
-  of_run rests _ alone apart (runs.out_of_memory same left out) = healthy.out_of_memory
+  of_run rests _ alone apart (runs.out_of_memory same input out writes) = healthy.out_of_memory
 
   -- ---- sessions
 
@@ -236,13 +248,13 @@ module _ (secrets : Secrets) (words : List (String Global)) (before after : Serv
     by_serving _ _ (serving.not_opened failed kept net) = absurd (no_disk_failed failed)
 
     of_serving : (status : ℕ) → EndsServing is_of secrets count rests before after status → Ends status
-    of_serving _ (serving.told status line writes out) = by_serving status line writes
-    of_serving _ (serving.cut_short status line writes risen some) = absurd (sound.output risen)
-    of_serving _ (serving.unopened same net out) = healthy.out_of_memory
-    of_serving _ (serving.out_of_memory end no_fault served attended out) = healthy.out_of_memory
+    of_serving _ (serving.told status line writes out still) = by_serving status line writes
+    of_serving _ (serving.cut_short status line writes failed some) = absurd (no_write_failed failed)
+    of_serving _ (serving.unopened same net out still) = healthy.out_of_memory
+    of_serving _ (serving.out_of_memory end no_fault served attended out still) = healthy.out_of_memory
 
   pub EndsHealthy-run : (of_session of_nine : PassEntries) (rests : Rests) (status : ℕ) → RunEnds of_session of_nine secrets words rests before after status → Ends status
-  EndsHealthy-run of_session of_nine rests _ (serving.serves status port count serves left reads ends) = of_serving of_session rests port count (inl serves) status ends
-  EndsHealthy-run of_session of_nine rests _ (serving.serves_nine status port count serves left reads ends) = of_serving of_nine rests port count (inr serves) status ends
-  EndsHealthy-run of_session of_nine rests _ (serving.unread same net left reads out) = healthy.out_of_memory
+  EndsHealthy-run of_session of_nine rests _ (serving.serves status port count serves input ends) = of_serving of_session rests port count (inl serves) status ends
+  EndsHealthy-run of_session of_nine rests _ (serving.serves_nine status port count serves input ends) = of_serving of_nine rests port count (inr serves) status ends
+  EndsHealthy-run of_session of_nine rests _ (serving.unread same net input out writes) = healthy.out_of_memory
   EndsHealthy-run of_session of_nine rests _ (serving.alone status alone apart ends net) = of_run rests status alone apart ends

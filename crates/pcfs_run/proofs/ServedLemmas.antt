@@ -27,6 +27,7 @@ use Rattle.recover.specs.declared.fault.OpenFault.TheVariants as opens
 use Rattle.recover.specs.Opening.{IsNotOpened, IsNewestClosed}
 use Rattle.recover.specs.Opening as opening
 use Rattle.shared_store.specs.GoesOn.{HasGoneOn}
+use Rattle.pcfs_tools.specs.Broken.{Broken}
 use Rattle.pcfs_tools.specs.LastLine.{Wrote}
 use Rattle.pcfs_top.specs.Ports.{Rests, AreBytesKept}
 use Rattle.pcfs_top.specs.Run.{IsNewestOf, TellsUnopened, damaged_text}
@@ -248,55 +249,55 @@ module _ {D : Type 0} (is_of : PassEntries) (clock : D → ℕ) (left_since : D 
 
     -- ---- its last line
 
-    module _ (before after : Streams) (net net' : Net) (count : ℕ) where
+    module _ (before after : Streams) (broken broken' : Broken) (net net' : Net) (count : ℕ) where
       abbrev Here : ServePorts
-      Here = record { ports = record { streams = before; disks = disks_of clock left_since image faults a b }; net = net }
+      Here = record { ports = record { streams = before; broken = broken; disks = disks_of clock left_since image faults a b }; net = net }
 
       abbrev There : ServePorts
-      There = record { ports = record { streams = after; disks = disks_of clock left_since image faults (first_disk s') (second_disk s') }; net = net' }
+      There = record { ports = record { streams = after; broken = broken'; disks = disks_of clock left_since image faults (first_disk s') (second_disk s') }; net = net' }
 
       abbrev Around : Rests
       Around = rests_of clock left_since image faults a b (first_disk s') (second_disk s')
 
       -- a line is told, or the output fails
-      told_as : (status : ℕ) (line : List ℕ) (result : ℕ) → ServeWrites is_of secrets count Around Here There status line → Wrote status line before.held before.write_faults result after.held after.write_faults → EndsServing is_of secrets count Around Here There result
-      told_as status line result writes (inl told) = subst (EndsServing is_of secrets count Around Here There) (sym told.0) (serving.told status line writes told.1)
+      told_as : (status : ℕ) (line : List ℕ) (result : ℕ) → ServeWrites is_of secrets count Around Here There status line → Wrote status line before.held before.write_faults result after.held after.write_faults broken'.output → EndsServing is_of secrets count Around Here There result
+      told_as status line result writes (inl told) = subst (EndsServing is_of secrets count Around Here There) (sym told.0) (serving.told status line writes told.1 told.2)
       told_as status line result writes (inr failed) = subst (EndsServing is_of secrets count Around Here There) (sym failed.0) (serving.cut_short status line writes failed.1 failed.2)
 
-      told_running : (end : ServeEnd) (result : ℕ) → s'.stop ≡ None → IsGrown is_of (number_of end) count s s' → AreAttended count net net' end → TellsServed end before.held before.write_faults result after.held after.write_faults → EndsServing is_of secrets count Around Here There result
+      told_running : (end : ServeEnd) (result : ℕ) → s'.stop ≡ None → IsGrown is_of (number_of end) count s s' → AreAttended count net net' end → TellsServed end before.held before.write_faults result after.held after.write_faults broken'.output → EndsServing is_of secrets count Around Here There result
       told_running (serve_ends.Done n) result runs grown attended (inl told) =
           told_as 0 (codes "served " ++ decimal n) result (serving.served (serve_ends.Done n) 0 (codes "served " ++ decimal n) (is_served n count None runs grown) attended (all_served n)) told
       told_running (serve_ends.Done n) result runs grown attended (inr untold) =
-          subst (EndsServing is_of secrets count Around Here There) (sym untold.0) (serving.out_of_memory (serve_ends.Done n) (λ e. e) (is_served n count None runs grown) attended untold.1)
+          subst (EndsServing is_of secrets count Around Here There) (sym untold.0) (serving.out_of_memory (serve_ends.Done n) (λ e. e) (is_served n count None runs grown) attended untold.1 untold.2)
       told_running (serve_ends.NetFault n) result runs grown attended told =
           told_as 8 (codes "netfault") result (serving.served (serve_ends.NetFault n) 8 (codes "netfault") (is_served n count None runs grown) attended (net_failed n)) told
       told_running (serve_ends.NoMemory n) result runs grown attended untold =
-          subst (EndsServing is_of secrets count Around Here There) (sym untold.0) (serving.out_of_memory (serve_ends.NoMemory n) (λ e. e) (is_served n count None runs grown) attended untold.1)
+          subst (EndsServing is_of secrets count Around Here There) (sym untold.0) (serving.out_of_memory (serve_ends.NoMemory n) (λ e. e) (is_served n count None runs grown) attended untold.1 untold.2)
 
       told_end : (stop : Option ℕ) (end : ServeEnd) (result : ℕ) → s'.stop ≡ stop → IsGrown is_of (number_of end) count s s' → AreAttended count net net' end →
-          ((pass : ℕ) → s'.stop ≡ Some pass → Wrote 5 (codes "stopped") before.held before.write_faults result after.held after.write_faults) →
-          (s'.stop ≡ None → TellsServed end before.held before.write_faults result after.held after.write_faults) → EndsServing is_of secrets count Around Here There result
+          ((pass : ℕ) → s'.stop ≡ Some pass → Wrote 5 (codes "stopped") before.held before.write_faults result after.held after.write_faults broken'.output) →
+          (s'.stop ≡ None → TellsServed end before.held before.write_faults result after.held after.write_faults broken'.output) → EndsServing is_of secrets count Around Here There result
       told_end None end result is grown attended stops runs = told_running end result is grown attended (runs is)
       told_end (Some pass) end result is grown attended stops runs =
           told_as 5 (codes "stopped") result (serving.disk_failed end pass (is_served (number_of end) count (Some pass) is grown) attended) (stops pass is)
 
       pub EndsServing-served : (end : ServeEnd) (result : ℕ) (a' b' : D) → IsGrown is_of (number_of end) count s s' → AreAttended count net net' end →
-          ((pass : ℕ) → s'.stop ≡ Some pass → Wrote 5 (codes "stopped") before.held before.write_faults result after.held after.write_faults) →
-          (s'.stop ≡ None → TellsServed end before.held before.write_faults result after.held after.write_faults) → a' ≡ first_disk s' → b' ≡ second_disk s' →
-          EndsServing is_of secrets count (rests_of clock left_since image faults a b a' b') Here (record { ports = record { streams = after; disks = disks_of clock left_since image faults a' b' }; net = net' }) result
+          ((pass : ℕ) → s'.stop ≡ Some pass → Wrote 5 (codes "stopped") before.held before.write_faults result after.held after.write_faults broken'.output) →
+          (s'.stop ≡ None → TellsServed end before.held before.write_faults result after.held after.write_faults broken'.output) → a' ≡ first_disk s' → b' ≡ second_disk s' →
+          EndsServing is_of secrets count (rests_of clock left_since image faults a b a' b') Here (record { ports = record { streams = after; broken = broken'; disks = disks_of clock left_since image faults a' b' }; net = net' }) result
       EndsServing-served end result a' b' grown attended stops runs a_is b_is =
-          subst (λ (x : D). EndsServing is_of secrets count (rests_of clock left_since image faults a b x b') Here (record { ports = record { streams = after; disks = disks_of clock left_since image faults x b' }; net = net' }) result) (sym a_is)
-          (subst (λ (y : D). EndsServing is_of secrets count (rests_of clock left_since image faults a b (first_disk s') y) Here (record { ports = record { streams = after; disks = disks_of clock left_since image faults (first_disk s') y }; net = net' }) result) (sym b_is)
+          subst (λ (x : D). EndsServing is_of secrets count (rests_of clock left_since image faults a b x b') Here (record { ports = record { streams = after; broken = broken'; disks = disks_of clock left_since image faults x b' }; net = net' }) result) (sym a_is)
+          (subst (λ (y : D). EndsServing is_of secrets count (rests_of clock left_since image faults a b (first_disk s') y) Here (record { ports = record { streams = after; broken = broken'; disks = disks_of clock left_since image faults (first_disk s') y }; net = net' }) result) (sym b_is)
           (told_end s'.stop end result refl grown attended stops runs))
 
   -- ---- no store was opened
 
-  module _ (before after : Streams) (net net' : Net) (count : ℕ) (a' b' : D) (net_kept : IsNetKept net net') where
+  module _ (before after : Streams) (broken broken' : Broken) (net net' : Net) (count : ℕ) (a' b' : D) (net_kept : IsNetKept net net') where
     abbrev First : ServePorts
-    First = record { ports = record { streams = before; disks = disks_of clock left_since image faults a b }; net = net }
+    First = record { ports = record { streams = before; broken = broken; disks = disks_of clock left_since image faults a b }; net = net }
 
     abbrev Last : ServePorts
-    Last = record { ports = record { streams = after; disks = disks_of clock left_since image faults a' b' }; net = net' }
+    Last = record { ports = record { streams = after; broken = broken'; disks = disks_of clock left_since image faults a' b' }; net = net' }
 
     abbrev Between : Rests
     Between = rests_of clock left_since image faults a b a' b'
@@ -304,17 +305,17 @@ module _ {D : Type 0} (is_of : PassEntries) (clock : D → ℕ) (left_since : D 
     abbrev Ends : ℕ → Type 0
     Ends status = EndsServing is_of secrets count Between First Last status
 
-    tells : (status : ℕ) (line : List ℕ) (result : ℕ) → ServeWrites is_of secrets count Between First Last status line → Wrote status line before.held before.write_faults result after.held after.write_faults → Ends result
-    tells status line result writes (inl told) = subst Ends (sym told.0) (serving.told status line writes told.1)
+    tells : (status : ℕ) (line : List ℕ) (result : ℕ) → ServeWrites is_of secrets count Between First Last status line → Wrote status line before.held before.write_faults result after.held after.write_faults broken'.output → Ends result
+    tells status line result writes (inl told) = subst Ends (sym told.0) (serving.told status line writes told.1 told.2)
     tells status line result writes (inr failed) = subst Ends (sym failed.0) (serving.cut_short status line writes failed.1 failed.2)
 
     kept : (fault : OpenFault) → (fault ≡ opens.Disk → ⊥) → IsNotOpened clock left_since image faults a b (authority_with secrets.seal_key secrets.ring) fault a' b' → AreBytesKept (disks_of clock left_since image faults a b) (disks_of clock left_since image faults a' b')
     kept fault not_disk n = record { a_stays = n.first_same not_disk; b_stays = n.second_same not_disk }
 
-    pub EndsServing-unopened : (fault : OpenFault) (result : ℕ) → IsNotOpened clock left_since image faults a b (authority_with secrets.seal_key secrets.ring) fault a' b' → TellsUnopened fault before.held before.write_faults result after.held after.write_faults → Ends result
+    pub EndsServing-unopened : (fault : OpenFault) (result : ℕ) → IsNotOpened clock left_since image faults a b (authority_with secrets.seal_key secrets.ring) fault a' b' → TellsUnopened fault before.held before.write_faults result after.held after.write_faults broken'.output → Ends result
     EndsServing-unopened opens.NoStore result n told = tells 4 (codes "nostore") result (serving.no_store (λ x y is_x is_y. has_no_area x y (n.cause x y is_x is_y)) (kept opens.NoStore (λ e. absurd cc) n) net_kept) told
     EndsServing-unopened (opens.Damaged number damage) result n (inl told) =
         tells 3 (damaged_text number damage) result (serving.damaged number damage n.cause (kept (opens.Damaged number damage) (λ e. absurd cc) n) net_kept) told
-    EndsServing-unopened (opens.Damaged number damage) result n (inr untold) = subst Ends (sym untold.0) (serving.unopened (kept (opens.Damaged number damage) (λ e. absurd cc) n) net_kept untold.1)
+    EndsServing-unopened (opens.Damaged number damage) result n (inr untold) = subst Ends (sym untold.0) (serving.unopened (kept (opens.Damaged number damage) (λ e. absurd cc) n) net_kept untold.1 untold.2)
     EndsServing-unopened opens.Disk result n told = tells 5 (codes "stopped") result (serving.not_opened n.cause (λ rest. record { a_stays = n.first_handled.stays rest.0; b_stays = n.second_handled.stays rest.1 }) net_kept) told
-    EndsServing-unopened opens.NoMemory result n untold = subst Ends (sym untold.0) (serving.unopened (kept opens.NoMemory (λ e. absurd cc) n) net_kept untold.1)
+    EndsServing-unopened opens.NoMemory result n untold = subst Ends (sym untold.0) (serving.unopened (kept opens.NoMemory (λ e. absurd cc) n) net_kept untold.1 untold.2)

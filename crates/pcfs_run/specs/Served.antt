@@ -15,7 +15,7 @@ use Rattle.op_gate.specs.declared.damage.Damage.{Damage}
 use Rattle.pcfs_secrets.specs.declared.secrets.Secrets.{Secrets}
 use Rattle.pcfs_server.specs.declared.end.ServeEnd.{ServeEnd}
 use Rattle.pcfs_server.specs.declared.end.ServeEnd.TheVariants as serve_ends
-use Rattle.pcfs_server.specs.Ends.{number_of, HasTaken, HasCause, IsNetFault, StandsStill}
+use Rattle.pcfs_server.specs.Ends.{number_of, HasTaken, HasCause, IsNetFault, StandsStill, FailedLast}
 use Rattle.pcfs_session.specs.LineAnswer.{authority_under}
 use Rattle.pcfs_session.specs.ScriptEnds.{with_line_end}
 use Rattle.pcfs_store.specs.declared.checkpoints.Checkpoint.{Checkpoint}
@@ -27,7 +27,7 @@ use Rattle.pcfs_store.specs.Newest.{newer, one_of}
 use Rattle.pcfs_store.specs.Ready.{SurvivesStop}
 use Rattle.recover.specs.Opening.{IsNewestHistory, IsNewestDamaged, IsNewestClosed}
 use Rattle.pcfs_tools.specs.LastLine.{Wrote, WroteNothing}
-use Rattle.pcfs_top.specs.Ports.{Disks, Ports, Rests, IfTold, HasDiskFailed, AreBytesKept}
+use Rattle.pcfs_top.specs.Ports.{Disks, Ports, Rests, IfTold, HasDiskFailed, AreBytesKept, IsInputKept}
 use Rattle.pcfs_top.specs.Run.{IsNewestOf, HasNoArea, EndsWith, damaged_text}
 use Rattle.pcfs_run.specs.Passes.{PassEntries, AreOfPasses, stop_among}
 use Rattle.pcfs_run.specs.ServeWords.{IsServe, IsServe9}
@@ -142,13 +142,14 @@ pub record IsServed (is_of : PassEntries) (secrets : Secrets) (rests : Rests) (b
       ((pass : ℕ) × (stop ≡ Some pass) × (met ≡ None) × HasRisen (one_of before.b_faults before.a_faults second) (one_of after.b_faults after.a_faults second)))
 
 -- what is written at an end at which no disk has failed, and the status: a line; or memory ran out,
--- and nothing is
-abbrev pub TellsServed : ServeEnd → Option (List ℕ) → ℕ → ℕ → Option (List ℕ) → ℕ → Type 0
-TellsServed (serve_ends.Done n) held faults result held_after faults_after =
-    Wrote 0 (codes "served " ++ decimal n) held faults result held_after faults_after
-    ⊎ WroteNothing held result held_after
-TellsServed (serve_ends.NetFault n) held faults result held_after faults_after = Wrote 8 (codes "netfault") held faults result held_after faults_after
-TellsServed (serve_ends.NoMemory n) held faults result held_after faults_after = WroteNothing held result held_after
+-- and nothing is. `broken` says whether the last call of the output failed
+abbrev pub TellsServed : ServeEnd → Option (List ℕ) → ℕ → ℕ → Option (List ℕ) → ℕ → Bool → Type 0
+TellsServed (serve_ends.Done n) held faults result held_after faults_after broken =
+    Wrote 0 (codes "served " ++ decimal n) held faults result held_after faults_after broken
+    ⊎ WroteNothing held faults result held_after faults_after
+TellsServed (serve_ends.NetFault n) held faults result held_after faults_after broken =
+    Wrote 8 (codes "netfault") held faults result held_after faults_after broken
+TellsServed (serve_ends.NoMemory n) held faults result held_after faults_after broken = WroteNothing held faults result held_after faults_after
 
 -- the status at such an end, and its line
 pub data IsServeLine : ServeEnd → ℕ → List ℕ → Type 0 where
@@ -178,26 +179,30 @@ pub data ServeWrites (is_of : PassEntries) (secrets : Secrets) (count : ℕ) (re
       IsNetKept before.net after.net →
       ServeWrites is_of secrets count rests before after 5 (codes "stopped")
 
--- The status that such a run ends with. Its line was written; or the output failed, and holds some
--- first part of it; or memory ran out, before the store was opened or after it was served with no
--- fault of the listener or the nonces, and nothing was written.
+-- The status that such a run ends with. Its line was written; or the output failed, at its last
+-- call, and holds some first part of it; or memory ran out, before the store was opened or after it
+-- was served with no fault of the listener or the nonces, and nothing was written. But in the second
+-- case no call of the output failed.
 pub data EndsServing (is_of : PassEntries) (secrets : Secrets) (count : ℕ) (rests : Rests) (before after : ServePorts) : ℕ → Type 0 where
   told : (status : ℕ) (line : List ℕ) →
       ServeWrites is_of secrets count rests before after status line →
       after.ports.streams.held ≡ with_back before.ports.streams.held (with_line_end line) →
+      after.ports.streams.write_faults ≡ before.ports.streams.write_faults →
       EndsServing is_of secrets count rests before after status
   cut_short : (status : ℕ) (line : List ℕ) →
       ServeWrites is_of secrets count rests before after status line →
-      HasRisen before.ports.streams.write_faults after.ports.streams.write_faults →
+      FailedLast before.ports.streams.write_faults after.ports.streams.write_faults after.ports.broken.output →
       HoldsSome before.ports.streams.held after.ports.streams.held (with_line_end line) →
       EndsServing is_of secrets count rests before after 7
   unopened : AreBytesKept before.ports.disks after.ports.disks → IsNetKept before.net after.net →
       after.ports.streams.held ≡ before.ports.streams.held →
+      after.ports.streams.write_faults ≡ before.ports.streams.write_faults →
       EndsServing is_of secrets count rests before after 9
   out_of_memory : (end : ServeEnd) → (IsNetFault end → ⊥) →
       IsServed is_of secrets rests before.ports.disks after.ports.disks (number_of end) count None →
       AreAttended count before.net after.net end →
       after.ports.streams.held ≡ before.ports.streams.held →
+      after.ports.streams.write_faults ≡ before.ports.streams.write_faults →
       EndsServing is_of secrets count rests before after 9
 
 -- How a run ends: it serves sessions, or 9P2000, and takes nothing of its input; or it is a run of
@@ -206,19 +211,17 @@ pub data EndsServing (is_of : PassEntries) (secrets : Secrets) (count : ℕ) (re
 pub data RunEnds (of_session of_nine : PassEntries) (secrets : Secrets)
     (words : List (String Global)) (rests : Rests) (before after : ServePorts) : ℕ → Type 0 where
   serves : (status port count : ℕ) → IsServe words port count →
-      after.ports.streams.left ≡ before.ports.streams.left →
-      after.ports.streams.read_faults ≡ before.ports.streams.read_faults →
+      IsInputKept before.ports.streams after.ports.streams →
       EndsServing of_session secrets count rests before after status →
       RunEnds of_session of_nine secrets words rests before after status
   serves_nine : (status port count : ℕ) → IsServe9 words port count →
-      after.ports.streams.left ≡ before.ports.streams.left →
-      after.ports.streams.read_faults ≡ before.ports.streams.read_faults →
+      IsInputKept before.ports.streams after.ports.streams →
       EndsServing of_nine secrets count rests before after status →
       RunEnds of_session of_nine secrets words rests before after status
   unread : AreBytesKept before.ports.disks after.ports.disks → IsNetKept before.net after.net →
-      after.ports.streams.left ≡ before.ports.streams.left →
-      after.ports.streams.read_faults ≡ before.ports.streams.read_faults →
+      IsInputKept before.ports.streams after.ports.streams →
       after.ports.streams.held ≡ before.ports.streams.held →
+      after.ports.streams.write_faults ≡ before.ports.streams.write_faults →
       RunEnds of_session of_nine secrets words rests before after 9
   alone : (status : ℕ) → ((port count : ℕ) → IsServe words port count → ⊥) →
       ((port count : ℕ) → IsServe9 words port count → ⊥) →

@@ -1,6 +1,6 @@
 //! A run of the program that may serve: its words, its ports, and the status that it ends with.
 
-ghost use Rattle.std.specs.Prelude.{◌≡◌, ◌≤◌, ℕ, List, MatchOption, Option, Some};
+ghost use Rattle.std.specs.Prelude.{◌≡◌, ◌≤◌, ℕ, List, Bool, MatchOption, Option, Some};
 ghost use Rattle.command_words.specs.declared.words.Task.TheVariants.{Serve, Serve9};
 ghost use Rattle.pcfs_ports.specs.Disk.{IsPinned};
 ghost use Rattle.session_service.specs.Sessions.{sources_of, inputs_of, AreOfSession};
@@ -64,16 +64,16 @@ fn serve<
 ) -> Ended<D>
     requires some { 1 ≤ count }
     requires few { count ≤ 1000000 }
-    ensures { (left : Option (List ℕ)) (read_faults : ℕ) →
+    ensures { (left : Option (List ℕ)) (read_faults : ℕ) (read_broken : Bool) →
         EndsServing (AreOfSession (sources_of (C.gives clock.now) L.In.left
         (inputs_of L.In.left (L.queue net.old)) (N.coming nonces.old))) secrets.now count
         (rests_of (IsPinned D.clock D.left_since D.image) a b result.a result.b)
         (record {
-          ports = ports_beside left read_faults O.held O.faults D.image D.faults output.old a b;
+          ports = ports_beside left read_faults read_broken O.held O.faults O.broken D.image D.faults output.old a b;
           net = net_of L.waiting L.over L.faults N.faults net.old nonces.old;
         })
         (record {
-          ports = ports_beside left read_faults O.held O.faults D.image D.faults output.new result.a result.b;
+          ports = ports_beside left read_faults read_broken O.held O.faults O.broken D.image D.faults output.new result.a result.b;
           net = net_of L.waiting L.over L.faults N.faults net.new nonces.new;
         }) result.status }
 {
@@ -171,11 +171,11 @@ pub fn run<
         secrets.now words.now.items
         (rests_of (IsPinned D.clock D.left_since D.image) a b result.a result.b)
         (record {
-          ports = ports_of I.left I.faults O.held O.faults D.image D.faults input.old output.old a b;
+          ports = ports_of I.left I.faults I.broken O.held O.faults O.broken D.image D.faults input.old output.old a b;
           net = net_of L.waiting L.over L.faults N.faults net.old nonces.old;
         })
         (record {
-          ports = ports_of I.left I.faults O.held O.faults D.image D.faults input.new output.new result.a result.b;
+          ports = ports_of I.left I.faults I.broken O.held O.faults O.broken D.image D.faults input.new output.new result.a result.b;
           net = net_of L.waiting L.over L.faults N.faults net.new nonces.new;
         }) result.status }
 {

@@ -2,7 +2,8 @@
 //! a command of the top floor is run alone.
 //!
 //! `run` returns how it ended and why. Of the history at the end the headline holds, what was added under the number of a
-//! connection's pass was added in the turns of the lines of its session, and the disks that come back stand for it.
+//! connection's pass was added in the turns of the lines of its session, or of its messages, and the disks that come back
+//! stand for it.
 #![tactic(auto)]
 
 mod commands;

@@ -1,6 +1,6 @@
 //! 9P2000 over a store, for each connection.
 
-ghost use Rattle.std.specs.Prelude.{◌≡◌, ◌≤◌, ℕ, List, [], Option, None};
+ghost use Rattle.std.specs.Prelude.{◌≡◌, ◌≤◌, ℕ, List, [], Bool, Option, None};
 ghost use Rattle.std.specs.List.{AllByRecursion};
 ghost use Rattle.journal_records.specs.EventSpelling.{IsReadEvent};
 ghost use Rattle.pcfs_server.specs.Ends.{number_of};
@@ -192,16 +192,16 @@ pub(crate) fn serve9<
 ) -> Ended<D>
     requires some { 1 ≤ count }
     requires few { count ≤ 1000000 }
-    ensures { (left : Option (List ℕ)) (read_faults : ℕ) →
+    ensures { (left : Option (List ℕ)) (read_faults : ℕ) (read_broken : Bool) →
         EndsServing (AreOfNine (nine_sources_of (C.gives clock.now) L.In.left
         (inputs_of L.In.left (L.queue net.old)) (N.coming nonces.old))) secrets.now count
         (rests_of (IsPinned D.clock D.left_since D.image) a b result.a result.b)
         (record {
-          ports = ports_beside left read_faults O.held O.faults D.image D.faults output.old a b;
+          ports = ports_beside left read_faults read_broken O.held O.faults O.broken D.image D.faults output.old a b;
           net = net_of L.waiting L.over L.faults N.faults net.old nonces.old;
         })
         (record {
-          ports = ports_beside left read_faults O.held O.faults D.image D.faults output.new result.a result.b;
+          ports = ports_beside left read_faults read_broken O.held O.faults O.broken D.image D.faults output.new result.a result.b;
           net = net_of L.waiting L.over L.faults N.faults net.new nonces.new;
         }) result.status }
 {

@@ -29,7 +29,8 @@ fn served_line(alloc: Global, count: u64) -> Result<Bytes, NoMemory>
 
 // Writes how many connections were attended, and returns the status to end with.
 fn write_count<O: Sink>(alloc: Global, output: &mut O, count: u64) -> u8
-    ensures { TellsServed (ServeEnd.Done count) (O.held output.old) (O.faults output.old) result (O.held output.new) (O.faults output.new) }
+    ensures { TellsServed (ServeEnd.Done count) (O.held output.old) (O.faults output.old) result
+        (O.held output.new) (O.faults output.new) (O.broken output.new) }
 {
     match served_line(alloc, count) {
         Ok(line) => write_last_line(output, line.as_slice(), DONE),
@@ -39,7 +40,7 @@ fn write_count<O: Sink>(alloc: Global, output: &mut O, count: u64) -> u8
 
 // Writes the line at an end at which no disk failed, and returns the status to end with.
 fn write_served<O: Sink>(alloc: Global, output: &mut O, end: ServeEnd) -> u8
-    ensures { TellsServed end (O.held output.old) (O.faults output.old) result (O.held output.new) (O.faults output.new) }
+    ensures { TellsServed end (O.held output.old) (O.faults output.old) result (O.held output.new) (O.faults output.new) (O.broken output.new) }
 {
     match end {
         ServeEnd::Done(count) => write_count(alloc, output, count),
@@ -56,8 +57,9 @@ pub fn write_end<O: Sink, D: Disk>(
     store: &Store<D>,
 ) -> u8
     ensures stopped { (pass : ℕ) → store.now.stop ≡ Some pass →
-        Wrote 5 (codes "stopped") (O.held output.old) (O.faults output.old) result (O.held output.new) (O.faults output.new) }
-    ensures running { store.now.stop ≡ None → TellsServed end (O.held output.old) (O.faults output.old) result (O.held output.new) (O.faults output.new) }
+        Wrote 5 (codes "stopped") (O.held output.old) (O.faults output.old) result (O.held output.new) (O.faults output.new) (O.broken output.new) }
+    ensures running { store.now.stop ≡ None →
+        TellsServed end (O.held output.old) (O.faults output.old) result (O.held output.new) (O.faults output.new) (O.broken output.new) }
 {
     if store.is_stopped() {
         return write_last_line(output, b"stopped\n", DISK_FAULT);

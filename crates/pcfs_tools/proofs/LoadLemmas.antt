@@ -13,10 +13,11 @@ use Rattle.pcfs_session.specs.Streams.{Streams}
 use Rattle.pcfs_session.specs.declared.script_end.ScriptEnd.{ScriptEnd}
 use Rattle.pcfs_session.specs.declared.script_end.ScriptEnd.TheVariants.{Done, LineTooLong, ReadFault, WriteFault, NoMemory, InputTooLong, Stopped}
 use Rattle.generated_script.specs.Script.{script_text}
-use Rattle.pcfs_tools.specs.LastLine.{Wrote, WroteNothing}
+use Rattle.pcfs_tools.specs.Broken.{Broken}
+use Rattle.pcfs_tools.specs.LastLine.{IsWritten, Wrote, WroteNothing}
 use Rattle.pcfs_tools.specs.Load.{IsLoaded, IsRunThrough, begins_with_word, count_of, load_secrets, summary_text}
 use Rattle.pcfs_tools.specs.ScriptStatus.{TellsEnd, AnswersInput}
-use Rattle.pcfs_tools.proofs.TellingLemmas.{Writes, Wrote-line}
+use Rattle.pcfs_tools.proofs.TellingLemmas.{Wrote-line}
 
 -- ---- counts
 
@@ -55,16 +56,16 @@ not_zero : (status other : ℕ) → status ≡ 0 → status ≡ other → 1 ≤ 
 not_zero status other none is some = omega (arith, none, is, some)
 
 -- only the end Done has the status 0, and then nothing more was written
-done_tells : (how : ScriptEnd) (held : Option (List ℕ)) (faults status : ℕ) (held_after : Option (List ℕ)) (faults_after : ℕ) → status ≡ 0 → TellsEnd how held faults status held_after faults_after → (how ≡ Done) × (held_after ≡ held)
-done_tells Done held faults status held_after faults_after is tells = (refl, tells.1)
-done_tells LineTooLong held faults status held_after faults_after is tells = absurd (not_zero status 2 is tells.0 (omega arith))
-done_tells ReadFault held faults status held_after faults_after is (inl told) = absurd (not_zero status 6 is told.0 (omega arith))
-done_tells ReadFault held faults status held_after faults_after is (inr failed) = absurd (not_zero status 7 is failed.0 (omega arith))
-done_tells WriteFault held faults status held_after faults_after is tells = absurd (not_zero status 7 is tells.0 (omega arith))
-done_tells NoMemory held faults status held_after faults_after is tells = absurd (not_zero status 9 is tells.0 (omega arith))
-done_tells InputTooLong held faults status held_after faults_after is (inl told) = absurd (not_zero status 13 is told.0 (omega arith))
-done_tells InputTooLong held faults status held_after faults_after is (inr failed) = absurd (not_zero status 7 is failed.0 (omega arith))
-done_tells Stopped held faults status held_after faults_after is tells = absurd (not_zero status 5 is tells.0 (omega arith))
+done_tells : (how : ScriptEnd) (held : Option (List ℕ)) (faults status : ℕ) (held_after : Option (List ℕ)) (faults_after : ℕ) (broken : Bool) → status ≡ 0 → TellsEnd how held faults status held_after faults_after broken → (how ≡ Done) × (held_after ≡ held)
+done_tells Done held faults status held_after faults_after broken is tells = (refl, tells.1)
+done_tells LineTooLong held faults status held_after faults_after broken is tells = absurd (not_zero status 2 is tells.0 (omega arith))
+done_tells ReadFault held faults status held_after faults_after broken is (inl told) = absurd (not_zero status 6 is told.0 (omega arith))
+done_tells ReadFault held faults status held_after faults_after broken is (inr failed) = absurd (not_zero status 7 is failed.0 (omega arith))
+done_tells WriteFault held faults status held_after faults_after broken is tells = absurd (not_zero status 7 is tells.0 (omega arith))
+done_tells NoMemory held faults status held_after faults_after broken is tells = absurd (not_zero status 9 is tells.0 (omega arith))
+done_tells InputTooLong held faults status held_after faults_after broken is (inl told) = absurd (not_zero status 13 is told.0 (omega arith))
+done_tells InputTooLong held faults status held_after faults_after broken is (inr failed) = absurd (not_zero status 7 is failed.0 (omega arith))
+done_tells Stopped held faults status held_after faults_after broken is tells = absurd (not_zero status 5 is tells.0 (omega arith))
 
 -- the whole input was run
 done_writes : (start end : ScriptState) (before after : Streams) (how : ScriptEnd) (whole script : List ℕ) → how ≡ Done → before.left ≡ Some script → ScriptWrites start end before after how whole → RunsOver start (lines_of script) end whole × (end.met ≡ None)
@@ -89,11 +90,11 @@ done_ends start end before after _ script held is left first last (ends.out_of_m
 
 module _ {D : Type 0} (clock : D → ℕ) (left_since : D → ℕ → List ℕ → Type 0) (image : D → Option (List ℕ)) (faults : D → ℕ) where
   -- the script in an input was run to its end, if the status is 0
-  pub IsRunThrough-done : (old new : InterpreterView D) (before after : Streams) (script held told : List ℕ) (status events : ℕ) → AnswersInput clock left_since image faults old before status new after → status ≡ 0 → before.left ≡ Some script → before.held ≡ Some [] →
+  pub IsRunThrough-done : (old new : InterpreterView D) (before after : Streams) (broken : Broken) (script held told : List ℕ) (status events : ℕ) → AnswersInput clock left_since image faults old before status new after broken → status ≡ 0 → before.left ≡ Some script → before.held ≡ Some [] →
       after.held ≡ Some held → events ≡ (replay new.store.base new.store.events).count → told ≡ summary_text (lines_of held) events → IsRunThrough (standing_of old None) script told
-  IsRunThrough-done old new before after script held told status events answers is left first last events_is told_is =
+  IsRunThrough-done old new before after broken script held told status events answers is left first last events_is told_is =
       let a = answers.ends in
-      let t = done_tells a.how a.held a.write_faults status after.held after.write_faults is a.tells in
+      let t = done_tells a.how a.held a.write_faults status after.held after.write_faults broken.output is a.tells in
       let r = done_ends (standing_of old None) (standing_of new answers.met) before (record after { held = a.held; write_faults = a.write_faults }) a.how script held t.0 left first (sym t.1 ∙ last) a.ends in
       record { end = standing_of new answers.met; written = held; runs = r.0; running = r.1; told_is = told_is ∙ ap (summary_text (lines_of held)) events_is }
 
@@ -103,7 +104,7 @@ IsLoaded-run rounds seed secrets start script told secrets_are start_is script_i
     subst (λ (s : ScriptState). IsRunThrough s (script_text rounds seed) told) (start_is ∙ ap fresh_start secrets_are) (subst (λ (b : List ℕ). IsRunThrough start b told) script_is runs)
 
 -- its line was written
-pub told_loaded : (rounds seed : ℕ) (told line bytes : List ℕ) (held held_after : Option (List ℕ)) (faults faults_after result : ℕ) → bytes ≡ line → line ≡ with_line_end told → IsLoaded rounds seed told → Writes 0 bytes held faults result held_after faults_after →
-    ((text : List ℕ) × IsLoaded rounds seed text × Wrote 0 text held faults result held_after faults_after) ⊎ WroteNothing held result held_after
-told_loaded rounds seed told line bytes held held_after faults faults_after result same is loaded writes =
-    inl (told, loaded, Wrote-line 0 told bytes held held_after faults faults_after result (same ∙ is) writes)
+pub told_loaded : (rounds seed : ℕ) (told line bytes : List ℕ) (held held_after : Option (List ℕ)) (faults faults_after result : ℕ) (broken : Bool) → bytes ≡ line → line ≡ with_line_end told → IsLoaded rounds seed told → IsWritten 0 bytes held faults result held_after faults_after broken →
+    ((text : List ℕ) × IsLoaded rounds seed text × Wrote 0 text held faults result held_after faults_after broken) ⊎ WroteNothing held faults result held_after faults_after
+told_loaded rounds seed told line bytes held held_after faults faults_after result broken same is loaded writes =
+    inl (told, loaded, Wrote-line 0 told bytes held held_after faults faults_after result broken (same ∙ is) writes)

@@ -11,6 +11,7 @@ use Rattle.pcfs_session.specs.ScriptContext.{first_asker}
 use Rattle.pcfs_session.specs.InterpreterView.{standing_over}
 use Rattle.pcfs_session.specs.ScriptRun.{ScriptState, fresh_start, script_pass}
 use Rattle.pcfs_session.specs.Streams.{Streams}
+use Rattle.pcfs_tools.specs.Broken.{Broken}
 use Rattle.pcfs_tools.specs.Memory.{MemoryEnds}
 use Rattle.pcfs_tools.specs.Memory as memory
 use Rattle.pcfs_tools.specs.ScriptStatus.{ScriptStatus}
@@ -29,10 +30,10 @@ fresh_over secrets s new =
     ∙ ap (λ (n : ℕ). record (standing_over s None (first_asker script_pass)) { secrets = secrets; base = fresh; events = []; checkpoints = []; generation = n }) new.generation_is
     ∙ ap (λ (n : ℕ). record (standing_over s None (first_asker script_pass)) { secrets = secrets; base = fresh; events = []; checkpoints = []; generation = 1; used = n }) new.used_is
 
-pub MemoryEnds-ran : (secrets : Secrets) (before after : Streams) (start end : ScriptState) (status result : ℕ) → start ≡ fresh_start secrets → ScriptStatus start end before after status →
-    ((status ≡ 5) × (result ≡ 9)) ⊎ ((status ≡ 5 → ⊥) × (result ≡ status)) → MemoryEnds secrets before after result
-MemoryEnds-ran secrets before after start end status result same ends (inl is) =
-    subst (MemoryEnds secrets before after) (sym is.1)
-    (memory.disk_failed end (subst (λ (n : ℕ). ScriptStatus (fresh_start secrets) end before after n) is.0 (subst (λ (s : ScriptState). ScriptStatus s end before after status) same ends)))
-MemoryEnds-ran secrets before after start end status result same ends (inr is) =
-    subst (MemoryEnds secrets before after) (sym is.1) (memory.ended status end is.0 (subst (λ (s : ScriptState). ScriptStatus s end before after status) same ends))
+pub MemoryEnds-ran : (secrets : Secrets) (before after : Streams) (broken : Broken) (start end : ScriptState) (status result : ℕ) → start ≡ fresh_start secrets → ScriptStatus start end before after broken status →
+    ((status ≡ 5) × (result ≡ 9)) ⊎ ((status ≡ 5 → ⊥) × (result ≡ status)) → MemoryEnds secrets before after broken result
+MemoryEnds-ran secrets before after broken start end status result same ends (inl is) =
+    subst (MemoryEnds secrets before after broken) (sym is.1)
+    (memory.disk_failed end (subst (λ (n : ℕ). ScriptStatus (fresh_start secrets) end before after broken n) is.0 (subst (λ (s : ScriptState). ScriptStatus s end before after broken status) same ends)))
+MemoryEnds-ran secrets before after broken start end status result same ends (inr is) =
+    subst (MemoryEnds secrets before after broken) (sym is.1) (memory.ended status end is.0 (subst (λ (s : ScriptState). ScriptStatus s end before after broken status) same ends))

@@ -1,5 +1,5 @@
 -- What is told of audits, inquiries, tables of modes and statements to be signed.
-use Rattle.std.proofs.Common.{◌≡◌, ◌⊎◌, inl, inr, ◌+◌, ◌-◌, ◌^◌, ◌≤◌, ℕ, List, [], ◌∷◌, length, refl, sym, subst, arith, Option}
+use Rattle.std.proofs.Common.{◌≡◌, ◌⊎◌, inl, inr, ◌+◌, ◌-◌, ◌^◌, ◌≤◌, ℕ, List, [], ◌∷◌, length, Bool, refl, sym, subst, arith, Option}
 use Rattle.std.specs.Prelude.{Result, IfOk}
 use Rattle.access_history.specs.Authority.{Authority}
 use Rattle.access_history.specs.Base.{BaseView}
@@ -11,8 +11,6 @@ use Rattle.pcfs_audit.specs.declared.report.Report.{Report}
 use Rattle.pcfs_audit.specs.declared.report.ReportRow.{ReportRow}
 use Rattle.pcfs_inquiry.specs.Answers.{InquiryEnds}
 use Rattle.pcfs_modes.specs.Answers.{ModesEnds}
-use Rattle.pcfs_ports.specs.Faults.{HasRisen}
-use Rattle.pcfs_ports.specs.Observable.{with_back, HoldsSome}
 use Rattle.pcfs_session.specs.ScriptEnds.{with_line_end}
 use Rattle.pcfs_session.specs.Streams.{Streams}
 use Rattle.policy_statement.specs.Ring.{KeyView}
@@ -23,13 +21,9 @@ use Rattle.pcfs_tools.specs.Signed.{TellsSigning, signed}
 use Rattle.pcfs_tools.specs.Stated.{TellsModes, stated}
 use Rattle.root_signing.specs.Signed.{SigningEnds}
 
--- these bytes were written, with this status; or the output failed
-abbrev pub Writes : ℕ → List ℕ → Option (List ℕ) → ℕ → ℕ → Option (List ℕ) → ℕ → Type 0
-Writes status bytes held faults result held_after faults_after = ((result ≡ status) × (held_after ≡ with_back held bytes)) ⊎ ((result ≡ 7) × HasRisen faults faults_after × HoldsSome held held_after bytes)
-
 -- the bytes are a line
-pub Wrote-line : (status : ℕ) (text bytes : List ℕ) (held held_after : Option (List ℕ)) (faults faults_after result : ℕ) → bytes ≡ with_line_end text → Writes status bytes held faults result held_after faults_after → Wrote status text held faults result held_after faults_after
-Wrote-line status text bytes held held_after faults faults_after result is writes = subst (λ (b : List ℕ). Writes status b held faults result held_after faults_after) is writes
+pub Wrote-line : (status : ℕ) (text bytes : List ℕ) (held held_after : Option (List ℕ)) (faults faults_after result : ℕ) (broken : Bool) → bytes ≡ with_line_end text → IsWritten status bytes held faults result held_after faults_after broken → Wrote status text held faults result held_after faults_after broken
+Wrote-line status text bytes held held_after faults faults_after result broken is writes = subst (λ (b : List ℕ). IsWritten status b held faults result held_after faults_after broken) is writes
 
 -- ---- audits
 
@@ -55,36 +49,36 @@ pub status_some : (rows : List ReportRow) → 1 ≤ length rows → audit_status
 status_some [] some = absurd (omega (arith, some))
 status_some (row ∷ rows) some = refl
 
-pub TellsAudit-told : (authority : Authority) (base : BaseView) (events : List Event) (report : Report) (held held_after : Option (List ℕ)) (faults faults_after result : ℕ) → IsReport authority base events report →
-    Wrote (audit_status report.rows) (report_text report) held faults result held_after faults_after ⊎ WroteNothing held result held_after → TellsAudit authority base events held faults result held_after faults_after
-TellsAudit-told authority base events report held held_after faults faults_after result is (inl told) = reported report is told
-TellsAudit-told authority base events report held held_after faults faults_after result is (inr untold) = unreported untold
+pub TellsAudit-told : (authority : Authority) (base : BaseView) (events : List Event) (report : Report) (held held_after : Option (List ℕ)) (faults faults_after result : ℕ) (broken : Bool) → IsReport authority base events report →
+    Wrote (audit_status report.rows) (report_text report) held faults result held_after faults_after broken ⊎ WroteNothing held faults result held_after faults_after → TellsAudit authority base events held faults result held_after faults_after broken
+TellsAudit-told authority base events report held held_after faults faults_after result broken is (inl told) = reported report is told
+TellsAudit-told authority base events report held held_after faults faults_after result broken is (inr untold) = unreported untold
 
 -- the audit of an equal history
-pub TellsAudit-same : (authority : Authority) (base base' : BaseView) (events events' : List Event) (held held_after : Option (List ℕ)) (faults faults_after result : ℕ) → base ≡ base' → events ≡ events' →
-    TellsAudit authority base events held faults result held_after faults_after → TellsAudit authority base' events' held faults result held_after faults_after
-TellsAudit-same authority base base' events events' held held_after faults faults_after result same_base same_events tells =
-    subst (λ (b : BaseView). TellsAudit authority b events' held faults result held_after faults_after) same_base
-    (subst (λ (es : List Event). TellsAudit authority base es held faults result held_after faults_after) same_events tells)
+pub TellsAudit-same : (authority : Authority) (base base' : BaseView) (events events' : List Event) (held held_after : Option (List ℕ)) (faults faults_after result : ℕ) (broken : Bool) → base ≡ base' → events ≡ events' →
+    TellsAudit authority base events held faults result held_after faults_after broken → TellsAudit authority base' events' held faults result held_after faults_after broken
+TellsAudit-same authority base base' events events' held held_after faults faults_after result broken same_base same_events tells =
+    subst (λ (b : BaseView). TellsAudit authority b events' held faults result held_after faults_after broken) same_base
+    (subst (λ (es : List Event). TellsAudit authority base es held faults result held_after faults_after broken) same_events tells)
 
 -- ---- inquiries
 
-pub TellsInquiry-told : (before after : Streams) (status : ℕ) (text line bytes : List ℕ) (result : ℕ) → bytes ≡ line → line ≡ with_line_end text → InquiryEnds before.left after.left before.read_faults after.read_faults status text →
-    Writes status bytes before.held before.write_faults result after.held after.write_faults → TellsInquiry before after result
-TellsInquiry-told before after status text line bytes result same is ends writes =
-    answered status text ends (Wrote-line status text line before.held after.held before.write_faults after.write_faults result is
-    (subst (λ (b : List ℕ). Writes status b before.held before.write_faults result after.held after.write_faults) same writes))
+pub TellsInquiry-told : (before after : Streams) (status : ℕ) (text line bytes : List ℕ) (result : ℕ) (broken : Bool) → bytes ≡ line → line ≡ with_line_end text → InquiryEnds before.left after.left before.read_faults after.read_faults status text →
+    IsWritten status bytes before.held before.write_faults result after.held after.write_faults broken → TellsInquiry before after broken result
+TellsInquiry-told before after status text line bytes result broken same is ends writes =
+    answered status text ends (Wrote-line status text line before.held after.held before.write_faults after.write_faults result broken is
+    (subst (λ (b : List ℕ). IsWritten status b before.held before.write_faults result after.held after.write_faults broken) same writes))
 
 -- ---- tables of modes
 
-pub TellsModes-told : (from to : ℕ) (before after : Streams) (status : ℕ) (written bytes : List ℕ) (result : ℕ) → bytes ≡ written → ModesEnds from to before.left after.left before.read_faults after.read_faults status written →
-    Writes status bytes before.held before.write_faults result after.held after.write_faults → TellsModes from to before after result
-TellsModes-told from to before after status written bytes result is ends writes =
-    stated status written ends (subst (λ (b : List ℕ). IsWritten status b before.held before.write_faults result after.held after.write_faults) is writes)
+pub TellsModes-told : (from to : ℕ) (before after : Streams) (status : ℕ) (written bytes : List ℕ) (result : ℕ) (broken : Bool) → bytes ≡ written → ModesEnds from to before.left after.left before.read_faults after.read_faults status written →
+    IsWritten status bytes before.held before.write_faults result after.held after.write_faults broken → TellsModes from to before after broken result
+TellsModes-told from to before after status written bytes result broken is ends writes =
+    stated status written ends (subst (λ (b : List ℕ). IsWritten status b before.held before.write_faults result after.held after.write_faults broken) is writes)
 
 -- ---- statements to be signed
 
-pub TellsSigning-told : (height from : ℕ) (before after : Streams) (status : ℕ) (written bytes : List ℕ) (result : ℕ) → bytes ≡ written → SigningEnds height from before.left after.left before.read_faults after.read_faults status written →
-    Writes status bytes before.held before.write_faults result after.held after.write_faults → TellsSigning height from before after result
-TellsSigning-told height from before after status written bytes result is ends writes =
-    signed status written ends (subst (λ (b : List ℕ). IsWritten status b before.held before.write_faults result after.held after.write_faults) is writes)
+pub TellsSigning-told : (height from : ℕ) (before after : Streams) (status : ℕ) (written bytes : List ℕ) (result : ℕ) (broken : Bool) → bytes ≡ written → SigningEnds height from before.left after.left before.read_faults after.read_faults status written →
+    IsWritten status bytes before.held before.write_faults result after.held after.write_faults broken → TellsSigning height from before after broken result
+TellsSigning-told height from before after status written bytes result broken is ends writes =
+    signed status written ends (subst (λ (b : List ℕ). IsWritten status b before.held before.write_faults result after.held after.write_faults broken) is writes)

@@ -1,5 +1,5 @@
 -- What an audit of a history writes, and its status (this project's own).
-use Rattle.std.specs.Prelude.{ℕ, List, [], ◌∷◌, Option}
+use Rattle.std.specs.Prelude.{ℕ, List, [], ◌∷◌, Bool, Option}
 use Rattle.access_history.specs.Authority.{Authority}
 use Rattle.access_history.specs.Base.{BaseView}
 use Rattle.journal_records.specs.declared.event.Event.{Event}
@@ -16,12 +16,12 @@ audit_status (row ∷ rows) = 11
 
 -- The report on the history was written, and the status is by its rows; or the output failed; or
 -- memory ran out, and nothing was written. `held` and `faults` are what the output held and the
--- count of its faults.
+-- count of its faults, and `broken` says whether its last call failed.
 pub data TellsAudit (authority : Authority) (base : BaseView) (events : List Event)
-    (held : Option (List ℕ)) (faults result : ℕ) (held_after : Option (List ℕ)) (faults_after : ℕ) :
-    Type 0 where
+    (held : Option (List ℕ)) (faults result : ℕ) (held_after : Option (List ℕ)) (faults_after : ℕ)
+    (broken : Bool) : Type 0 where
   reported : (report : Report) → IsReport authority base events report →
-      Wrote (audit_status report.rows) (report_text report) held faults result held_after faults_after →
-      TellsAudit authority base events held faults result held_after faults_after
-  unreported : WroteNothing held result held_after →
-      TellsAudit authority base events held faults result held_after faults_after
+      Wrote (audit_status report.rows) (report_text report) held faults result held_after faults_after broken →
+      TellsAudit authority base events held faults result held_after faults_after broken
+  unreported : WroteNothing held faults result held_after faults_after →
+      TellsAudit authority base events held faults result held_after faults_after broken

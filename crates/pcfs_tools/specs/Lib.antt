@@ -1,4 +1,5 @@
 pub mod Audited
+pub mod Broken
 pub mod Inquired
 pub mod LastLine
 pub mod Load

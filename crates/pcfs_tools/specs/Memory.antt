@@ -3,12 +3,13 @@ use Rattle.std.specs.Prelude.{◌≡◌, ℕ}
 use Rattle.pcfs_secrets.specs.declared.secrets.Secrets.{Secrets}
 use Rattle.pcfs_session.specs.ScriptRun.{ScriptState, fresh_start}
 use Rattle.pcfs_session.specs.Streams.{Streams}
+use Rattle.pcfs_tools.specs.Broken.{Broken}
 use Rattle.pcfs_tools.specs.ScriptStatus.{ScriptStatus}
 
 -- how a script in memory ends: its own disks fail only if memory runs out
-pub data MemoryEnds (secrets : Secrets) (before after : Streams) : ℕ → Type 0 where
+pub data MemoryEnds (secrets : Secrets) (before after : Streams) (broken : Broken) : ℕ → Type 0 where
   ended : (status : ℕ) (end : ScriptState) → (status ≡ 5 → ⊥) →
-      ScriptStatus (fresh_start secrets) end before after status →
-      MemoryEnds secrets before after status
-  disk_failed : (end : ScriptState) → ScriptStatus (fresh_start secrets) end before after 5 →
-      MemoryEnds secrets before after 9
+      ScriptStatus (fresh_start secrets) end before after broken status →
+      MemoryEnds secrets before after broken status
+  disk_failed : (end : ScriptState) → ScriptStatus (fresh_start secrets) end before after broken 5 →
+      MemoryEnds secrets before after broken 9

@@ -1,12 +1,12 @@
 //! A script over a store, and the status to end with.
 
-ghost use Rattle.std.specs.Prelude.{◌≡◌, ◌⊎◌, None};
-ghost use Rattle.pcfs_ports.specs.Faults.{HasRisen};
-ghost use Rattle.pcfs_ports.specs.Observable.{with_back, HoldsSome};
+ghost use Rattle.std.specs.Prelude.{◌≡◌, None};
 ghost use Rattle.pcfs_session.specs.ScriptContext.{ScriptContext, first_asker};
 ghost use Rattle.pcfs_session.specs.InterpreterView.{standing_over};
 ghost use Rattle.pcfs_session.specs.ScriptRun.{IsLawfulStanding, script_pass};
 ghost use Rattle.pcfs_session.specs.Streams.{streams_of};
+ghost use Rattle.pcfs_tools.specs.Broken.{broken_of};
+ghost use Rattle.pcfs_tools.specs.LastLine.{IsWritten};
 ghost use Rattle.pcfs_tools.specs.ScriptStatus.{TellsEnd, AnswersInput};
 
 use pcfs_ports::{Disk, Sink, Source, write_all};
@@ -35,10 +35,9 @@ pub const OUT_OF_MEMORY: u8 = 9;
 /// The input was too long.
 const TOO_LONG: u8 = 13;
 
-/// Writes a last line, and returns the status, or that the output failed.
+/// Writes a last line, and returns the status, or that the output failed: then nothing is written after the call that failed.
 pub fn write_last_line<O: Sink>(output: &mut O, line: &[u8], status: u8) -> u8
-    ensures { ((result ≡ status) × (O.held output.new ≡ with_back (O.held output.old) line.now))
-        ⊎ ((result ≡ WRITE_FAULT) × HasRisen (O.faults output.old) (O.faults output.new) × HoldsSome (O.held output.old) (O.held output.new) line.now) }
+    ensures { IsWritten status line.now (O.held output.old) (O.faults output.old) result (O.held output.new) (O.faults output.new) (O.broken output.new) }
 {
     match write_all(output, line) {
         Ok(()) => status,
@@ -48,7 +47,8 @@ pub fn write_last_line<O: Sink>(output: &mut O, line: &[u8], status: u8) -> u8
 
 // Writes the last line of a script that ended so, if it has one beside its replies, and returns the status to end with.
 fn write_end<O: Sink>(output: &mut O, end: ScriptEnd) -> u8
-    ensures { TellsEnd end (O.held output.old) (O.faults output.old) result (O.held output.new) (O.faults output.new) }
+    ensures tells { TellsEnd end (O.held output.old) (O.faults output.old) result (O.held output.new) (O.faults output.new) (O.broken output.new) }
+    ensures untouched { end ≡ ScriptEnd.WriteFault → O.broken output.new ≡ O.broken output.old }
 {
     match end {
         ScriptEnd::Done => DONE,
@@ -62,7 +62,8 @@ fn write_end<O: Sink>(output: &mut O, end: ScriptEnd) -> u8
 }
 
 /// Runs the script in the input over the store, and returns the status to end with, and the store. Replies are written
-/// once they have `enough` bytes, and before more of the input is taken.
+/// once they have `enough` bytes, and before more of the input is taken. Nothing is read after a read that failed, and nothing
+/// written after a write that failed.
 pub fn run_over<D: Disk, I: Source, O: Sink>(
     alloc: Global,
     store: Store<D>,
@@ -75,7 +76,8 @@ pub fn run_over<D: Disk, I: Source, O: Sink>(
     ensures { (asker : ScriptContext) × AnswersInput D.clock D.left_since D.image D.faults (record { store = store; asker = first_asker script_pass })
         (streams_of I.left I.faults O.held O.faults input.old output.old) result.0
         (record { store = result.1; asker = asker })
-        (streams_of I.left I.faults O.held O.faults input.new output.new) }
+        (streams_of I.left I.faults O.held O.faults input.new output.new)
+        (broken_of I.broken O.broken input.new output.new) }
 {
     let (end, store) = script_session(alloc, store, input, enough, output);
     (write_end(output, end), store)

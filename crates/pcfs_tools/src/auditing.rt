@@ -78,8 +78,8 @@ fn status_of(report: &Report) -> u8
 // Writes the report, and returns the status to end with.
 fn write_report_lines<O: Sink>(alloc: Global, output: &mut O, report: &Report) -> u8
     ensures { Wrote (audit_status report.now.rows) (report_text report.now) (O.held output.old)
-        (O.faults output.old) result (O.held output.new) (O.faults output.new)
-        ⊎ WroteNothing (O.held output.old) result (O.held output.new) }
+        (O.faults output.old) result (O.held output.new) (O.faults output.new) (O.broken output.new)
+        ⊎ WroteNothing (O.held output.old) (O.faults output.old) result (O.held output.new) (O.faults output.new) }
 {
     match report_lines(alloc, report) {
         Ok(lines) => write_last_line(output, lines.as_slice(), status_of(report)),
@@ -99,7 +99,7 @@ pub fn audit_history<R: Threads + Sync, O: Sink>(
 ) -> u8
     requires { IfSome pieces (λ n. 1 ≤ n) }
     ensures { TellsAudit (authority_under secrets.now) history.now.base history.now.events
-        (O.held output.old) (O.faults output.old) result (O.held output.new) (O.faults output.new) }
+        (O.held output.old) (O.faults output.old) result (O.held output.new) (O.faults output.new) (O.broken output.new) }
 {
     match report_on(rt, alloc, secrets, history, pieces) {
         Ok(report) => write_report_lines(alloc, output, &report),

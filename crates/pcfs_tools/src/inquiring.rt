@@ -11,7 +11,7 @@ use std::alloc::Global;
 /// Reads the inquiry in the input, writes its answer or what is wrong with it, and returns the status to end with.
 pub fn inquire<I: Source, O: Sink>(alloc: Global, input: &mut I, output: &mut O) -> u8
     ensures { TellsInquiry (streams_of I.left I.faults O.held O.faults input.old output.old)
-        (streams_of I.left I.faults O.held O.faults input.new output.new) result }
+        (streams_of I.left I.faults O.held O.faults input.new output.new) (O.broken output.new) result }
 {
     match answer_input(alloc, input) {
         Ok(end) => write_last_line(output, end.line.as_slice(), end.status),

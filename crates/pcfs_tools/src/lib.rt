@@ -2,7 +2,7 @@
 //! of modes, statements to be signed, and a large run; and a script over any store.
 //!
 //! Each writes what it comes to, and returns the status to end with. If the output fails or memory runs out, that is the
-//! status.
+//! status; nothing is written after a call of the output that failed.
 #![tactic(auto)]
 
 pub mod answering;

@@ -187,8 +187,8 @@ fn run_generated(alloc: Global, rounds: u64, seed: u64) -> Result<Bytes, NoMemor
 pub fn load<O: Sink>(alloc: Global, rounds: u64, seed: u64, output: &mut O) -> u8
     requires { rounds ≤ 20000 }
     ensures { ((told : List ℕ) × IsLoaded rounds seed told × Wrote 0 told (O.held output.old)
-        (O.faults output.old) result (O.held output.new) (O.faults output.new))
-        ⊎ WroteNothing (O.held output.old) result (O.held output.new) }
+        (O.faults output.old) result (O.held output.new) (O.faults output.new) (O.broken output.new))
+        ⊎ WroteNothing (O.held output.old) (O.faults output.old) result (O.held output.new) (O.faults output.new) }
 {
     match run_generated(alloc, rounds, seed) {
         Ok(line) => write_last_line(output, line.as_slice(), DONE),

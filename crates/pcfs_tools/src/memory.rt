@@ -2,6 +2,7 @@
 
 ghost use Rattle.std.specs.Prelude.{◌≡◌, ◌⊎◌, IfOk};
 ghost use Rattle.pcfs_store.specs.Formats.{IsNewStore};
+ghost use Rattle.pcfs_tools.specs.Broken.{broken_of};
 ghost use Rattle.pcfs_tools.specs.Memory.{MemoryEnds};
 ghost use Rattle.pcfs_session.specs.Streams.{streams_of};
 
@@ -48,7 +49,8 @@ pub fn run_in_memory<I: Source, O: Sink>(
 ) -> u8
     ensures { MemoryEnds secrets.now
         (streams_of I.left I.faults O.held O.faults input.old output.old)
-        (streams_of I.left I.faults O.held O.faults input.new output.new) result }
+        (streams_of I.left I.faults O.held O.faults input.new output.new)
+        (broken_of I.broken O.broken input.new output.new) result }
 {
     match memory_store(alloc, secrets) {
         Ok(store) => {

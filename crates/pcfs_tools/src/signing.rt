@@ -22,7 +22,7 @@ pub fn sign_statements<I: Source, O: Sink>(
     requires within { from ≤ 2 ^ height }
     ensures { TellsSigning height from
         (streams_of I.left I.faults O.held O.faults input.old output.old)
-        (streams_of I.left I.faults O.held O.faults input.new output.new) result }
+        (streams_of I.left I.faults O.held O.faults input.new output.new) (O.broken output.new) result }
 {
     match answer_signing(alloc, height, from, input) {
         Ok(end) => write_last_line(output, end.lines.as_slice(), end.status),

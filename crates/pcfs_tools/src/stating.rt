@@ -22,7 +22,7 @@ pub fn state_table<I: Source, O: Sink>(
     requires to { to ≤ 253402300799 }
     ensures { TellsModes from to
         (streams_of I.left I.faults O.held O.faults input.old output.old)
-        (streams_of I.left I.faults O.held O.faults input.new output.new) result }
+        (streams_of I.left I.faults O.held O.faults input.new output.new) (O.broken output.new) result }
 {
     match answer_table(alloc, from, to, input) {
         Ok(end) => write_last_line(output, end.lines.as_slice(), end.status),

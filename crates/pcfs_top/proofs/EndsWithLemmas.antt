@@ -43,11 +43,12 @@ use Rattle.command_words.specs.declared.words.Task.TheVariants as tasks
 use Rattle.export_run.specs.Exported.{TellsExport}
 use Rattle.follow_run.specs.FollowRun.{FollowsInput}
 use Rattle.pcfs_tools.specs.Audited.{TellsAudit, reported, unreported, audit_status}
+use Rattle.pcfs_tools.specs.Broken.{Broken}
 use Rattle.pcfs_tools.specs.LastLine.{Wrote, WroteNothing}
 use Rattle.pcfs_tools.specs.Load.{IsLoaded}
 use Rattle.pcfs_tools.specs.ScriptStatus.{AnswersInput}
 use Rattle.pcfs_tools.proofs.MemoryLemmas.{secrets_of}
-use Rattle.pcfs_top.specs.Ports.{Disks, Ports, Rests, AreBytesKept, IfTold}
+use Rattle.pcfs_top.specs.Ports.{Disks, Ports, Rests, AreBytesKept, IsInputKept, IfTold}
 use Rattle.pcfs_top.specs.Run.{AreOfStore, of_script, of_checkpoint, of_follow, HasNoArea, IsNotLost, IsOpened, IsNewestOf, IsNewestImage, NewestStays, Returns, HasCause, EndsWith, TellsCheckpoint, TellsUnopened, TellsUnmade, damaged_text}
 use Rattle.pcfs_top.specs.Run as run
 use Rattle.pcfs_session.specs.ScriptRun.{IsLawfulStanding, script_pass}
@@ -62,19 +63,19 @@ lawful_start s lawful = record { lawful = lawful; asker = record { moment = reco
 
 -- ---- a last line
 
-told_as : (words : List (String Global)) (secrets : Secrets) (rests : Rests) (before after : Ports) (status : ℕ) (line : List ℕ) (result : ℕ) → HasCause secrets words rests before.disks after.disks status line → after.streams.left ≡ before.streams.left →
-    Wrote status line before.streams.held before.streams.write_faults result after.streams.held after.streams.write_faults → EndsWith secrets words rests before after result
-told_as words secrets rests before after status line result cause left (inl told) = subst (EndsWith secrets words rests before after) (sym told.0) (run.told status line cause left told.1)
-told_as words secrets rests before after status line result cause left (inr failed) = subst (EndsWith secrets words rests before after) (sym failed.0) (run.cut_short status line cause left failed.1 failed.2)
+told_as : (words : List (String Global)) (secrets : Secrets) (rests : Rests) (before after : Ports) (status : ℕ) (line : List ℕ) (result : ℕ) → HasCause secrets words rests before.disks after.disks status line → IsInputKept before.streams after.streams →
+    Wrote status line before.streams.held before.streams.write_faults result after.streams.held after.streams.write_faults after.broken.output → EndsWith secrets words rests before after result
+told_as words secrets rests before after status line result cause input (inl told) = subst (EndsWith secrets words rests before after) (sym told.0) (run.told status line cause input told.1 told.2)
+told_as words secrets rests before after status line result cause input (inr failed) = subst (EndsWith secrets words rests before after) (sym failed.0) (run.cut_short status line cause input failed.1 failed.2)
 
-untold_as : (words : List (String Global)) (secrets : Secrets) (rests : Rests) (before after : Ports) (result : ℕ) → AreBytesKept before.disks after.disks → after.streams.left ≡ before.streams.left →
-    WroteNothing before.streams.held result after.streams.held → EndsWith secrets words rests before after result
-untold_as words secrets rests before after result kept left untold = subst (EndsWith secrets words rests before after) (sym untold.0) (run.out_of_memory kept left untold.1)
+untold_as : (words : List (String Global)) (secrets : Secrets) (rests : Rests) (before after : Ports) (result : ℕ) → AreBytesKept before.disks after.disks → IsInputKept before.streams after.streams →
+    WroteNothing before.streams.held before.streams.write_faults result after.streams.held after.streams.write_faults → EndsWith secrets words rests before after result
+untold_as words secrets rests before after result kept input untold = subst (EndsWith secrets words rests before after) (sym untold.0) (run.out_of_memory kept input untold.1 untold.2)
 
 -- the words are no command
-pub EndsWith-usage : (words : List (String Global)) (secrets : Secrets) (rests : Rests) (before after : Ports) (result : ℕ) → AskForNoRun words → after.disks ≡ before.disks → after.streams.left ≡ before.streams.left →
-    Wrote 1 (codes "usage") before.streams.held before.streams.write_faults result after.streams.held after.streams.write_faults → EndsWith secrets words rests before after result
-EndsWith-usage words secrets rests before after result unknown same left told = told_as words secrets rests before after 1 (codes "usage") result (run.usage unknown same) left told
+pub EndsWith-usage : (words : List (String Global)) (secrets : Secrets) (rests : Rests) (before after : Ports) (result : ℕ) → AskForNoRun words → after.disks ≡ before.disks → IsInputKept before.streams after.streams →
+    Wrote 1 (codes "usage") before.streams.held before.streams.write_faults result after.streams.held after.streams.write_faults after.broken.output → EndsWith secrets words rests before after result
+EndsWith-usage words secrets rests before after result unknown same input told = told_as words secrets rests before after 1 (codes "usage") result (run.usage unknown same) input told
 
 -- ---- areas
 
@@ -226,13 +227,13 @@ module _ {D : Type 0} (clock : D → ℕ) (left_since : D → ℕ → List ℕ �
         told_some (image a') (Closed (area_bytes 1 fresh_image [])) ready.rests.bytes (ap image (a_is ∙ on_first s new.on_first) ∙ ready.rests.told)
         (subst (λ (body : List ℕ). Closed body ready.rests.bytes) (fresh_body s new) ready.rests.closed)
 
-    pub EndsWith-made : (before after : Streams) (result : ℕ) (s : StoreView D) (a' b' : D) → IsNewStore secrets.seal_key secrets.ring s →
+    pub EndsWith-made : (before after : Streams) (broken broken' : Broken) (result : ℕ) (s : StoreView D) (a' b' : D) → IsNewStore secrets.seal_key secrets.ring s →
         ((first second : List ℕ) → image a ≡ Some first → image b ≡ Some second → IsReady clock left_since image s) → ((first second : List ℕ) → image a ≡ Some first → image b ≡ Some second → IsShut first × IsShut second) → image s.other ≡ image b →
-        a' ≡ first_disk s → b' ≡ second_disk s → after.left ≡ before.left → Wrote 0 (codes "ok") before.held before.write_faults result after.held after.write_faults →
-        EndsWith secrets words (rests_of a b a' b') (record { streams = before; disks = disks_of a b }) (record { streams = after; disks = disks_of a' b' }) result
-    EndsWith-made before after result s a' b' new ready shut b_same a_is b_is left tells =
-        told_as words secrets (rests_of a b a' b') (record { streams = before; disks = disks_of a b }) (record { streams = after; disks = disks_of a' b' }) 0 (codes "ok") result
-        (run.made is (λ x y is_x is_y. (shut x y is_x is_y, (pinned_at s a' b' a_is b_is (ready x y is_x is_y), has_area s a' new a_is (ready x y is_x is_y)))) (ap image (b_is ∙ on_second s new.on_first) ∙ b_same)) left tells
+        a' ≡ first_disk s → b' ≡ second_disk s → IsInputKept before after → Wrote 0 (codes "ok") before.held before.write_faults result after.held after.write_faults broken'.output →
+        EndsWith secrets words (rests_of a b a' b') (record { streams = before; broken = broken; disks = disks_of a b }) (record { streams = after; broken = broken'; disks = disks_of a' b' }) result
+    EndsWith-made before after broken broken' result s a' b' new ready shut b_same a_is b_is input tells =
+        told_as words secrets (rests_of a b a' b') (record { streams = before; broken = broken; disks = disks_of a b }) (record { streams = after; broken = broken'; disks = disks_of a' b' }) 0 (codes "ok") result
+        (run.made is (λ x y is_x is_y. (shut x y is_x is_y, (pinned_at s a' b' a_is b_is (ready x y is_x is_y), has_area s a' new a_is (ready x y is_x is_y)))) (ap image (b_is ∙ on_second s new.on_first) ∙ b_same)) input tells
 
     kept : (a' b' : D) → (image a' ≡ image a) × (image b' ≡ image b) → AreBytesKept (disks_of a b) (disks_of a' b')
     kept a' b' same = record { a_stays = same.0; b_stays = same.1 }
@@ -250,23 +251,23 @@ module _ {D : Type 0} (clock : D → ℕ) (left_since : D → ℕ → List ℕ �
           (laws.earlier a' (clock a) (clock a') x' (a_later x is_x rest.0) (laws.may_stay a' x' is_x')) (laws.earlier b' (clock b) (clock b') y' b_later (laws.may_stay b' y' is_y'));
     }
 
-    pub EndsWith-unmade : (before after : Streams) (result : ℕ) (fault : FormatFault) (a' b' : D) →
+    pub EndsWith-unmade : (before after : Streams) (broken broken' : Broken) (result : ℕ) (fault : FormatFault) (a' b' : D) →
         (fault ≡ formats.AlreadyStore → (first second : List ℕ) → image a ≡ Some first → image b ≡ Some second → IsShut first × IsShut second → ⊥) → ((fault ≡ formats.Disk → ⊥) → (image a' ≡ image a) × (image b' ≡ image b)) →
-        (fault ≡ formats.Disk → HasRisen (faults a) (faults a') ⊎ HasRisen (faults b) (faults b')) → (AtRest a b → IsNotLost (disks_of a b) (disks_of a' b')) → after.left ≡ before.left →
-        TellsUnmade fault before.held before.write_faults result after.held after.write_faults →
-        EndsWith secrets words (rests_of a b a' b') (record { streams = before; disks = disks_of a b }) (record { streams = after; disks = disks_of a' b' }) result
-    EndsWith-unmade before after result formats.AlreadyStore a' b' already same risen lost left tells =
-        told_as words secrets (rests_of a b a' b') (record { streams = before; disks = disks_of a b }) (record { streams = after; disks = disks_of a' b' }) 10 (codes "exists") result
-        (run.exists is (λ x y is_x is_y. already refl x y is_x is_y) (kept a' b' (same (λ e. absurd cc)))) left tells
-    EndsWith-unmade before after result formats.Disk a' b' already same risen lost left tells =
-        told_as words secrets (rests_of a b a' b') (record { streams = before; disks = disks_of a b }) (record { streams = after; disks = disks_of a' b' }) 5 (codes "stopped") result (run.not_made is (risen refl) lost) left tells
-    EndsWith-unmade before after result formats.NoMemory a' b' already same risen lost left tells =
-        untold_as words secrets (rests_of a b a' b') (record { streams = before; disks = disks_of a b }) (record { streams = after; disks = disks_of a' b' }) result (kept a' b' (same (λ e. absurd cc))) left tells
+        (fault ≡ formats.Disk → HasRisen (faults a) (faults a') ⊎ HasRisen (faults b) (faults b')) → (AtRest a b → IsNotLost (disks_of a b) (disks_of a' b')) → IsInputKept before after →
+        TellsUnmade fault before.held before.write_faults result after.held after.write_faults broken'.output →
+        EndsWith secrets words (rests_of a b a' b') (record { streams = before; broken = broken; disks = disks_of a b }) (record { streams = after; broken = broken'; disks = disks_of a' b' }) result
+    EndsWith-unmade before after broken broken' result formats.AlreadyStore a' b' already same risen lost input tells =
+        told_as words secrets (rests_of a b a' b') (record { streams = before; broken = broken; disks = disks_of a b }) (record { streams = after; broken = broken'; disks = disks_of a' b' }) 10 (codes "exists") result
+        (run.exists is (λ x y is_x is_y. already refl x y is_x is_y) (kept a' b' (same (λ e. absurd cc)))) input tells
+    EndsWith-unmade before after broken broken' result formats.Disk a' b' already same risen lost input tells =
+        told_as words secrets (rests_of a b a' b') (record { streams = before; broken = broken; disks = disks_of a b }) (record { streams = after; broken = broken'; disks = disks_of a' b' }) 5 (codes "stopped") result (run.not_made is (risen refl) lost) input tells
+    EndsWith-unmade before after broken broken' result formats.NoMemory a' b' already same risen lost input tells =
+        untold_as words secrets (rests_of a b a' b') (record { streams = before; broken = broken; disks = disks_of a b }) (record { streams = after; broken = broken'; disks = disks_of a' b' }) result (kept a' b' (same (λ e. absurd cc))) input tells
 
     -- memory ran out at first
-    pub EndsWith-unbegun : (before after : Streams) → after.left ≡ before.left → after.held ≡ before.held → EndsWith secrets words (rests_of a b a b) (record { streams = before; disks = disks_of a b }) (record { streams = after; disks = disks_of a b }) 9
-    EndsWith-unbegun before after left held =
-        untold_as words secrets (rests_of a b a b) (record { streams = before; disks = disks_of a b }) (record { streams = after; disks = disks_of a b }) 9 (record { a_stays = refl; b_stays = refl }) left (refl, held)
+    pub EndsWith-unbegun : (before after : Streams) (broken broken' : Broken) → IsInputKept before after → after.held ≡ before.held → after.write_faults ≡ before.write_faults → EndsWith secrets words (rests_of a b a b) (record { streams = before; broken = broken; disks = disks_of a b }) (record { streams = after; broken = broken'; disks = disks_of a b }) 9
+    EndsWith-unbegun before after broken broken' input held writes =
+        untold_as words secrets (rests_of a b a b) (record { streams = before; broken = broken; disks = disks_of a b }) (record { streams = after; broken = broken'; disks = disks_of a b }) 9 (record { a_stays = refl; b_stays = refl }) input (refl, held, writes)
 
   -- ---- a store that is opened
 
@@ -294,25 +295,25 @@ module _ {D : Type 0} (clock : D → ℕ) (left_since : D → ℕ → List ℕ �
     same_bytes : (fault : OpenFault) (a' b' : D) → (fault ≡ opens.Disk → ⊥) → IsNotOpened clock left_since image faults a b (authority_with secrets.seal_key secrets.ring) fault a' b' → AreBytesKept (disks_of a b) (disks_of a' b')
     same_bytes fault a' b' not_disk n = record { a_stays = n.first_same not_disk; b_stays = n.second_same not_disk }
 
-    pub EndsWith-unopened : (before after : Streams) (result : ℕ) (fault : OpenFault) (a' b' : D) → IsNotOpened clock left_since image faults a b (authority_with secrets.seal_key secrets.ring) fault a' b' → after.left ≡ before.left → TellsUnopened fault before.held before.write_faults result after.held after.write_faults →
-        EndsWith secrets words (rests_of a b a' b') (record { streams = before; disks = disks_of a b }) (record { streams = after; disks = disks_of a' b' }) result
-    EndsWith-unopened before after result opens.NoStore a' b' n left tells =
-        told_as words secrets (rests_of a b a' b') (record { streams = before; disks = disks_of a b }) (record { streams = after; disks = disks_of a' b' }) 4 (codes "nostore") result
-        (run.no_store over (λ x y is_x is_y. has_no_area x y (n.cause x y is_x is_y)) (same_bytes opens.NoStore a' b' (λ e. absurd cc) n)) left tells
-    EndsWith-unopened before after result (opens.Damaged number damage) a' b' n left (inl tells) =
-        told_as words secrets (rests_of a b a' b') (record { streams = before; disks = disks_of a b }) (record { streams = after; disks = disks_of a' b' }) 3 (damaged_text number damage) result
-        (run.damaged number damage over n.cause (same_bytes (opens.Damaged number damage) a' b' (λ e. absurd cc) n)) left tells
-    EndsWith-unopened before after result (opens.Damaged number damage) a' b' n left (inr tells) =
-        untold_as words secrets (rests_of a b a' b') (record { streams = before; disks = disks_of a b }) (record { streams = after; disks = disks_of a' b' }) result (same_bytes (opens.Damaged number damage) a' b' (λ e. absurd cc) n) left tells
-    EndsWith-unopened before after result opens.Disk a' b' n left tells =
-        told_as words secrets (rests_of a b a' b') (record { streams = before; disks = disks_of a b }) (record { streams = after; disks = disks_of a' b' }) 5 (codes "stopped") result
-        (run.not_opened over n.cause (λ rest. record { a_stays = n.first_handled.stays rest.0; b_stays = n.second_handled.stays rest.1 })) left tells
-    EndsWith-unopened before after result opens.NoMemory a' b' n left tells =
-        untold_as words secrets (rests_of a b a' b') (record { streams = before; disks = disks_of a b }) (record { streams = after; disks = disks_of a' b' }) result (same_bytes opens.NoMemory a' b' (λ e. absurd cc) n) left tells
+    pub EndsWith-unopened : (before after : Streams) (broken broken' : Broken) (result : ℕ) (fault : OpenFault) (a' b' : D) → IsNotOpened clock left_since image faults a b (authority_with secrets.seal_key secrets.ring) fault a' b' → IsInputKept before after → TellsUnopened fault before.held before.write_faults result after.held after.write_faults broken'.output →
+        EndsWith secrets words (rests_of a b a' b') (record { streams = before; broken = broken; disks = disks_of a b }) (record { streams = after; broken = broken'; disks = disks_of a' b' }) result
+    EndsWith-unopened before after broken broken' result opens.NoStore a' b' n input tells =
+        told_as words secrets (rests_of a b a' b') (record { streams = before; broken = broken; disks = disks_of a b }) (record { streams = after; broken = broken'; disks = disks_of a' b' }) 4 (codes "nostore") result
+        (run.no_store over (λ x y is_x is_y. has_no_area x y (n.cause x y is_x is_y)) (same_bytes opens.NoStore a' b' (λ e. absurd cc) n)) input tells
+    EndsWith-unopened before after broken broken' result (opens.Damaged number damage) a' b' n input (inl tells) =
+        told_as words secrets (rests_of a b a' b') (record { streams = before; broken = broken; disks = disks_of a b }) (record { streams = after; broken = broken'; disks = disks_of a' b' }) 3 (damaged_text number damage) result
+        (run.damaged number damage over n.cause (same_bytes (opens.Damaged number damage) a' b' (λ e. absurd cc) n)) input tells
+    EndsWith-unopened before after broken broken' result (opens.Damaged number damage) a' b' n input (inr tells) =
+        untold_as words secrets (rests_of a b a' b') (record { streams = before; broken = broken; disks = disks_of a b }) (record { streams = after; broken = broken'; disks = disks_of a' b' }) result (same_bytes (opens.Damaged number damage) a' b' (λ e. absurd cc) n) input tells
+    EndsWith-unopened before after broken broken' result opens.Disk a' b' n input tells =
+        told_as words secrets (rests_of a b a' b') (record { streams = before; broken = broken; disks = disks_of a b }) (record { streams = after; broken = broken'; disks = disks_of a' b' }) 5 (codes "stopped") result
+        (run.not_opened over n.cause (λ rest. record { a_stays = n.first_handled.stays rest.0; b_stays = n.second_handled.stays rest.1 })) input tells
+    EndsWith-unopened before after broken broken' result opens.NoMemory a' b' n input tells =
+        untold_as words secrets (rests_of a b a' b') (record { streams = before; broken = broken; disks = disks_of a b }) (record { streams = after; broken = broken'; disks = disks_of a' b' }) result (same_bytes opens.NoMemory a' b' (λ e. absurd cc) n) input tells
 
-    pub EndsWith-unread : (before after : Streams) → after.left ≡ before.left → after.held ≡ before.held → EndsWith secrets words (rests_of a b a b) (record { streams = before; disks = disks_of a b }) (record { streams = after; disks = disks_of a b }) 9
-    EndsWith-unread before after left held =
-        untold_as words secrets (rests_of a b a b) (record { streams = before; disks = disks_of a b }) (record { streams = after; disks = disks_of a b }) 9 (record { a_stays = refl; b_stays = refl }) left (refl, held)
+    pub EndsWith-unread : (before after : Streams) (broken broken' : Broken) → IsInputKept before after → after.held ≡ before.held → after.write_faults ≡ before.write_faults → EndsWith secrets words (rests_of a b a b) (record { streams = before; broken = broken; disks = disks_of a b }) (record { streams = after; broken = broken'; disks = disks_of a b }) 9
+    EndsWith-unread before after broken broken' input held writes =
+        untold_as words secrets (rests_of a b a b) (record { streams = before; broken = broken; disks = disks_of a b }) (record { streams = after; broken = broken'; disks = disks_of a b }) 9 (record { a_stays = refl; b_stays = refl }) input (refl, held, writes)
 
     is_opened : (s : StoreView D) → IsStore s → opening.IsOpened clock left_since image faults a b secrets.seal_key secrets.ring s → IsOpened secrets s.generation s.opened (disks_of a b) (standing_over s None (first_asker script_pass))
     is_opened s store opened = record {
@@ -327,24 +328,24 @@ module _ {D : Type 0} (clock : D → ℕ) (left_since : D → ℕ → List ℕ �
     }
 
     -- an audit leaves the disks as they were
-    pub EndsWith-audited : (pieces : Option ℕ) (before after : Streams) (result : ℕ) (s : StoreView D) (a' b' : D) → AsksFor words (Audit pieces) → IsStore s → opening.IsOpened clock left_since image faults a b secrets.seal_key secrets.ring s →
-        TellsAudit (authority_under secrets) s.base s.events before.held before.write_faults result after.held after.write_faults → after.left ≡ before.left → a' ≡ first_disk s → b' ≡ second_disk s →
-        EndsWith secrets words (rests_of a b a' b') (record { streams = before; disks = disks_of a b }) (record { streams = after; disks = disks_of a' b' }) result
-    EndsWith-audited pieces before after result s a' b' asks store opened (reported report is tells) left a_is b_is =
-        told_as words secrets (rests_of a b a' b') (record { streams = before; disks = disks_of a b }) (record { streams = after; disks = disks_of a' b' }) (audit_status report.rows) (report_text report) result
+    pub EndsWith-audited : (pieces : Option ℕ) (before after : Streams) (broken broken' : Broken) (result : ℕ) (s : StoreView D) (a' b' : D) → AsksFor words (Audit pieces) → IsStore s → opening.IsOpened clock left_since image faults a b secrets.seal_key secrets.ring s →
+        TellsAudit (authority_under secrets) s.base s.events before.held before.write_faults result after.held after.write_faults broken'.output → IsInputKept before after → a' ≡ first_disk s → b' ≡ second_disk s →
+        EndsWith secrets words (rests_of a b a' b') (record { streams = before; broken = broken; disks = disks_of a b }) (record { streams = after; broken = broken'; disks = disks_of a' b' }) result
+    EndsWith-audited pieces before after broken broken' result s a' b' asks store opened (reported report is tells) input a_is b_is =
+        told_as words secrets (rests_of a b a' b') (record { streams = before; broken = broken; disks = disks_of a b }) (record { streams = after; broken = broken'; disks = disks_of a' b' }) (audit_status report.rows) (report_text report) result
         (run.audited pieces s.generation s.opened (standing_over s None (first_asker script_pass)) report asks (is_opened s store opened) is (record { a_stays = ap image a_is ∙ opened.first_read.same; b_stays = ap image b_is ∙ opened.second_read.same })
-        (subst (IsPinned clock left_since image) (sym a_is) opened.first_read.pinned, subst (IsPinned clock left_since image) (sym b_is) opened.second_read.pinned)) left tells
-    EndsWith-audited pieces before after result s a' b' asks store opened (unreported untold) left a_is b_is =
-        untold_as words secrets (rests_of a b a' b') (record { streams = before; disks = disks_of a b }) (record { streams = after; disks = disks_of a' b' }) result
-        (record { a_stays = ap image a_is ∙ opened.first_read.same; b_stays = ap image b_is ∙ opened.second_read.same }) left untold
+        (subst (IsPinned clock left_since image) (sym a_is) opened.first_read.pinned, subst (IsPinned clock left_since image) (sym b_is) opened.second_read.pinned)) input tells
+    EndsWith-audited pieces before after broken broken' result s a' b' asks store opened (unreported untold) input a_is b_is =
+        untold_as words secrets (rests_of a b a' b') (record { streams = before; broken = broken; disks = disks_of a b }) (record { streams = after; broken = broken'; disks = disks_of a' b' }) result
+        (record { a_stays = ap image a_is ∙ opened.first_read.same; b_stays = ap image b_is ∙ opened.second_read.same }) input untold
 
     -- an export leaves the disks as they were
-    pub EndsWith-exported : (from : ℕ) (before after : Streams) (result : ℕ) (s : StoreView D) (a' b' : D) → AsksFor words (Export from) → IsStore s → opening.IsOpened clock left_since image faults a b secrets.seal_key secrets.ring s →
-        TellsExport s.base s.events from before.held before.write_faults result after.held after.write_faults → after.left ≡ before.left → a' ≡ first_disk s → b' ≡ second_disk s →
-        EndsWith secrets words (rests_of a b a' b') (record { streams = before; disks = disks_of a b }) (record { streams = after; disks = disks_of a' b' }) result
-    EndsWith-exported from before after result s a' b' asks store opened tells left a_is b_is =
+    pub EndsWith-exported : (from : ℕ) (before after : Streams) (broken broken' : Broken) (result : ℕ) (s : StoreView D) (a' b' : D) → AsksFor words (Export from) → IsStore s → opening.IsOpened clock left_since image faults a b secrets.seal_key secrets.ring s →
+        TellsExport s.base s.events from before.held before.write_faults result after.held after.write_faults broken'.output → IsInputKept before after → a' ≡ first_disk s → b' ≡ second_disk s →
+        EndsWith secrets words (rests_of a b a' b') (record { streams = before; broken = broken; disks = disks_of a b }) (record { streams = after; broken = broken'; disks = disks_of a' b' }) result
+    EndsWith-exported from before after broken broken' result s a' b' asks store opened tells input a_is b_is =
         run.exported from result s.generation s.opened (standing_over s None (first_asker script_pass)) asks (is_opened s store opened) (record { a_stays = ap image a_is ∙ opened.first_read.same; b_stays = ap image b_is ∙ opened.second_read.same })
-        (subst (IsPinned clock left_since image) (sym a_is) opened.first_read.pinned, subst (IsPinned clock left_since image) (sym b_is) opened.second_read.pinned) left tells
+        (subst (IsPinned clock left_since image) (sym a_is) opened.first_read.pinned, subst (IsPinned clock left_since image) (sym b_is) opened.second_read.pinned) input tells
 
   -- ---- a checkpoint
 
@@ -435,32 +436,32 @@ module _ {D : Type 0} (clock : D → ℕ) (left_since : D → ℕ → List ℕ �
         made.makes_ready (opened.current x y is_x is_y) refl (one_of x y s.second_active) (one_of y x s.second_active) told.0 told.1
         (pinned_active s.second_active s.active s.other opened.first_read.pinned opened.second_read.pinned)
 
-    ends : (before after : Streams) (result : ℕ) (reply : CheckpointReply) → Checkpoints clock left_since image faults s pass reply s' → after.left ≡ before.left → TellsCheckpoint reply before.held before.write_faults result after.held after.write_faults →
-        EndsWith secrets words (rests_of a b (first_disk s') (second_disk s')) (record { streams = before; disks = disks_of a b }) (record { streams = after; disks = disks_of (first_disk s') (second_disk s') }) result
-    ends before after result checkpoints.Checkpointed made left tells =
-        told_as words secrets (rests_of a b (first_disk s') (second_disk s')) (record { streams = before; disks = disks_of a b }) (record { streams = after; disks = disks_of (first_disk s') (second_disk s') }) 0 (codes "ok checkpoint") result
+    ends : (before after : Streams) (broken broken' : Broken) (result : ℕ) (reply : CheckpointReply) → Checkpoints clock left_since image faults s pass reply s' → IsInputKept before after → TellsCheckpoint reply before.held before.write_faults result after.held after.write_faults broken'.output →
+        EndsWith secrets words (rests_of a b (first_disk s') (second_disk s')) (record { streams = before; broken = broken; disks = disks_of a b }) (record { streams = after; broken = broken'; disks = disks_of (first_disk s') (second_disk s') }) result
+    ends before after broken broken' result checkpoints.Checkpointed made input tells =
+        told_as words secrets (rests_of a b (first_disk s') (second_disk s')) (record { streams = before; broken = broken; disks = disks_of a b }) (record { streams = after; broken = broken'; disks = disks_of (first_disk s') (second_disk s') }) 0 (codes "ok checkpoint") result
         (run.checkpointed s.generation s.opened (standing_over s None (first_asker script_pass)) is is_start (made_fits s s' pass made.answer) (stays_by (made_stays s s' pass made.answer)) (λ x y is_x is_y. (
           pinned_at s' (first_disk s') (second_disk s') refl refl (is_ready made x y is_x is_y),
           λ x' y' is_x' is_y'. newest_image s x' y' (made.newest (opened.current x y is_x is_y) refl x' y' is_x' is_y'),
-        ))) left tells
-    ends before after result checkpoints.Full made left tells =
-        told_as words secrets (rests_of a b (first_disk s') (second_disk s')) (record { streams = before; disks = disks_of a b }) (record { streams = after; disks = disks_of (first_disk s') (second_disk s') }) 14 (codes "full") result
-        (let full = full_same s s' pass made.answer in run.full s.generation s.opened (standing_over s None (first_asker script_pass)) is is_start full.1 (kept_by full.0) (rests_by full.0)) left tells
-    ends before after result checkpoints.Stopped made left tells =
-        told_as words secrets (rests_of a b (first_disk s') (second_disk s')) (record { streams = before; disks = disks_of a b }) (record { streams = after; disks = disks_of (first_disk s') (second_disk s') }) 5 (codes "stopped") result
+        ))) input tells
+    ends before after broken broken' result checkpoints.Full made input tells =
+        told_as words secrets (rests_of a b (first_disk s') (second_disk s')) (record { streams = before; broken = broken; disks = disks_of a b }) (record { streams = after; broken = broken'; disks = disks_of (first_disk s') (second_disk s') }) 14 (codes "full") result
+        (let full = full_same s s' pass made.answer in run.full s.generation s.opened (standing_over s None (first_asker script_pass)) is is_start full.1 (kept_by full.0) (rests_by full.0)) input tells
+    ends before after broken broken' result checkpoints.Stopped made input tells =
+        told_as words secrets (rests_of a b (first_disk s') (second_disk s')) (record { streams = before; broken = broken; disks = disks_of a b }) (record { streams = after; broken = broken'; disks = disks_of (first_disk s') (second_disk s') }) 5 (codes "stopped") result
         (run.not_checkpointed s.generation s.opened (standing_over s None (first_asker script_pass)) is is_start (stopped_fits s s' pass opened.running made.answer) (risen_since secrets a b s s' opened (stopped_risen s s' pass opened.running made.answer)) (stays_by (stopped_stays s s' pass opened.running made.answer))
-        (λ x y is_x is_y closed x' y' is_x' is_y'. made.halts (opened.ready x y is_x is_y closed) refl x' y' (may_stay (first_disk s') x' is_x') (may_stay (second_disk s') y' is_y'))) left tells
-    ends before after result checkpoints.NoMemory made left tells =
-        untold_as words secrets (rests_of a b (first_disk s') (second_disk s')) (record { streams = before; disks = disks_of a b }) (record { streams = after; disks = disks_of (first_disk s') (second_disk s') }) result
-        (kept_by (unmade_same s s' pass made.answer)) left tells
+        (λ x y is_x is_y closed x' y' is_x' is_y'. made.halts (opened.ready x y is_x is_y closed) refl x' y' (may_stay (first_disk s') x' is_x') (may_stay (second_disk s') y' is_y'))) input tells
+    ends before after broken broken' result checkpoints.NoMemory made input tells =
+        untold_as words secrets (rests_of a b (first_disk s') (second_disk s')) (record { streams = before; broken = broken; disks = disks_of a b }) (record { streams = after; broken = broken'; disks = disks_of (first_disk s') (second_disk s') }) result
+        (kept_by (unmade_same s s' pass made.answer)) input tells
 
-    pub EndsWith-checkpointed : (before after : Streams) (result : ℕ) (reply : CheckpointReply) (a' b' : D) → Checkpoints clock left_since image faults s pass reply s' → after.left ≡ before.left →
-        TellsCheckpoint reply before.held before.write_faults result after.held after.write_faults → a' ≡ first_disk s' → b' ≡ second_disk s' →
-        EndsWith secrets words (rests_of a b a' b') (record { streams = before; disks = disks_of a b }) (record { streams = after; disks = disks_of a' b' }) result
-    EndsWith-checkpointed before after result reply a' b' made left tells a_is b_is =
-        subst (λ (x : D). EndsWith secrets words (rests_of a b x b') (record { streams = before; disks = disks_of a b }) (record { streams = after; disks = disks_of x b' }) result) (sym a_is)
-        (subst (λ (y : D). EndsWith secrets words (rests_of a b (first_disk s') y) (record { streams = before; disks = disks_of a b }) (record { streams = after; disks = disks_of (first_disk s') y }) result) (sym b_is)
-        (ends before after result reply made left tells))
+    pub EndsWith-checkpointed : (before after : Streams) (broken broken' : Broken) (result : ℕ) (reply : CheckpointReply) (a' b' : D) → Checkpoints clock left_since image faults s pass reply s' → IsInputKept before after →
+        TellsCheckpoint reply before.held before.write_faults result after.held after.write_faults broken'.output → a' ≡ first_disk s' → b' ≡ second_disk s' →
+        EndsWith secrets words (rests_of a b a' b') (record { streams = before; broken = broken; disks = disks_of a b }) (record { streams = after; broken = broken'; disks = disks_of a' b' }) result
+    EndsWith-checkpointed before after broken broken' result reply a' b' made input tells a_is b_is =
+        subst (λ (x : D). EndsWith secrets words (rests_of a b x b') (record { streams = before; broken = broken; disks = disks_of a b }) (record { streams = after; broken = broken'; disks = disks_of x b' }) result) (sym a_is)
+        (subst (λ (y : D). EndsWith secrets words (rests_of a b (first_disk s') y) (record { streams = before; broken = broken; disks = disks_of a b }) (record { streams = after; broken = broken'; disks = disks_of (first_disk s') y }) result) (sym b_is)
+        (ends before after broken broken' result reply made input tells))
 
   -- ---- a script over a store that is opened, and messages that it takes
 
@@ -492,35 +493,36 @@ module _ {D : Type 0} (clock : D → ℕ) (left_since : D → ℕ → List ℕ �
         }
 
   module _ (words : List (String Global)) (secrets : Secrets) (a b : D) (is : AsksFor words Stored) where
-    pub EndsWith-stored : (may_stay : (d : D) (bytes : List ℕ) → image d ≡ Some bytes → left_since d (clock d) bytes) (before after : Streams) (result : ℕ) (s s' : StoreView D) (asker : ScriptContext) (a' b' : D) → IsStore s → IsStore s' →
-        opening.IsOpened clock left_since image faults a b secrets.seal_key secrets.ring s → AnswersInput clock left_since image faults (record { store = s; asker = first_asker script_pass }) before result (record { store = s'; asker = asker }) after →
-        a' ≡ first_disk s' → b' ≡ second_disk s' → EndsWith secrets words (rests_of a b a' b') (record { streams = before; disks = disks_of a b }) (record { streams = after; disks = disks_of a' b' }) result
-    EndsWith-stored may_stay before after result s s' asker a' b' store store' opened answers a_is b_is =
-        subst (λ (x : D). EndsWith secrets words (rests_of a b x b') (record { streams = before; disks = disks_of a b }) (record { streams = after; disks = disks_of x b' }) result) (sym a_is)
-        (subst (λ (y : D). EndsWith secrets words (rests_of a b (first_disk s') y) (record { streams = before; disks = disks_of a b }) (record { streams = after; disks = disks_of (first_disk s') y }) result) (sym b_is)
+    pub EndsWith-stored : (may_stay : (d : D) (bytes : List ℕ) → image d ≡ Some bytes → left_since d (clock d) bytes) (before after : Streams) (broken broken' : Broken) (result : ℕ) (s s' : StoreView D) (asker : ScriptContext) (a' b' : D) → IsStore s → IsStore s' →
+        opening.IsOpened clock left_since image faults a b secrets.seal_key secrets.ring s → AnswersInput clock left_since image faults (record { store = s; asker = first_asker script_pass }) before result (record { store = s'; asker = asker }) after broken' →
+        a' ≡ first_disk s' → b' ≡ second_disk s' → EndsWith secrets words (rests_of a b a' b') (record { streams = before; broken = broken; disks = disks_of a b }) (record { streams = after; broken = broken'; disks = disks_of a' b' }) result
+    EndsWith-stored may_stay before after broken broken' result s s' asker a' b' store store' opened answers a_is b_is =
+        subst (λ (x : D). EndsWith secrets words (rests_of a b x b') (record { streams = before; broken = broken; disks = disks_of a b }) (record { streams = after; broken = broken'; disks = disks_of x b' }) result) (sym a_is)
+        (subst (λ (y : D). EndsWith secrets words (rests_of a b (first_disk s') y) (record { streams = before; broken = broken; disks = disks_of a b }) (record { streams = after; broken = broken'; disks = disks_of (first_disk s') y }) result) (sym b_is)
         (run.stored result s.generation s.opened (standing_over s None (first_asker script_pass)) (standing_over s' answers.met asker) is (is_opened words secrets a b (of_script is) s store opened) (returns_of secrets a b may_stay s s' answers.met asker store store' opened answers.goes_on) answers.ends))
 
   module _ (words : List (String Global)) (secrets : Secrets) (a b : D) (is : AsksFor words Follow) where
-    pub EndsWith-followed : (may_stay : (d : D) (bytes : List ℕ) → image d ≡ Some bytes → left_since d (clock d) bytes) (before after : Streams) (result : ℕ) (s s' : StoreView D) (asker : ScriptContext) (a' b' : D) → IsStore s → IsStore s' →
-        opening.IsOpened clock left_since image faults a b secrets.seal_key secrets.ring s → FollowsInput clock left_since image faults (record { store = s; asker = first_asker script_pass }) before result (record { store = s'; asker = asker }) after →
-        a' ≡ first_disk s' → b' ≡ second_disk s' → EndsWith secrets words (rests_of a b a' b') (record { streams = before; disks = disks_of a b }) (record { streams = after; disks = disks_of a' b' }) result
-    EndsWith-followed may_stay before after result s s' asker a' b' store store' opened follows a_is b_is =
-        subst (λ (x : D). EndsWith secrets words (rests_of a b x b') (record { streams = before; disks = disks_of a b }) (record { streams = after; disks = disks_of x b' }) result) (sym a_is)
-        (subst (λ (y : D). EndsWith secrets words (rests_of a b (first_disk s') y) (record { streams = before; disks = disks_of a b }) (record { streams = after; disks = disks_of (first_disk s') y }) result) (sym b_is)
+    pub EndsWith-followed : (may_stay : (d : D) (bytes : List ℕ) → image d ≡ Some bytes → left_since d (clock d) bytes) (before after : Streams) (broken broken' : Broken) (result : ℕ) (s s' : StoreView D) (asker : ScriptContext) (a' b' : D) → IsStore s → IsStore s' →
+        opening.IsOpened clock left_since image faults a b secrets.seal_key secrets.ring s → FollowsInput clock left_since image faults (record { store = s; asker = first_asker script_pass }) before result (record { store = s'; asker = asker }) after broken' →
+        a' ≡ first_disk s' → b' ≡ second_disk s' → EndsWith secrets words (rests_of a b a' b') (record { streams = before; broken = broken; disks = disks_of a b }) (record { streams = after; broken = broken'; disks = disks_of a' b' }) result
+    EndsWith-followed may_stay before after broken broken' result s s' asker a' b' store store' opened follows a_is b_is =
+        subst (λ (x : D). EndsWith secrets words (rests_of a b x b') (record { streams = before; broken = broken; disks = disks_of a b }) (record { streams = after; broken = broken'; disks = disks_of x b' }) result) (sym a_is)
+        (subst (λ (y : D). EndsWith secrets words (rests_of a b (first_disk s') y) (record { streams = before; broken = broken; disks = disks_of a b }) (record { streams = after; broken = broken'; disks = disks_of (first_disk s') y }) result) (sym b_is)
         (run.followed result s.generation s.opened (standing_over s None (first_asker script_pass)) (standing_over s' follows.met asker) is (is_opened words secrets a b (of_follow is) s store opened) (returns_of secrets a b may_stay s s' follows.met asker store store' opened follows.goes_on) follows.ends))
 
 -- ---- no memory for the words
 
-pub EndsWith-unasked : (words : List (String Global)) (secrets : Secrets) (rests : Rests) (before after : Ports) → after.disks ≡ before.disks → after.streams.left ≡ before.streams.left → after.streams.held ≡ before.streams.held → EndsWith secrets words rests before after 9
-EndsWith-unasked words secrets rests before after same left held = run.out_of_memory (record { a_stays = ap (λ (d : Disks). d.a) same; b_stays = ap (λ (d : Disks). d.b) same }) left held
+pub EndsWith-unasked : (words : List (String Global)) (secrets : Secrets) (rests : Rests) (before after : Ports) → after.disks ≡ before.disks → IsInputKept before.streams after.streams → after.streams.held ≡ before.streams.held → after.streams.write_faults ≡ before.streams.write_faults →
+    EndsWith secrets words rests before after 9
+EndsWith-unasked words secrets rests before after same input held writes = run.out_of_memory (record { a_stays = ap (λ (d : Disks). d.a) same; b_stays = ap (λ (d : Disks). d.b) same }) input held writes
 
 -- ---- a large run
 
-pub EndsWith-loaded : (words : List (String Global)) (secrets : Secrets) (rests : Rests) (before after : Ports) (rounds seed result : ℕ) → AsksFor words (Load rounds seed) → after.disks ≡ before.disks → after.streams.left ≡ before.streams.left →
-    ((told : List ℕ) × IsLoaded rounds seed told × Wrote 0 told before.streams.held before.streams.write_faults result after.streams.held after.streams.write_faults) ⊎ WroteNothing before.streams.held result after.streams.held →
+pub EndsWith-loaded : (words : List (String Global)) (secrets : Secrets) (rests : Rests) (before after : Ports) (rounds seed result : ℕ) → AsksFor words (Load rounds seed) → after.disks ≡ before.disks → IsInputKept before.streams after.streams →
+    ((told : List ℕ) × IsLoaded rounds seed told × Wrote 0 told before.streams.held before.streams.write_faults result after.streams.held after.streams.write_faults after.broken.output) ⊎ WroteNothing before.streams.held before.streams.write_faults result after.streams.held after.streams.write_faults →
     EndsWith secrets words rests before after result
-EndsWith-loaded words secrets rests before after rounds seed result is same left (inl loaded) =
-    told_as words secrets rests before after 0 loaded.0 result (run.loaded rounds seed loaded.0 is loaded.1 same) left loaded.2
-EndsWith-loaded words secrets rests before after rounds seed result is same left (inr untold) =
+EndsWith-loaded words secrets rests before after rounds seed result is same input (inl loaded) =
+    told_as words secrets rests before after 0 loaded.0 result (run.loaded rounds seed loaded.0 is loaded.1 same) input loaded.2
+EndsWith-loaded words secrets rests before after rounds seed result is same input (inr untold) =
     untold_as words secrets rests before after result
-    (record { a_stays = ap (λ (d : Disks). d.a) same; b_stays = ap (λ (d : Disks). d.b) same }) left untold
+    (record { a_stays = ap (λ (d : Disks). d.a) same; b_stays = ap (λ (d : Disks). d.b) same }) input untold

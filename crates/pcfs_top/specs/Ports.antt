@@ -1,7 +1,8 @@
 -- What the ports of a run tell at one moment (this project's own).
-use Rattle.std.specs.Prelude.{◌≡◌, ◌⊎◌, ℕ, List, Option, Some}
+use Rattle.std.specs.Prelude.{◌≡◌, ◌⊎◌, ℕ, List, Bool, Option, Some}
 use Rattle.pcfs_ports.specs.Faults.{HasRisen}
 use Rattle.pcfs_session.specs.Streams.{Streams, streams_of}
+use Rattle.pcfs_tools.specs.Broken.{Broken, broken_of}
 
 -- the bytes of the two disks, if they are told; and how many faults each has had
 pub record Disks : Type 0 where
@@ -10,9 +11,16 @@ pub record Disks : Type 0 where
   pub a_faults : ℕ
   pub b_faults : ℕ
 
+-- the streams, whether the last call of each failed, and the disks
 pub record Ports : Type 0 where
   pub streams : Streams
+  pub broken : Broken
   pub disks : Disks
+
+-- nothing was taken of an input, and no call of it failed
+pub record IsInputKept (before after : Streams) : Type 0 where
+  pub left_stays : after.left ≡ before.left
+  pub faults_stay : after.read_faults ≡ before.read_faults
 
 -- what is said of the bytes of both disks, if they are told
 abbrev pub IfTold : Disks → (List ℕ → List ℕ → Type 0) → Type 0
@@ -38,19 +46,21 @@ abbrev pub disks_of : {D : Type 0} → (D → Option (List ℕ)) → (D → ℕ)
 disks_of image faults a b = record { a = image a; b = image b; a_faults = faults a; b_faults = faults b }
 
 -- what these streams and disks tell
-abbrev pub ports_of : {I O D : Type 0} → (I → Option (List ℕ)) → (I → ℕ) → (O → Option (List ℕ))
-    → (O → ℕ)
-    → (D → Option (List ℕ)) → (D → ℕ) → I → O → D → D → Ports
-ports_of left read_faults held write_faults image faults input output a b = record {
+abbrev pub ports_of : {I O D : Type 0} → (I → Option (List ℕ)) → (I → ℕ) → (I → Bool) →
+    (O → Option (List ℕ)) → (O → ℕ) → (O → Bool) → (D → Option (List ℕ)) → (D → ℕ) → I → O → D → D →
+    Ports
+ports_of left read_faults read_broken held write_faults write_broken image faults input output a b = record {
   streams = streams_of left read_faults held write_faults input output;
+  broken = broken_of read_broken write_broken input output;
   disks = disks_of image faults a b;
 }
 
 -- what an output and two disks tell beside an input that tells this
-abbrev pub ports_beside : {O D : Type 0} → Option (List ℕ) → ℕ → (O → Option (List ℕ)) → (O → ℕ)
-    → (D → Option (List ℕ)) → (D → ℕ) → O → D → D → Ports
-ports_beside left read_faults held write_faults image faults output a b = record {
+abbrev pub ports_beside : {O D : Type 0} → Option (List ℕ) → ℕ → Bool → (O → Option (List ℕ)) → (O → ℕ)
+    → (O → Bool) → (D → Option (List ℕ)) → (D → ℕ) → O → D → D → Ports
+ports_beside left read_faults read_broken held write_faults write_broken image faults output a b = record {
   streams = record { left = left; read_faults = read_faults; held = held output; write_faults = write_faults output };
+  broken = record { input = read_broken; output = write_broken output };
   disks = disks_of image faults a b;
 }
 

@@ -4,7 +4,6 @@ use Rattle.std.specs.Prelude.{◌≡◌, ◌⊎◌, ◌<◌, ◌≤◌, ◌+◌,
 use Rattle.std.specs.Fmt.{decimal}
 use Rattle.std.specs.declared.alloc.Global.{Global}
 use Rattle.bl_syntax.specs.declared.limits.TheConstants.{MOST_EVENTS}
-use Rattle.pcfs_ports.specs.Faults.{HasRisen}
 use Rattle.pcfs_ports.specs.Observable.{with_back, HoldsSome}
 use Rattle.journal_core.specs.Area.{IsShut, Closed, area_bytes, area_limit, generation_of}
 use Rattle.access_history.specs.Base.{BaseView}
@@ -27,6 +26,7 @@ use Rattle.recover.specs.declared.fault.OpenFault.{OpenFault}
 use Rattle.recover.specs.declared.fault.OpenFault.TheVariants as opens
 use Rattle.recover.specs.Opening.{IsNewestHistory, IsNewestDamaged, IsNewestClosed}
 use Rattle.pcfs_secrets.specs.declared.secrets.Secrets.{Secrets}
+use Rattle.pcfs_server.specs.Ends.{FailedLast}
 use Rattle.pcfs_session.specs.ScriptContext.{first_asker}
 use Rattle.pcfs_session.specs.LineAnswer.{authority_under}
 use Rattle.pcfs_session.specs.ScriptEnds.{with_line_end}
@@ -47,7 +47,7 @@ use Rattle.pcfs_tools.specs.Memory.{MemoryEnds}
 use Rattle.pcfs_tools.specs.ScriptStatus.{ScriptStatus}
 use Rattle.pcfs_tools.specs.Signed.{TellsSigning}
 use Rattle.pcfs_tools.specs.Stated.{TellsModes}
-use Rattle.pcfs_top.specs.Ports.{Disks, Ports, Rests, IfTold, HasDiskFailed, AreBytesKept}
+use Rattle.pcfs_top.specs.Ports.{Disks, Ports, Rests, IfTold, HasDiskFailed, AreBytesKept, IsInputKept}
 
 -- the words ask for a script over the store in the areas, for a checkpoint or an audit of it, for an
 -- export of its events, or that it takes those of another one
@@ -203,81 +203,86 @@ pub data HasCause (secrets : Secrets) (words : List (String Global)) (rests : Re
   loaded : (rounds seed : ℕ) (told : List ℕ) → AsksFor words (Load rounds seed) →
       IsLoaded rounds seed told → after ≡ before → HasCause secrets words rests before after 0 told
 
--- what is reported of why no store was opened
-abbrev pub TellsUnopened : OpenFault → Option (List ℕ) → ℕ → ℕ → Option (List ℕ) → ℕ → Type 0
-TellsUnopened opens.NoStore held faults result held_after faults_after = Wrote 4 (codes "nostore") held faults result held_after faults_after
-TellsUnopened (opens.Damaged number damage) held faults result held_after faults_after =
-    Wrote 3 (damaged_text number damage) held faults result held_after faults_after
-    ⊎ WroteNothing held result held_after
-TellsUnopened opens.Disk held faults result held_after faults_after = Wrote 5 (codes "stopped") held faults result held_after faults_after
-TellsUnopened opens.NoMemory held faults result held_after faults_after = WroteNothing held result held_after
+-- what is reported of why no store was opened. `broken` says whether the last call of the output
+-- failed
+abbrev pub TellsUnopened : OpenFault → Option (List ℕ) → ℕ → ℕ → Option (List ℕ) → ℕ → Bool → Type 0
+TellsUnopened opens.NoStore held faults result held_after faults_after broken = Wrote 4 (codes "nostore") held faults result held_after faults_after broken
+TellsUnopened (opens.Damaged number damage) held faults result held_after faults_after broken =
+    Wrote 3 (damaged_text number damage) held faults result held_after faults_after broken
+    ⊎ WroteNothing held faults result held_after faults_after
+TellsUnopened opens.Disk held faults result held_after faults_after broken = Wrote 5 (codes "stopped") held faults result held_after faults_after broken
+TellsUnopened opens.NoMemory held faults result held_after faults_after broken = WroteNothing held faults result held_after faults_after
 
 -- what is reported of a checkpoint
-abbrev pub TellsCheckpoint : CheckpointReply → Option (List ℕ) → ℕ → ℕ → Option (List ℕ) → ℕ →
+abbrev pub TellsCheckpoint : CheckpointReply → Option (List ℕ) → ℕ → ℕ → Option (List ℕ) → ℕ → Bool →
     Type 0
-TellsCheckpoint checkpoints.Checkpointed held faults result held_after faults_after =
-    Wrote 0 (codes "ok checkpoint") held faults result held_after faults_after
-TellsCheckpoint checkpoints.Full held faults result held_after faults_after = Wrote 14 (codes "full") held faults result held_after faults_after
-TellsCheckpoint checkpoints.Stopped held faults result held_after faults_after = Wrote 5 (codes "stopped") held faults result held_after faults_after
-TellsCheckpoint checkpoints.NoMemory held faults result held_after faults_after = WroteNothing held result held_after
+TellsCheckpoint checkpoints.Checkpointed held faults result held_after faults_after broken =
+    Wrote 0 (codes "ok checkpoint") held faults result held_after faults_after broken
+TellsCheckpoint checkpoints.Full held faults result held_after faults_after broken = Wrote 14 (codes "full") held faults result held_after faults_after broken
+TellsCheckpoint checkpoints.Stopped held faults result held_after faults_after broken =
+    Wrote 5 (codes "stopped") held faults result held_after faults_after broken
+TellsCheckpoint checkpoints.NoMemory held faults result held_after faults_after broken = WroteNothing held faults result held_after faults_after
 
 -- what is reported of why no store was made
-abbrev pub TellsUnmade : FormatFault → Option (List ℕ) → ℕ → ℕ → Option (List ℕ) → ℕ → Type 0
-TellsUnmade formats.AlreadyStore held faults result held_after faults_after = Wrote 10 (codes "exists") held faults result held_after faults_after
-TellsUnmade formats.Disk held faults result held_after faults_after = Wrote 5 (codes "stopped") held faults result held_after faults_after
-TellsUnmade formats.NoMemory held faults result held_after faults_after = WroteNothing held result held_after
+abbrev pub TellsUnmade : FormatFault → Option (List ℕ) → ℕ → ℕ → Option (List ℕ) → ℕ → Bool → Type 0
+TellsUnmade formats.AlreadyStore held faults result held_after faults_after broken = Wrote 10 (codes "exists") held faults result held_after faults_after broken
+TellsUnmade formats.Disk held faults result held_after faults_after broken = Wrote 5 (codes "stopped") held faults result held_after faults_after broken
+TellsUnmade formats.NoMemory held faults result held_after faults_after broken = WroteNothing held faults result held_after faults_after
 
 -- The status that a run ends with, and its cause. A script in memory ends as its lines say, and
 -- leaves the disks alone; its own disks are in memory, and fail only if memory runs out. A script
--- over the areas
--- begins where they stand, and so do messages that are taken by their store. An export writes the
--- messages of the events in the areas, or that they are gone, and leaves the bytes of the disks as
--- they are. An inquiry ends as its lines say, and
--- leaves the disks alone. Any other
--- run writes its line, or the output failed and holds some first part of it; an audit, the lines of
--- its report. Memory may run out before
--- that, and then nothing changes.
+-- over the areas begins where they stand, and so do messages that are taken by their store. An
+-- export writes the messages of the events in the areas, or that they are gone, and leaves the bytes
+-- of the disks as they are. An inquiry ends as its lines say, and leaves the disks alone. Any other
+-- run writes its line, or the output failed, at its last call, and holds some first part of it; an
+-- audit, the lines of its report. Memory may run out before that, and then nothing changes.
+-- At an end by a fault of the output one call of it failed, and it was the last, and at each other
+-- end none; so it is with the input of a script and of messages, and of an input that is not read no
+-- call failed.
 pub data EndsWith (secrets : Secrets) (words : List (String Global)) (rests : Rests) (before after : Ports) : ℕ → Type 0 where
   in_memory : (status : ℕ) → AsksFor words Script → after.disks ≡ before.disks →
-      MemoryEnds secrets before.streams after.streams status →
+      MemoryEnds secrets before.streams after.streams after.broken status →
       EndsWith secrets words rests before after status
   stored : (status generation : ℕ) (image : List ℕ) (start end : ScriptState) → AsksFor words Stored →
       IsOpened secrets generation image before.disks start →
       Returns rests generation image before.disks after.disks start end →
-      ScriptStatus start end before.streams after.streams status →
+      ScriptStatus start end before.streams after.streams after.broken status →
       EndsWith secrets words rests before after status
   followed : (status generation : ℕ) (image : List ℕ) (start end : ScriptState) →
       AsksFor words Follow → IsOpened secrets generation image before.disks start →
       Returns rests generation image before.disks after.disks start end →
-      FollowEnds start end before.streams after.streams status →
+      FollowEnds start end before.streams after.streams after.broken status →
       EndsWith secrets words rests before after status
   exported : (from status generation : ℕ) (image : List ℕ) (start : ScriptState) →
       AsksFor words (Export from) → IsOpened secrets generation image before.disks start →
       AreBytesKept before.disks after.disks → rests.after →
-      after.streams.left ≡ before.streams.left →
+      IsInputKept before.streams after.streams →
       TellsExport start.base start.events from before.streams.held before.streams.write_faults
-      status after.streams.held after.streams.write_faults →
+      status after.streams.held after.streams.write_faults after.broken.output →
       EndsWith secrets words rests before after status
   told : (status : ℕ) (line : List ℕ) →
       HasCause secrets words rests before.disks after.disks status line →
-      after.streams.left ≡ before.streams.left →
+      IsInputKept before.streams after.streams →
       after.streams.held ≡ with_back before.streams.held (with_line_end line) →
+      after.streams.write_faults ≡ before.streams.write_faults →
       EndsWith secrets words rests before after status
   cut_short : (status : ℕ) (line : List ℕ) →
       HasCause secrets words rests before.disks after.disks status line →
-      after.streams.left ≡ before.streams.left →
-      HasRisen before.streams.write_faults after.streams.write_faults →
+      IsInputKept before.streams after.streams →
+      FailedLast before.streams.write_faults after.streams.write_faults after.broken.output →
       HoldsSome before.streams.held after.streams.held (with_line_end line) →
       EndsWith secrets words rests before after 7
   inquired : (status : ℕ) → AsksFor words Check → after.disks ≡ before.disks →
-      TellsInquiry before.streams after.streams status →
+      TellsInquiry before.streams after.streams after.broken.output status →
       EndsWith secrets words rests before after status
   modes_told : (from to status : ℕ) → AsksFor words (Modes from to) → after.disks ≡ before.disks →
-      TellsModes from to before.streams after.streams status →
+      TellsModes from to before.streams after.streams after.broken.output status →
       EndsWith secrets words rests before after status
   signing_told : (height from status : ℕ) → AsksFor words (RootSign height from) →
       after.disks ≡ before.disks →
-      TellsSigning height from before.streams after.streams status →
+      TellsSigning height from before.streams after.streams after.broken.output status →
       EndsWith secrets words rests before after status
-  out_of_memory : AreBytesKept before.disks after.disks → after.streams.left ≡ before.streams.left →
-      after.streams.held ≡ before.streams.held → EndsWith secrets words rests before after 9
+  out_of_memory : AreBytesKept before.disks after.disks → IsInputKept before.streams after.streams →
+      after.streams.held ≡ before.streams.held →
+      after.streams.write_faults ≡ before.streams.write_faults →
+      EndsWith secrets words rests before after 9

@@ -1,6 +1,6 @@
 //! A run of the program: its words, its input and its output and its disks, and the status that it ends with.
 
-ghost use Rattle.std.specs.Prelude.{◌≡◌, ◌≤◌, ℕ, List, Option, String, IfOk, IfSome, MatchOption};
+ghost use Rattle.std.specs.Prelude.{◌≡◌, ◌≤◌, ℕ, List, Bool, Option, String, IfOk, IfSome, MatchOption};
 ghost use Rattle.std.specs.declared.alloc.Global.{Global};
 ghost use Rattle.pcfs_ports.specs.Disk.{IsPinned};
 ghost use Rattle.pcfs_session.specs.ScriptEnds.{with_line_end};
@@ -62,7 +62,7 @@ fn damaged_line(alloc: Global, record_number: u64, damage: Damage) -> Result<Byt
 // Writes the line that reports the damage of a record, and returns the status to end with.
 fn write_damage<O: Sink>(alloc: Global, output: &mut O, record_number: u64, damage: Damage) -> u8
     ensures { TellsUnopened (OpenFault.Damaged record_number damage) (O.held output.old)
-        (O.faults output.old) result (O.held output.new) (O.faults output.new) }
+        (O.faults output.old) result (O.held output.new) (O.faults output.new) (O.broken output.new) }
 {
     match damaged_line(alloc, record_number, damage) {
         Ok(line) => write_last_line(output, line.as_slice(), DAMAGED),
@@ -72,7 +72,7 @@ fn write_damage<O: Sink>(alloc: Global, output: &mut O, record_number: u64, dama
 
 /// Writes why no store was opened, and returns the status to end with.
 pub fn write_unopened<O: Sink>(alloc: Global, output: &mut O, fault: OpenFault) -> u8
-    ensures { TellsUnopened fault (O.held output.old) (O.faults output.old) result (O.held output.new) (O.faults output.new) }
+    ensures { TellsUnopened fault (O.held output.old) (O.faults output.old) result (O.held output.new) (O.faults output.new) (O.broken output.new) }
 {
     match fault {
         OpenFault::NoStore => write_last_line(output, b"nostore\n", NO_STORE),
@@ -94,8 +94,8 @@ fn run_stored<I: Source, O: Sink, D: Disk>(
     ensures { (words : List (String Global)) → AsksFor words Stored →
         EndsWith secrets.now words
         (rests_of (IsPinned D.clock D.left_since D.image) a b result.a result.b)
-        (ports_of I.left I.faults O.held O.faults D.image D.faults input.old output.old a b)
-        (ports_of I.left I.faults O.held O.faults D.image D.faults input.new output.new result.a result.b)
+        (ports_of I.left I.faults I.broken O.held O.faults O.broken D.image D.faults input.old output.old a b)
+        (ports_of I.left I.faults I.broken O.held O.faults O.broken D.image D.faults input.new output.new result.a result.b)
         result.status }
 {
     let ring = match secrets.ring.copy(alloc) {
@@ -124,7 +124,7 @@ fn run_stored<I: Source, O: Sink, D: Disk>(
 
 // Writes what a checkpoint answered, and returns the status to end with.
 fn write_checkpoint<O: Sink>(output: &mut O, reply: CheckpointReply) -> u8
-    ensures { TellsCheckpoint reply (O.held output.old) (O.faults output.old) result (O.held output.new) (O.faults output.new) }
+    ensures { TellsCheckpoint reply (O.held output.old) (O.faults output.old) result (O.held output.new) (O.faults output.new) (O.broken output.new) }
 {
     match reply {
         CheckpointReply::Checkpointed => write_last_line(output, b"ok checkpoint\n", DONE),
@@ -142,12 +142,12 @@ fn checkpoint_stored<O: Sink, D: Disk>(
     a: D,
     b: D,
 ) -> Ended<D>
-    ensures { (words : List (String Global)) (left : Option (List ℕ)) (read_faults : ℕ) →
+    ensures { (words : List (String Global)) (left : Option (List ℕ)) (read_faults : ℕ) (read_broken : Bool) →
         AsksFor words Checkpoint →
         EndsWith secrets.now words
         (rests_of (IsPinned D.clock D.left_since D.image) a b result.a result.b)
-        (ports_beside left read_faults O.held O.faults D.image D.faults output.old a b)
-        (ports_beside left read_faults O.held O.faults D.image D.faults output.new result.a result.b)
+        (ports_beside left read_faults read_broken O.held O.faults O.broken D.image D.faults output.old a b)
+        (ports_beside left read_faults read_broken O.held O.faults O.broken D.image D.faults output.new result.a result.b)
         result.status }
 {
     let ring = match secrets.ring.copy(alloc) {
@@ -189,12 +189,12 @@ fn audit_stored<R: Threads + Sync, O: Sink, D: Disk>(
     b: D,
 ) -> Ended<D>
     requires some { IfSome pieces (λ n. 1 ≤ n) }
-    ensures { (words : List (String Global)) (left : Option (List ℕ)) (read_faults : ℕ) →
+    ensures { (words : List (String Global)) (left : Option (List ℕ)) (read_faults : ℕ) (read_broken : Bool) →
         AsksFor words (Audit pieces) →
         EndsWith secrets.now words
         (rests_of (IsPinned D.clock D.left_since D.image) a b result.a result.b)
-        (ports_beside left read_faults O.held O.faults D.image D.faults output.old a b)
-        (ports_beside left read_faults O.held O.faults D.image D.faults output.new result.a result.b)
+        (ports_beside left read_faults read_broken O.held O.faults O.broken D.image D.faults output.old a b)
+        (ports_beside left read_faults read_broken O.held O.faults O.broken D.image D.faults output.new result.a result.b)
         result.status }
 {
     let ring = match secrets.ring.copy(alloc) {
@@ -233,12 +233,12 @@ fn export_stored<O: Sink, D: Disk>(
     a: D,
     b: D,
 ) -> Ended<D>
-    ensures { (words : List (String Global)) (left : Option (List ℕ)) (read_faults : ℕ) →
+    ensures { (words : List (String Global)) (left : Option (List ℕ)) (read_faults : ℕ) (read_broken : Bool) →
         AsksFor words (Export from) →
         EndsWith secrets.now words
         (rests_of (IsPinned D.clock D.left_since D.image) a b result.a result.b)
-        (ports_beside left read_faults O.held O.faults D.image D.faults output.old a b)
-        (ports_beside left read_faults O.held O.faults D.image D.faults output.new result.a result.b)
+        (ports_beside left read_faults read_broken O.held O.faults O.broken D.image D.faults output.old a b)
+        (ports_beside left read_faults read_broken O.held O.faults O.broken D.image D.faults output.new result.a result.b)
         result.status }
 {
     let ring = match secrets.ring.copy(alloc) {
@@ -281,8 +281,8 @@ fn follow_stored<I: Source, O: Sink, D: Disk>(
     ensures { (words : List (String Global)) → AsksFor words Follow →
         EndsWith secrets.now words
         (rests_of (IsPinned D.clock D.left_since D.image) a b result.a result.b)
-        (ports_of I.left I.faults O.held O.faults D.image D.faults input.old output.old a b)
-        (ports_of I.left I.faults O.held O.faults D.image D.faults input.new output.new result.a result.b)
+        (ports_of I.left I.faults I.broken O.held O.faults O.broken D.image D.faults input.old output.old a b)
+        (ports_of I.left I.faults I.broken O.held O.faults O.broken D.image D.faults input.new output.new result.a result.b)
         result.status }
 {
     let ring = match secrets.ring.copy(alloc) {
@@ -315,7 +315,7 @@ fn follow_stored<I: Source, O: Sink, D: Disk>(
 
 // Writes why no store was made, and returns the status to end with.
 fn write_unmade<O: Sink>(output: &mut O, fault: FormatFault) -> u8
-    ensures { TellsUnmade fault (O.held output.old) (O.faults output.old) result (O.held output.new) (O.faults output.new) }
+    ensures { TellsUnmade fault (O.held output.old) (O.faults output.old) result (O.held output.new) (O.faults output.new) (O.broken output.new) }
 {
     match fault {
         FormatFault::AlreadyStore => write_last_line(output, b"exists\n", ALREADY_STORE),
@@ -326,12 +326,12 @@ fn write_unmade<O: Sink>(output: &mut O, fault: FormatFault) -> u8
 
 // Makes a store before its first event on the first disk.
 fn init<O: Sink, D: Disk>(alloc: Global, secrets: &Secrets, output: &mut O, a: D, b: D) -> Ended<D>
-    ensures { (words : List (String Global)) (left : Option (List ℕ)) (read_faults : ℕ) →
+    ensures { (words : List (String Global)) (left : Option (List ℕ)) (read_faults : ℕ) (read_broken : Bool) →
         AsksFor words Init →
         EndsWith secrets.now words
         (rests_of (IsPinned D.clock D.left_since D.image) a b result.a result.b)
-        (ports_beside left read_faults O.held O.faults D.image D.faults output.old a b)
-        (ports_beside left read_faults O.held O.faults D.image D.faults output.new result.a result.b)
+        (ports_beside left read_faults read_broken O.held O.faults O.broken D.image D.faults output.old a b)
+        (ports_beside left read_faults read_broken O.held O.faults O.broken D.image D.faults output.new result.a result.b)
         result.status }
 {
     let ring = match secrets.ring.copy(alloc) {
@@ -374,8 +374,8 @@ fn run_task<R: Threads + Wait + Sync, I: Source, O: Sink, D: Disk>(
     ensures { (words : List (String Global)) → AsksFor words task →
         EndsWith secrets.now words
         (rests_of (IsPinned D.clock D.left_since D.image) a b result.a result.b)
-        (ports_of I.left I.faults O.held O.faults D.image D.faults input.old output.old a b)
-        (ports_of I.left I.faults O.held O.faults D.image D.faults input.new output.new result.a result.b)
+        (ports_of I.left I.faults I.broken O.held O.faults O.broken D.image D.faults input.old output.old a b)
+        (ports_of I.left I.faults I.broken O.held O.faults O.broken D.image D.faults input.new output.new result.a result.b)
         result.status }
 {
     match task {
@@ -440,8 +440,8 @@ pub fn run_asked<R: Threads + Wait + Sync, I: Source, O: Sink, D: Disk>(
         MatchOption asked (AreKnown words → ⊥) (AsksFor words) →
         EndsWith secrets.now words
         (rests_of (IsPinned D.clock D.left_since D.image) a b result.a result.b)
-        (ports_of I.left I.faults O.held O.faults D.image D.faults input.old output.old a b)
-        (ports_of I.left I.faults O.held O.faults D.image D.faults input.new output.new result.a result.b)
+        (ports_of I.left I.faults I.broken O.held O.faults O.broken D.image D.faults input.old output.old a b)
+        (ports_of I.left I.faults I.broken O.held O.faults O.broken D.image D.faults input.new output.new result.a result.b)
         result.status }
 {
     match asked {
@@ -479,6 +479,8 @@ pub fn run_asked<R: Threads + Wait + Sync, I: Source, O: Sink, D: Disk>(
 /// base alone: `gone` with the base's count; 18, there
 /// is no leaf for a statement: `leaves` with their count. At 2, 5, 6, 13 and 16 the replies of a script to the lines before,
 /// and the lines for the messages before, come before that line, and at 12 and 18 what `rootsign` wrote of the lines before.
+///
+/// Nothing is written after a write that failed, and of a script and of messages nothing is read after a read that failed.
 pub fn run_alone<R: Threads + Wait + Sync, I: Source, O: Sink, D: Disk>(
     rt: &R,
     alloc: Global,
@@ -491,8 +493,8 @@ pub fn run_alone<R: Threads + Wait + Sync, I: Source, O: Sink, D: Disk>(
 ) -> Ended<D>
     ensures { EndsWith secrets.now words.now.items
         (rests_of (IsPinned D.clock D.left_since D.image) a b result.a result.b)
-        (ports_of I.left I.faults O.held O.faults D.image D.faults input.old output.old a b)
-        (ports_of I.left I.faults O.held O.faults D.image D.faults input.new output.new result.a result.b)
+        (ports_of I.left I.faults I.broken O.held O.faults O.broken D.image D.faults input.old output.old a b)
+        (ports_of I.left I.faults I.broken O.held O.faults O.broken D.image D.faults input.new output.new result.a result.b)
         result.status }
 {
     match task_of(alloc, words) {

@@ -4,7 +4,7 @@ use Rattle.std.proofs.lemmas.List.{take_all, take_more}
 use Rattle.journal_records.specs.declared.event.Event.{Event}
 use Rattle.event_messages.specs.Messages.{Message}
 use Rattle.pcfs_session.specs.declared.outbox.SendFault.TheVariants.{Write}
-use Rattle.pcfs_session.proofs.StoredLemmas.{HasRisen-earlier}
+use Rattle.pcfs_ports.specs.Faults.{raise}
 use Rattle.export_run.specs.Exported.{messages_of}
 use Rattle.export_run.proofs.ExportLemmas.{AreGoingOut, AreGoingOut-more, all_sent, at_fault, cut_short_at, messages_more, part_sent}
 use Rattle.export_run.proofs.outgoing.write_messages.Goals as goal
@@ -17,7 +17,7 @@ returns-in_err-send_message-clause-err g c =
     let more : take (k + 1) events ≡ take k events ++ c.event-item.result ∷ [] =
     take_more events k c.event-item.result c.loop-event-test.true ∙ ap (λ (e : Event). take k events ++ e ∷ []) (sym c.event-item.is) in
     at_fault c.from_residual.result c.in_err-send_message.field-0.0 _ (search rules)
-    (cut_short_at c.in_err-send_message.field-0.0 _ _ _ _ _ _ c.args.first events k c.loop-event.number c.event-item.result _ within c.loop-event.invariant.numbered more c.loop-event.invariant.going c.loop-event.invariant.never_falls c.in_err-send_message.ensures.err)
+    (cut_short_at c.in_err-send_message.field-0.0 _ _ _ _ _ _ _ c.args.first events k c.loop-event.number c.event-item.result _ within c.loop-event.invariant.numbered more c.loop-event.invariant.going c.loop-event.invariant.steady c.in_err-send_message.ensures.err)
 
 pub loop-event-preserved : goal.loop-event-preserved
 loop-event-preserved g c =
@@ -32,14 +32,14 @@ loop-event-preserved g c =
           (sym (messages_more c.args.first events k c.loop-event.number c.event-item.result within c.loop-event.invariant.numbered more))
           (AreGoingOut-more _ _ _ _ _ _ _ c.loop-event.invariant.going c.in_ok-send_message.ensures.ok);
       numbered = omega (arith, c.loop-event.invariant.numbered);
-      never_falls = omega (arith, c.loop-event.invariant.never_falls, c.in_ok-send_message.ensures.never_falls);
+      steady = c.in_ok-send_message.ensures.steady ∙ c.loop-event.invariant.steady;
     }
 
 pub returns-in_err-flush-clause-err : goal.returns-in_err-flush-clause-err
 returns-in_err-flush-clause-err g c =
     let all : length c.args.events.now ≤ c.loop-event.event-index = omega (arith, c.loop-event-test.false) in
     at_fault c.from_residual-in_err-flush.result Write _ (search rules) (
-      HasRisen-earlier _ _ _ c.loop-event.invariant.never_falls c.in_err-flush.ensures.risen,
+      (c.in_err-flush.ensures.by_one ∙ ap raise c.loop-event.invariant.steady, c.in_err-flush.ensures.broken),
       part_sent _ _ _ _ _ _ (ap (messages_of c.args.first) (take_all c.loop-event.event-index c.args.events.now all)) c.loop-event.invariant.going c.in_err-flush.ensures.err,
     )
 
@@ -47,3 +47,6 @@ pub returns-clause-ok : goal.returns-clause-ok
 returns-clause-ok g c =
     let all : length c.args.events.now ≤ c.loop-event.event-index = omega (arith, c.loop-event-test.false) in
     all_sent _ _ _ _ _ _ (ap (messages_of c.args.first) (take_all c.loop-event.event-index c.args.events.now all)) c.loop-event.invariant.going c.in_ok-flush.ensures.ok
+
+pub returns-clause-steady : goal.returns-clause-steady
+returns-clause-steady g c = c.in_ok-flush.ensures.steady ∙ c.loop-event.invariant.steady

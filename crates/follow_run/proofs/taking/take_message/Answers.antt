@@ -18,4 +18,7 @@ returns-in_default g c =
       halts = by_both c.write_answer.result _ _ _ (λ how out met. HaltsBy-unwritten g.D.Disk.clock g.D.Disk.left_since g.D.Disk.image g.D.Disk.faults _ _ _ _ _ _ how c.in_default.not-Stopped c.in_default.not-NoMemory took out met) c.write_answer.ensures.out c.write_answer.ensures.met;
       risen = c.write_answer.ensures.risen;
       never_falls = c.write_answer.ensures.never_falls;
+      steady = c.write_answer.ensures.steady;
+      by_one = c.write_answer.ensures.by_one;
+      broken = c.write_answer.ensures.broken;
     }

@@ -1,5 +1,6 @@
 -- Each message that was taken is one more of the first messages.
-use Rattle.std.proofs.Common.{refl, arith, ◌∙◌}
+use Rattle.std.proofs.Common.{refl, ap, arith, ◌∙◌}
+use Rattle.pcfs_ports.specs.Faults.{raise}
 use Rattle.follow_run.proofs.AnsweredLemmas.{IsTaking-start, running_now, IsTaking-taken, TakesAll-now, StopsWithin-bad, StopsWithin-halted}
 use Rattle.follow_run.proofs.BoundLemmas.{IsFirst-read, fewer_after, bytes_after, as_many_after}
 use Rattle.follow_run.proofs.taking.take_messages.Goals as goal
@@ -10,6 +11,7 @@ messages-init g c = record {
   bytes = c.requires.bytes;
   as_many = refl;
   never_falls = omega arith;
+  steady = refl;
 }
 
 pub returns-in-Ok-None-clause-ok : goal.returns-in-Ok-None-clause-ok
@@ -30,6 +32,12 @@ returns-in-Err-take_message-clause-stops g c =
     let first = IsFirst-read _ begins.rest _ c.messages.invariant.bytes begins.read in
     StopsWithin-halted g.D.Disk.clock g.D.Disk.left_since g.D.Disk.image g.D.Disk.faults _ _ _ _ _ _ _ _ _ _ _ _ c.messages.invariant.so_far first c.in-Err-take_message.ensures.halts
 
+pub returns-in-Err-take_message-clause-steady : goal.returns-in-Err-take_message-clause-steady
+returns-in-Err-take_message-clause-steady g c other = c.in-Err-take_message.ensures.steady other ∙ c.messages.invariant.steady
+
+pub returns-in-Err-take_message-clause-by_one : goal.returns-in-Err-take_message-clause-by_one
+returns-in-Err-take_message-clause-by_one g c is = c.in-Err-take_message.ensures.by_one is ∙ ap raise c.messages.invariant.steady
+
 pub messages-smaller : goal.messages-smaller
 messages-smaller g c =
     let begins = rw c.in-Ok-Some.field-0-is at c.in-Ok-Some.ensures.ok in
@@ -46,4 +54,5 @@ messages-preserved g c =
       bytes = bytes_after _ _ _ _ first taken c.messages.invariant.bytes;
       as_many = as_many_after _ _ _ _ first taken (omega (arith, c.requires.counted, c.messages.invariant.as_many)) ∙ c.messages.invariant.as_many;
       never_falls = omega (arith, c.in-Ok.ensures.never_falls);
+      steady = c.in-Ok.ensures.steady (λ is. cc) ∙ c.messages.invariant.steady;
     }

@@ -9,6 +9,7 @@ invariant-messages g l = record {
   bytes : AreBytes l.reader.left;
   as_many : l.reader.place + length l.reader.left ≡ l.fn.reader.place + length l.fn.reader.left;
   never_falls : g.O.Sink.faults l.fn.output ≤ g.O.Sink.faults l.output;
+  steady : g.O.Sink.faults l.output ≡ g.O.Sink.faults l.fn.output;
 }
 
 abbrev pub decreases-messages : goal.decreases-messages

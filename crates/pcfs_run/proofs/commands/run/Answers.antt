@@ -16,10 +16,10 @@ pub serve-requires-clause-few : goal.serve-requires-clause-few
 serve-requires-clause-few g c κs within = (fits c.args.words.now.items (Serve c.in-Some.port c.in-Some.count) (rw c.in-Some.ensures at c.in-Ok.ensures)).1
 
 pub returns-in-Err : goal.returns-in-Err
-returns-in-Err g c = serving.unread (record { a_stays = refl; b_stays = refl }) (record { waiting_stays = refl; faults_stay = refl; nonce_faults_stay = refl }) refl refl refl
+returns-in-Err g c = serving.unread (record { a_stays = refl; b_stays = refl }) (record { waiting_stays = refl; faults_stay = refl; nonce_faults_stay = refl }) (record { left_stays = refl; faults_stay = refl }) refl refl
 
 pub returns-in-Some : goal.returns-in-Some
-returns-in-Some g c = serving.serves _ c.in-Some.port c.in-Some.count (rw c.in-Some.ensures at c.in-Ok.ensures) refl refl (c.serve.ensures _ _)
+returns-in-Some g c = serving.serves _ c.in-Some.port c.in-Some.count (rw c.in-Some.ensures at c.in-Ok.ensures) (record { left_stays = refl; faults_stay = refl }) (c.serve.ensures _ _ _)
 
 pub serve9-requires-clause-some : goal.serve9-requires-clause-some
 serve9-requires-clause-some g c κs within = (fits c.args.words.now.items (Serve9 c.in-Some-nine_serving_of.port c.in-Some-nine_serving_of.count) (rw c.in-Some-nine_serving_of.ensures at c.in-Ok.ensures)).0
@@ -28,7 +28,7 @@ pub serve9-requires-clause-few : goal.serve9-requires-clause-few
 serve9-requires-clause-few g c κs within = (fits c.args.words.now.items (Serve9 c.in-Some-nine_serving_of.port c.in-Some-nine_serving_of.count) (rw c.in-Some-nine_serving_of.ensures at c.in-Ok.ensures)).1
 
 pub returns-in-Some-nine_serving_of : goal.returns-in-Some-nine_serving_of
-returns-in-Some-nine_serving_of g c = serving.serves_nine _ c.in-Some-nine_serving_of.port c.in-Some-nine_serving_of.count (rw c.in-Some-nine_serving_of.ensures at c.in-Ok.ensures) refl refl (c.serve9.ensures _ _)
+returns-in-Some-nine_serving_of g c = serving.serves_nine _ c.in-Some-nine_serving_of.port c.in-Some-nine_serving_of.count (rw c.in-Some-nine_serving_of.ensures at c.in-Ok.ensures) (record { left_stays = refl; faults_stay = refl }) (c.serve9.ensures _ _ _)
 
 pub returns-in-None-nine_serving_of : goal.returns-in-None-nine_serving_of
 returns-in-None-nine_serving_of g c =

@@ -11,7 +11,7 @@ pub run_over-status-requires-clause-lawful : goal.run_over-status-requires-claus
 run_over-status-requires-clause-lawful g c = subst IsLawfulStanding (sym (fresh_over c.args.secrets.now _ c.in-Ok.ensures)) (IsLawfulStanding-fresh c.args.secrets.now)
 
 pub returns-in-Ok : goal.returns-in-Ok
-returns-in-Ok g c = MemoryEnds-ran c.args.secrets.now _ _ _ _ _ _ (fresh_over c.args.secrets.now _ c.in-Ok.ensures) c.run_over-status.ensures.1.ends c.memory_status.ensures
+returns-in-Ok g c = MemoryEnds-ran c.args.secrets.now _ _ _ _ _ _ _ (fresh_over c.args.secrets.now _ c.in-Ok.ensures) c.run_over-status.ensures.1.ends c.memory_status.ensures
 
 pub returns-in-Err : goal.returns-in-Err
-returns-in-Err g c = memory.ended 9 _ (λ e. absurd cc) (ScriptStatus-unbegun c.args.secrets.now _ _ refl refl refl)
+returns-in-Err g c = memory.ended 9 _ (λ e. absurd cc) (ScriptStatus-unbegun c.args.secrets.now _ _ _ refl refl refl refl)

@@ -11,4 +11,4 @@ pub returns-in-Ok : goal.returns-in-Ok
 returns-in-Ok g c = c.run_asked.ensures c.args.words.now.items c.in-Ok.ensures
 
 pub returns-in-Err : goal.returns-in-Err
-returns-in-Err g c = EndsWith-unasked c.args.words.now.items c.args.secrets.now _ _ _ refl refl refl
+returns-in-Err g c = EndsWith-unasked c.args.words.now.items c.args.secrets.now _ _ _ refl (record { left_stays = refl; faults_stay = refl }) refl refl

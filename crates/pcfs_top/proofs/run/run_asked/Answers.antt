@@ -11,4 +11,4 @@ pub returns-in-Some : goal.returns-in-Some
 returns-in-Some g c words asks = c.run_task.ensures words (rw c.in-Some.is at asks)
 
 pub returns-in-None : goal.returns-in-None
-returns-in-None g c words asks = EndsWith-usage words c.args.secrets.now _ _ _ _ (nothing_asked words (rw c.in-None.is at asks)) refl refl c.write_last_line.ensures
+returns-in-None g c words asks = EndsWith-usage words c.args.secrets.now _ _ _ _ (nothing_asked words (rw c.in-None.is at asks)) refl (record { left_stays = refl; faults_stay = refl }) c.write_last_line.ensures
