@@ -24,36 +24,6 @@ use Rattle.command_words.specs.declared.words.Task.TheVariants.{Script, Stored, 
 differ : (x y : Text) → bytes_eq x y ≡ false → x ≡ y → ⊥
 differ x y apart same = false≢true (sym apart ∙ (bytes_eq-Decides x y).1 same)
 
--- a name that no command has
-pub record IsNoCommand (name : Text) : Type 0 where
-  pub not_script : name ≡ codes "script" → ⊥
-  pub not_init : name ≡ codes "init" → ⊥
-  pub not_checkpoint : name ≡ codes "checkpoint" → ⊥
-  pub not_audit : name ≡ codes "audit" → ⊥
-  pub not_export : name ≡ codes "export" → ⊥
-  pub not_follow : name ≡ codes "follow" → ⊥
-  pub not_check : name ≡ codes "check" → ⊥
-  pub not_load : name ≡ codes "load" → ⊥
-  pub not_modes : name ≡ codes "modes" → ⊥
-  pub not_rootsign : name ≡ codes "rootsign" → ⊥
-  pub not_serve : name ≡ codes "serve" → ⊥
-  pub not_serve9 : name ≡ codes "serve9" → ⊥
-
-pub no_command : (name : Text) (given : List Row) → IsNoCommand name → (task : Task) → IsTaskOf name given task → ⊥
-no_command name given other Script is = other.not_script is.0
-no_command name given other Stored is = other.not_script is.0
-no_command name given other Init is = other.not_init is
-no_command name given other Checkpoint is = other.not_checkpoint is
-no_command name given other (Audit pieces) is = other.not_audit is.0
-no_command name given other (Export from) is = other.not_export is.0
-no_command name given other Follow is = other.not_follow is
-no_command name given other Check is = other.not_check is
-no_command name given other (Load rounds seed) is = other.not_load is.0
-no_command name given other (Modes from to) is = other.not_modes is.0
-no_command name given other (RootSign height from) is = other.not_rootsign is.0
-no_command name given other (Serve port count) is = other.not_serve is.0
-no_command name given other (Serve9 port count) is = other.not_serve9 is.0
-
 -- ---- one command
 
 module _ (given : List Row) where

@@ -76,16 +76,16 @@ returns-then-eq-12 c =
         (is_word c.args.name.now (codes "serve9") c.eq-12.result c.eq-12.ensures c.if-eq-12.true) c.serve9_task.ensures
 
 pub returns : goal.returns
-returns c = no_command c.args.name.now (rows_of (found_of c.args.given.now)) (record {
-    not_script = is_other c.args.name.now (codes "script") c.eq.result c.eq.ensures c.if-eq.false;
-    not_init = is_other c.args.name.now (codes "init") c.eq-2.result c.eq-2.ensures c.if-eq-2.false;
-    not_checkpoint = is_other c.args.name.now (codes "checkpoint") c.eq-3.result c.eq-3.ensures c.if-eq-3.false;
-    not_audit = is_other c.args.name.now (codes "audit") c.eq-4.result c.eq-4.ensures c.if-eq-4.false;
-    not_export = is_other c.args.name.now (codes "export") c.eq-5.result c.eq-5.ensures c.if-eq-5.false;
-    not_follow = is_other c.args.name.now (codes "follow") c.eq-6.result c.eq-6.ensures c.if-eq-6.false;
-    not_check = is_other c.args.name.now (codes "check") c.eq-7.result c.eq-7.ensures c.if-eq-7.false;
-    not_load = is_other c.args.name.now (codes "load") c.eq-8.result c.eq-8.ensures c.if-eq-8.false;
-    not_modes = is_other c.args.name.now (codes "modes") c.eq-9.result c.eq-9.ensures c.if-eq-9.false;
-    not_rootsign = is_other c.args.name.now (codes "rootsign") c.eq-10.result c.eq-10.ensures c.if-eq-10.false;
-    not_serve = is_other c.args.name.now (codes "serve") c.eq-11.result c.eq-11.ensures c.if-eq-11.false;
-    not_serve9 = is_other c.args.name.now (codes "serve9") c.eq-12.result c.eq-12.ensures c.if-eq-12.false })
+returns c = no_command (rows_of (found_of c.args.given.now)) c.args.name.now
+    (is_other c.args.name.now (codes "script") c.eq.result c.eq.ensures c.if-eq.false)
+    (is_other c.args.name.now (codes "init") c.eq-2.result c.eq-2.ensures c.if-eq-2.false)
+    (is_other c.args.name.now (codes "checkpoint") c.eq-3.result c.eq-3.ensures c.if-eq-3.false)
+    (is_other c.args.name.now (codes "audit") c.eq-4.result c.eq-4.ensures c.if-eq-4.false)
+    (is_other c.args.name.now (codes "export") c.eq-5.result c.eq-5.ensures c.if-eq-5.false)
+    (is_other c.args.name.now (codes "follow") c.eq-6.result c.eq-6.ensures c.if-eq-6.false)
+    (is_other c.args.name.now (codes "check") c.eq-7.result c.eq-7.ensures c.if-eq-7.false)
+    (is_other c.args.name.now (codes "load") c.eq-8.result c.eq-8.ensures c.if-eq-8.false)
+    (is_other c.args.name.now (codes "modes") c.eq-9.result c.eq-9.ensures c.if-eq-9.false)
+    (is_other c.args.name.now (codes "rootsign") c.eq-10.result c.eq-10.ensures c.if-eq-10.false)
+    (is_other c.args.name.now (codes "serve") c.eq-11.result c.eq-11.ensures c.if-eq-11.false)
+    (is_other c.args.name.now (codes "serve9") c.eq-12.result c.eq-12.ensures c.if-eq-12.false)
