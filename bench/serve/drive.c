@@ -1,8 +1,8 @@
 // Drives connections that it is given, each with requests that it says again and again, one after the other, and waits for each
 // reply. Its input: how many connections, the most steps, the seconds; for each connection its descriptor and the number of
-// its requests; for each request the number of lines of its reply, or 0 if its first four bytes give its size, how it begins, and its
-// bytes. It prints steps, seconds, median, 99th percentile and the longest, in microseconds, how many replies began otherwise, and the
-// 10th percentile.
+// its requests; for each request the number of lines of its reply, or 0 if its first four bytes give its size, how many bytes the
+// whole reply has, or 0 if any number, how it begins, and its own bytes. It prints steps, seconds, median, 99th percentile, the longest
+// and the 10th percentile, in microseconds. Another reply is an error: it prints that, and its status is 1.
 #include <errno.h>
 #include <fcntl.h>
 #include <poll.h>
@@ -14,8 +14,8 @@
 #include <sys/socket.h>
 #include <time.h>
 #include <unistd.h>
-struct request { uint32_t lines, begin_len, len; char *begin, *bytes; };
-struct connection { int32_t fd; uint32_t count, at, left, got; struct request *requests; char front[16]; uint64_t begun; };
+struct request { uint32_t lines, whole, begin_len, len; char *begin, *bytes; };
+struct connection { int32_t fd; uint32_t count, at, left, got; struct request *requests; char front[128]; uint64_t begun; };
 static uint64_t now(void) { struct timespec t; clock_gettime(CLOCK_MONOTONIC, &t); return t.tv_sec * 1000000000ull + t.tv_nsec; }
 static void take(void *into, size_t len) { if (len && fread(into, 1, len, stdin) != len) { fputs("short input\n", stderr); exit(1); } }
 static char *taken(size_t len) { char *bytes = malloc(len + 1); take(bytes, len); return bytes; }
@@ -23,6 +23,20 @@ static int order(const void *a, const void *b) { uint32_t x = *(const uint32_t *
 static uint32_t size_of(const char *front) { uint32_t size; memcpy(&size, front, sizeof size); return size; }
 static int is_whole(const struct connection *c) {
     return c->requests[c->at].lines ? !c->left : c->got >= 4 && c->got >= size_of(c->front);
+}
+static int is_expected(const struct connection *c) {
+    const struct request *r = &c->requests[c->at];
+    return (!r->whole || c->got == r->whole) && c->got >= r->begin_len && !memcmp(c->front, r->begin, r->begin_len);
+}
+static void tell(const struct connection *c) {
+    uint32_t len = c->got < sizeof c->front ? c->got : sizeof c->front;
+    fprintf(stderr, "another reply than is expected, of %u bytes: ", c->got);
+    for (uint32_t k = 0; k < len; k++) {
+        unsigned char byte = c->front[k];
+        if (byte >= ' ' && byte <= '~' && byte != '\\') fputc(byte, stderr);
+        else fprintf(stderr, "\\x%02x", byte);
+    }
+    fputs(len < c->got ? "..\n" : "\n", stderr);
 }
 static void say(struct connection *c) {
     struct request *r = &c->requests[c->at];
@@ -39,7 +53,7 @@ static void say(struct connection *c) {
 int main(void) {
     static char buf[1 << 18];
     uint32_t count;
-    uint64_t most, steps = 0, wrong = 0, begun, end;
+    uint64_t most, steps = 0, begun, end;
     double seconds;
     take(&count, 4); take(&most, 8); take(&seconds, 8);
     struct connection *all = calloc(count, sizeof *all);
@@ -51,7 +65,8 @@ int main(void) {
         c->requests = calloc(c->count, sizeof *c->requests);
         for (uint32_t k = 0; k < c->count; k++) {
             struct request *r = &c->requests[k];
-            take(&r->lines, 4); take(&r->begin_len, 4); take(&r->len, 4);
+            take(&r->lines, 4); take(&r->whole, 4); take(&r->begin_len, 4); take(&r->len, 4);
+            if (r->begin_len > sizeof c->front) { fputs("a long begin\n", stderr); return 1; }
             r->begin = taken(r->begin_len);
             r->bytes = taken(r->len);
         }
@@ -76,18 +91,15 @@ int main(void) {
                 if (buf[k] == '\n' && c->left) c->left--;
             }
             if (got <= 0 || !is_whole(c)) continue;
-            struct request *r = &c->requests[c->at];
             uint64_t late = now(), taken_time = late - c->begun;
             times[steps++] = taken_time > UINT32_MAX ? UINT32_MAX : taken_time;
-            if (c->got < r->begin_len || memcmp(c->front, r->begin, r->begin_len)) {
-                if (!wrong++) fprintf(stderr, "told %.*s\n", (int)(c->got < 16 ? c->got : 16), c->front);
-            }
+            if (!is_expected(c)) { tell(c); return 1; }
             c->at = (c->at + 1) % c->count;
             if (steps + waiting <= most && late < end) say(c); else waiting--;
         }
     }
     double whole = (now() - begun) / 1e9;
     qsort(times, steps, sizeof *times, order);
-    printf("%llu %.6f %.1f %.1f %.1f %llu %.1f\n", (unsigned long long)steps, whole, times[steps / 2] / 1e3, times[steps * 99 / 100] / 1e3,
-        times[steps - 1] / 1e3, (unsigned long long)wrong, times[steps / 10] / 1e3);
+    printf("%llu %.6f %.1f %.1f %.1f %.1f\n", (unsigned long long)steps, whole, times[steps / 2] / 1e3, times[steps * 99 / 100] / 1e3,
+        times[steps - 1] / 1e3, times[steps / 10] / 1e3);
 }

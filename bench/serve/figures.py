@@ -100,11 +100,11 @@ class Store:
         return done.stdout.decode().splitlines()
 
     def plan(self, user):
-        """The requests of a user: the lines of a reply, its begin, the bytes."""
+        """The requests of a user: the lines of a reply, all its bytes or 0 if they may be any number, its begin, and the request."""
         file = user + 2
         return [
-            (1, b"ok\n", f"do write #{file} 0 {'61' * 16} {self.write[user]}\n".encode()),
-            (1, b"ok bytes 616161", f"do read #{file} 0 16 {self.read[user]}\n".encode()),
+            (1, 3, b"ok\n", f"do write #{file} 0 {'61' * 16} {self.write[user]}\n".encode()),
+            (1, 42, b"ok bytes 616161", f"do read #{file} 0 16 {self.read[user]}\n".encode()),
         ]
 
 
@@ -166,7 +166,7 @@ class Redis:
         self.connections = [dialled(self.port) for _ in range(count)]
         value = b"a" * 16
         self.plans = [
-            [(1, b"+OK", request(b"SET", b"f%d" % one, value)), (2, b"$16\r\naaa", request(b"GET", b"f%d" % one))] for one in range(count)
+            [(1, 5, b"+OK\r\n", request(b"SET", b"f%d" % one, value)), (2, 23, b"$16\r\naaa", request(b"GET", b"f%d" % one))] for one in range(count)
         ]
 
     def end(self):
@@ -179,13 +179,13 @@ class Redis:
 # ---- runs ----
 
 
-def begun(connections, plans, seconds=SECONDS):
-    """The client at work over these connections."""
-    given = struct.pack("=IQd", len(connections), MOST, seconds)
+def begun(connections, plans, seconds=SECONDS, most=MOST):
+    """The client at work over these connections, for so long and so many steps at most."""
+    given = struct.pack("=IQd", len(connections), most, seconds)
     for one, plan in zip(connections, plans):
         given += struct.pack("=iI", one.fileno(), len(plan))
-        for lines, begin, data in plan:
-            given += struct.pack("=III", lines, len(begin), len(data)) + begin + data
+        for lines, whole, begin, data in plan:
+            given += struct.pack("=IIII", lines, whole, len(begin), len(data)) + begin + data
     files = [one.fileno() for one in connections]
     client = subprocess.Popen([f"{memory}/drive"], stdin=subprocess.PIPE, stdout=subprocess.PIPE, pass_fds=files)
     client.stdin.write(given)
@@ -196,11 +196,9 @@ def begun(connections, plans, seconds=SECONDS):
 def figures(client):
     """Steps a second, median, 99th percentile, the longest and the 10th percentile, in microseconds."""
     words = client.stdout.read().split()
-    if client.wait() != 0 or len(words) != 7:
+    if client.wait() != 0 or len(words) != 6:
         sys.exit("the client failed")
-    if int(words[5]):
-        print(f"{int(words[5])} of {int(words[0])} replies were others")
-    return int(words[0]) / float(words[1]), *map(float, words[2:5]), float(words[6])
+    return int(words[0]) / float(words[1]), *map(float, words[2:])
 
 
 def one_run(make, folder, count):
@@ -241,7 +239,7 @@ def slowed(count):
         server = Pcfs(memory, count, 1)
         try:
             prover = server.logged_in(0)
-            plan = [(1, b"unproved 1 ", server.store.large.encode() + b"\n")]
+            plan = [(1, 0, b"unproved 1 ", server.store.large.encode() + b"\n")]
             alone.append(figures(begun(server.connections, server.plans, SHORT))[0])
             proving = begun([prover], [plan], SHORT + 1)
             time.sleep(0.3)

@@ -3,22 +3,30 @@ import struct
 import subprocess
 import sys
 
-from figures import ROUNDS, SECONDS, Pcfs, Store, aim, begun, dialled, figures, free_port, key, memory, middle, program
+from figures import ROUNDS, Pcfs, Store, aim, begun, dialled, figures, free_port, key, memory, middle, program
 from nine_client import FILE, NO_FID, READING, ROOT, TCLUNK, TREAD, TWALK, Nine, Refused
 
 BIG, PIECE, SHORT = 1 << 20, 65_536, 4096
 MOST_PROCAPS, MOST_FIDS = 64, 1024
 OTHER = 100_000  # the first of the fids that nothing is done with
 USER, NODE = "u0", 2
+# each run has as many steps: all those of a store, of which each reading is an event, fit into its area of 64 MiB
+STEPS, MOST_SECONDS = 20_000, 15.0
 
 
 def message(kind, fields):
     return struct.pack("<IBH", 7 + len(fields), kind, 1) + fields
 
 
+def asked(kind, fields, told, more=0):
+    """A request, and its reply: these fields, and so many bytes after them."""
+    whole = 7 + len(told) + more
+    return 0, whole, struct.pack("<IBH", whole, kind + 1, 1) + told, message(kind, fields)
+
+
 def reading(offset, count):
-    """A request for so many bytes, and how its reply begins."""
-    return 0, struct.pack("<IBHI", 11 + count, TREAD + 1, 1, count), message(TREAD, struct.pack("<IQI", FILE, offset, count))
+    """A request for so many bytes, and its reply."""
+    return asked(TREAD, struct.pack("<IQI", FILE, offset, count), struct.pack("<I", count), count)
 
 
 def pieces(size, most):
@@ -65,7 +73,7 @@ class Server:
     def lines(self):
         """The connection of the user, and how it reads bytes."""
         one = self.logged_in(0)
-        return one, lambda offset, count: (1, b"ok bytes 616161", f"do read #{NODE} {offset} {count} {self.store.read[0]}\n".encode())
+        return one, lambda offset, count: (1, 10 + 2 * count, b"ok bytes 616161", f"do read #{NODE} {offset} {count} {self.store.read[0]}\n".encode())
 
     def messages(self, has_many=False):
         """The connection of the user, with the file open for reading; with many fids and procaps, of which the one that counts is last."""
@@ -83,8 +91,8 @@ class Server:
         self.process.communicate()
 
 
-def timed(one, plan, seconds=SECONDS):
-    return figures(begun([one], [plan], seconds))
+def timed(one, plan):
+    return figures(begun([one], [plan], MOST_SECONDS, STEPS))
 
 
 def timed_anew(nine, plan):
@@ -93,7 +101,7 @@ def timed_anew(nine, plan):
         nine.clunk(NO_FID)
     except Refused:
         pass
-    return timed(nine.socket, plan, SECONDS / 2)
+    return timed(nine.socket, plan)
 
 
 def reading_figures(lines, nine):
@@ -114,10 +122,9 @@ def reading_figures(lines, nine):
 def cost_figures(nine):
     """What many fids and procaps cost a reading, and a walk to a fid more and its end: the difference of medians, by turns."""
     few, many = nine.messages(), nine.messages(True)
-    ended = b"\x09\x00\x00\x00" + bytes([TWALK + 1]), b"\x07\x00\x00\x00" + bytes([TCLUNK + 1])
     steps = {
         "a Tread of 16 bytes": [reading(0, 16)],
-        "a Twalk to a new fid, or its Tclunk": [(0, ended[0], message(TWALK, struct.pack("<IIH", ROOT, NO_FID, 0))), (0, ended[1], message(TCLUNK, struct.pack("<I", NO_FID)))],
+        "a Twalk to a new fid, or its Tclunk": [asked(TWALK, struct.pack("<IIH", ROOT, NO_FID, 0), bytes(2)), asked(TCLUNK, struct.pack("<I", NO_FID), b"")],
     }
     for what, plan in steps.items():
         runs = [(timed_anew(few, plan), timed_anew(many, plan)) for _ in range(2 * ROUNDS + 1)]
@@ -130,10 +137,10 @@ def cost_figures(nine):
 
 
 def main():
-    servers = [Server(f"{memory}/{word}", word, 1000) for word in ("serve", "serve9")]
+    servers = [Server(f"{memory}/{name}", word, 1000) for name, word in (("lines", "serve"), ("messages", "serve9"), ("many", "serve9"))]
     try:
-        reading_figures(*servers)
-        cost_figures(servers[1])
+        reading_figures(*servers[:2])
+        cost_figures(servers[2])
     finally:
         for server in servers:
             server.end()

@@ -1,6 +1,6 @@
 //! Procaps that a client brought.
 
-ghost use Rattle.std.specs.Prelude.{◌≡◌, ◌<◌, [], ◌∷◌, ◌++◌, length, nat_le, is_some, IsSome, IfOk, OnOk, OnErr};
+ghost use Rattle.std.specs.Prelude.{◌≡◌, ◌<◌, [], ◌∷◌, ◌++◌, length, nat_le, is_some, option_map, IsSome, IfOk, OnOk, OnErr};
 ghost use Rattle.nine_fids.specs.Purse.{is_fitting, fitting};
 
 use bl_syntax::{NoMemory, NodeId, Perm, Principal, Sequence};
@@ -28,48 +28,22 @@ impl Model for Purse {
     ghost invariant = { λ p. length p.procaps ≤ 64 };
 }
 
-// Whether the procap names the principal, the file and the permission.
+// Whether the procap names the principal, the file and the permission. Each part of the goal is asked for alone, so that of
+// most procaps the number of the file is read and nothing copied.
 fn is_fitting(who: &Principal, node: NodeId, permission: Perm, p: &Procap) -> bool
     ensures { result ≡ is_fitting who.now node permission p.now }
 {
-    let goal = p.grant.goal();
-    goal.file.0 == node.0 && goal.perm == permission && goal.who == *who
-}
-
-fn has_fitting(procaps: &[Procap], who: &Principal, node: NodeId, permission: Perm) -> bool
-    ensures { result ≡ is_some (fitting procaps.now who.now node permission) }
-{
-    match procaps {
-        [] => false,
-        [first, others @ ..] => {
-            is_fitting(who, node, permission, first) || has_fitting(others, who, node, permission)
-        }
-    }
-}
-
-fn copy_fitting(
-    alloc: Global,
-    procaps: &[Procap],
-    who: &Principal,
-    node: NodeId,
-    permission: Perm,
-) -> Result<Option<Procap>, NoMemory>
-    ensures ok { IfOk result (λ p. p ≡ fitting procaps.now who.now node permission) }
-    ensures err { OnErr result (IsSome (fitting procaps.now who.now node permission)) }
-{
-    match procaps {
-        [] => Ok(None),
-        [first, others @ ..] => {
-            if is_fitting(who, node, permission, first) {
-                Ok(Some(first.copy(alloc)?))
-            } else {
-                copy_fitting(alloc, others, who, node, permission)
-            }
-        }
-    }
+    p.grant.goal().file.0 == node.0 && p.grant.goal().perm == permission && p.grant.goal().who == *who
 }
 
 impl Purse {
+    // The first procap that names the principal, the file and the permission.
+    fn first_fitting(&self, who: &Principal, node: NodeId, permission: Perm) -> Option<&Procap>
+        ensures { option_map (λ p. p.now) result ≡ fitting self.now who.now node permission }
+    {
+        self.procaps.as_slice().iter().find(|p| is_fitting(who, node, permission, p))
+    }
+
     /// No procaps. It takes no memory.
     pub fn new(alloc: Global) -> Purse
         ensures { result ≡ [] }
@@ -106,7 +80,7 @@ impl Purse {
     pub fn has_fitting(&self, who: &Principal, node: NodeId, permission: Perm) -> bool
         ensures { result ≡ is_some (fitting self.now who.now node permission) }
     {
-        has_fitting(self.procaps.as_slice(), who, node, permission)
+        self.first_fitting(who, node, permission).is_some()
     }
 
     /// The first procap that names the principal, the file and the permission, copied. If none does, no memory is taken.
@@ -120,6 +94,9 @@ impl Purse {
         ensures ok { IfOk result (λ p. p ≡ fitting self.now who.now node permission) }
         ensures err { OnErr result (IsSome (fitting self.now who.now node permission)) }
     {
-        copy_fitting(alloc, self.procaps.as_slice(), who, node, permission)
+        match self.first_fitting(who, node, permission) {
+            Some(p) => Ok(Some(p.copy(alloc)?)),
+            None => Ok(None),
+        }
     }
 }
