@@ -19,8 +19,8 @@ use Rattle.nine_fids.specs.States.{begun_with}
 use Rattle.nine_front.specs.Asked.{IsByLogin, AreAskedByMessages}
 use Rattle.nine_front.specs.Placed.{MessagesPlaced}
 
--- what connections take from the ports: which moments the clock gives after how many events; and
--- which messages the connection of a number may send, under which nonce
+-- what connections take from the ports: which moments the clock gives after which entries; and which
+-- messages the connection of a number may send, under which nonce
 pub record NineSources : Type 1 where
   pub gives : List StoreEntry → ℤ → Type 0
   pub may_send : ℕ → List ℕ → List MessageView → Type 0
@@ -46,7 +46,7 @@ pub record MaySend {I : Type 0} (left : I → Option (List ℕ))
   pub accepted : IsInputOf inputs number (left input)
   pub first : AreFirstMessages (left input) messages
 
--- The clock gives these moments after so many events. Messages are sent by inputs of one type, of
+-- The clock gives these moments after these entries. Messages are sent by inputs of one type, of
 -- which `left` is what they tell, as lines are of a session.
 abbrev pub nine_sources_of : {I : Type 0} → (List StoreEntry → ℤ → Type 0) → (I → Option (List ℕ)) →
     Option (List (Option (List ℕ))) → Option (List ℕ) → NineSources

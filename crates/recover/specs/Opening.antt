@@ -99,7 +99,7 @@ module _ {D : Type 0} (clock : D → ℕ) (left_since : D → ℕ → List ℕ �
     pub stays : IsPinned clock left_since image old → image new ≡ image old
     pub never_falls : faults old ≤ faults new
 
-  -- The same, and no call failed: the bytes are as they were, and nothing is pending.
+  -- The same; the bytes are as they were, and nothing is pending.
   pub record IsRead (old new : D) : Type 0 where
     pub handled : IsHandled old new
     pub same : image new ≡ image old

@@ -10,7 +10,8 @@ use pcfs_session::SendFault;
 pub enum SessionEnd {
     /// The input was read to its end, and each line was answered.
     Done,
-    /// A line was longer than a line may be. The lines before it were answered, and nothing was read after it.
+    /// A line was longer than a line may be. The lines before it were answered, and no piece was read after the one with which
+    /// it was too long.
     LineTooLong,
     /// The input failed.
     ReadFault,
