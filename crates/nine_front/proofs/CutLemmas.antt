@@ -1,11 +1,11 @@
 -- The message that is cut off the front of what came.
-use Rattle.std.proofs.Common.{◌≡◌, ◌∙◌, ◌≤◌, ◌+◌, ◌-◌, ℕ, Bool, true, false, cond, nat_lt, min, List, [], ◌∷◌, ◌++◌, length, drop, sym, ap, subst, arith, length-append}
+use Rattle.std.proofs.Common.{◌≡◌, ◌∙◌, ◌≤◌, ◌+◌, ◌-◌, ℕ, Bool, true, false, cond, nat_lt, min, List, ◌++◌, length, drop, sym, ap, subst, arith, length-append}
 use Rattle.std.specs.Int.{w32, w64, to_le_bytes}
 use Rattle.std.proofs.lemmas.List.{drop_at}
 use Rattle.nine_messages.specs.Fields.{counted}
 use Rattle.nine_messages.specs.Requests.{RequestView, tversion, tattach, tflush, twalk, topen, tread, twrite, tclunk, tother, request_kind, request_fields, MessageView, spelling}
-use Rattle.nine_messages.specs.Cutting.{IsNext, IsOpen, without_size, within_message, agreed_after, Cuts, none, one_more}
-use Rattle.nine_messages.proofs.CuttingLemmas.{next_facts, next_shrinks, cuts_more, cuts_join}
+use Rattle.nine_messages.specs.Cutting.{IsNext, agreed_after}
+use Rattle.nine_messages.proofs.CuttingLemmas.{next_facts}
 use Rattle.nine_messages.proofs.MessageLemmas.{length-message}
 use Rattle.nine_front.specs.Asking.{bytes_of}
 

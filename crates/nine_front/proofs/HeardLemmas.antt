@@ -1,5 +1,5 @@
 -- A message that came next is answered and taken.
-use Rattle.std.proofs.Common.{◌≡◌, ◌∙◌, ◌<◌, ◌-◌, ℕ, List, [], ◌∷◌, ◌++◌, length, drop, refl, sym, ap, subst}
+use Rattle.std.proofs.Common.{◌≡◌, ◌∙◌, ◌<◌, ◌-◌, ℕ, List, [], ◌++◌, length, drop, refl, sym, ap, subst}
 use Rattle.std.specs.Prelude.{ℤ}
 use Rattle.tree_lock.specs.Seen.{PassView}
 use Rattle.pcfs_store.specs.Entries.{StoreEntry}

@@ -1,6 +1,6 @@
 -- A connection as a talk: its messages, each answered by one reply (this project's own; the sizes are
 -- those of 9P2000).
-use Rattle.std.proofs.Common.{◌≡◌, ◌≤◌, ◌<◌, ℕ, List, [], length, arith}
+use Rattle.std.proofs.Common.{◌≡◌, ◌≤◌, ℕ, List, [], length, arith}
 use Rattle.std.specs.Prelude.{ℤ}
 use Rattle.tree_lock.specs.Seen.{PassView}
 use Rattle.pcfs_store.specs.Entries.{StoreEntry}

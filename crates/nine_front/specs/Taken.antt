@@ -1,7 +1,7 @@
 -- The messages of what was taken of an input, and what is written for them. If the input does not
 -- tell what it has, these are some messages (this project's own).
-use Rattle.std.specs.Prelude.{◌≡◌, ◌≤◌, ◌<◌, ℕ, List, [], ◌∷◌, ◌++◌, length, Option}
-use Rattle.pcfs_ports.specs.Observable.{with_front, ReadsToEnd, HoldsSome}
+use Rattle.std.specs.Prelude.{◌≡◌, ◌≤◌, ◌<◌, ℕ, List, [], length, Option}
+use Rattle.pcfs_ports.specs.Observable.{with_front, ReadsToEnd}
 use Rattle.session_loop.specs.Written as talks
 use Rattle.nine_messages.specs.Requests.{MessageView}
 use Rattle.nine_messages.specs.Replies.{ReplyView, reply_spelling}
