@@ -1,5 +1,5 @@
 -- Each entry that a connection is given is by somebody whom a message of it logged in over its nonce.
-use Rattle.std.proofs.Common.{◌≡◌, ◌∙◌, ℕ, List, [], ◌∷◌, ◌++◌, length, Bool, true, false, cond, eqb, Option, Some, None, refl, sym, ap, subst, append_assoc}
+use Rattle.std.proofs.Common.{◌≡◌, ◌∙◌, ℕ, List, [], ◌∷◌, ◌++◌, length, Bool, true, false, cond, eqb, Option, Some, None, refl, sym, ap, subst}
 use Rattle.std.specs.Prelude.{ℤ}
 use Rattle.std.specs.List.{AllByRecursion}
 use Rattle.std.specs.Option.{option_map}
@@ -31,7 +31,6 @@ use Rattle.nine_fids.specs.declared.step.Step.{Step}
 use Rattle.nine_fids.specs.declared.step.Step.TheVariants as steps
 use Rattle.nine_fids.specs.States.{begun_with}
 use Rattle.nine_fids.specs.Steps.{Outcome, decided}
-use Rattle.nine_fids.specs.Tests.{IsAskedBy}
 use Rattle.nine_fids.specs.Walks.{last_of, standing_for, walked}
 use Rattle.nine_fids.proofs.LawLemmas.{Changes, leaves}
 use Rattle.nine_front.specs.Asked.{Asks, in_one_turn, HasLoggedIn, IsEventByLogin, IsMetByLogin, IsByLogin}
