@@ -3,13 +3,13 @@
 ghost use Rattle.std.specs.Prelude.{◌≡◌, ◌≤◌, ◌<◌, ◌++◌, ◌∷◌, [], ◌↔◌, ℕ, List, IfOk, IsSome, IsTrue, OnOk, length, map};
 ghost use Rattle.policy_statement.specs.Registered.{RegisteredView, spare_of};
 ghost use Rattle.policy_statement.specs.Withdrawal.{is_withdrawn};
-ghost use Rattle.issue_standings.specs.Bearing.{IsGrantAt, is_plain, plain};
+ghost use Rattle.issue_standings.specs.Bearing.{IsGrantAt, plain};
 ghost use Rattle.issue_standings.specs.GrantStanding.{gone_by, standing_of};
 ghost use Rattle.issue_standings.specs.Rows.{ArePlaces, AreWithin, TellsRow, all_begun, all_counted, begun, begun_by, changed, counted, counted_anew, left};
 ghost use Rattle.issue_standings.specs.Index.{Finds, GivesRow, HasNewRow, HasRows, IsIndexOf, IsRecounted, IsSameIndex, Knows, TellsIssued, front_of, room_of, row_at, rows_of};
 
 use crate::bearing::Bearing;
-use crate::standing::{GrantStanding, first_withdrawn};
+use crate::standing::GrantStanding;
 use bl_syntax::{Grant, NoMemory};
 use policy_statement::Registry;
 use procap::{Procap, SealKey};
@@ -47,19 +47,12 @@ fn front_of(tag: &[u8]) -> u64
     ])
 }
 
-// Whether the issue's grant names no statements.
-fn is_plain<B: Bearing>(issue: &B) -> bool
-    ensures { result ≡ is_plain (B.Bearing.bearing issue.now) }
-{
-    issue.grant().cited().is_empty()
-}
-
 // Whether the issue in that place has the grant.
 fn is_grant_at<B: Bearing>(issues: &[B], place: usize, grant: &Grant) -> bool
     requires { place < length issues.now }
     ensures { IsTrue result ↔ IsGrantAt (map B.Bearing.bearing issues.now) place grant.now }
 {
-    issues[place].grant().is_same(grant)
+    issues[place].is_grant(grant)
 }
 
 // The row of the grant among these; none exactly if they have none of it.
@@ -124,7 +117,7 @@ fn begin_citing<B: Bearing>(rows: &mut Vec<Row>, row: usize, issue: &B, number: 
     ensures rows { rows.new.items ≡ changed (begun_by number (B.Bearing.bearing issue.now)) rows.old.items row }
     ensures spare { spare_of rows.new ≡ spare_of rows.old }
 {
-    if issue.cited().contains(&number) {
+    if issue.cites(number) {
         begin(rows, row);
     }
 }
@@ -136,7 +129,7 @@ fn count_anew<B: Bearing>(rows: &mut Vec<Row>, row: usize, registry: &Registry, 
     ensures spare { spare_of rows.new ≡ spare_of rows.old }
 {
     if rows[row].anew {
-        count(rows, row, first_withdrawn(registry, issue.cited()));
+        count(rows, row, issue.first_withdrawn(registry));
     }
 }
 
@@ -150,7 +143,7 @@ fn begin_all<B: Bearing>(rows: &mut Vec<Row>, row_of: &[usize], issues: &[B], nu
     let mut seen = 0;
     for place in 0..issues.len() {
         let issue = &issues[place];
-        if is_plain(issue) {
+        if issue.is_plain() {
             begin_citing(rows, row_of[seen], issue, number);
             seen += 1;
         }
@@ -167,7 +160,7 @@ fn count_all<B: Bearing>(rows: &mut Vec<Row>, row_of: &[usize], registry: &Regis
     let mut seen = 0;
     for place in 0..issues.len() {
         let issue = &issues[place];
-        if is_plain(issue) {
+        if issue.is_plain() {
             count_anew(rows, row_of[seen], registry, issue);
             seen += 1;
         }
@@ -198,7 +191,7 @@ impl Standings {
         let mut standings = Standings::new(alloc);
         for place in 0..issues.len() {
             standings.reserve()?;
-            standings.add(key, registry, &issues[0..place], &issues[place]);
+            standings.add_read(alloc, key, registry, &issues[0..place], &issues[place])?;
         }
         Ok(standings)
     }
@@ -214,18 +207,46 @@ impl Standings {
         Ok(())
     }
 
-    /// Adds an issue after these, for which there has to be room. Nothing is added for a grant that names statements. It takes
-    /// no memory.
-    pub fn add<B: Bearing>(&mut self, key: &SealKey, registry: &Registry, issues: &[B], issue: &B)
+    // Adds an issue after these, for which there has to be room. Its grant is read only if it names no statements.
+    fn add_read<B: Bearing>(
+        &mut self,
+        alloc: Global,
+        key: &SealKey,
+        registry: &Registry,
+        issues: &[B],
+        issue: &B,
+    ) -> Result<(), NoMemory>
         requires room { 1 ≤ room_of self.old }
         requires index { IsIndexOf key.now registry.now.entries (map B.Bearing.bearing issues.now) self.old }
+        ensures { OnOk result (IsIndexOf key.now registry.now.entries (map B.Bearing.bearing issues.now ++ B.Bearing.bearing issue.now ∷ []) self.new) }
+    {
+        if !issue.is_plain() {
+            return Ok(());
+        }
+        let grant = issue.grant(alloc)?;
+        self.add(key, registry, issues, issue, &grant);
+        Ok(())
+    }
+
+    /// Adds an issue with this grant after these, for which there has to be room. Nothing is added for a grant that names
+    /// statements. It takes no memory.
+    pub fn add<B: Bearing>(
+        &mut self,
+        key: &SealKey,
+        registry: &Registry,
+        issues: &[B],
+        issue: &B,
+        grant: &Grant,
+    )
+        requires room { 1 ≤ room_of self.old }
+        requires index { IsIndexOf key.now registry.now.entries (map B.Bearing.bearing issues.now) self.old }
+        requires grant { grant.now ≡ (B.Bearing.bearing issue.now).grant }
         ensures { IsIndexOf key.now registry.now.entries (map B.Bearing.bearing issues.now ++ B.Bearing.bearing issue.now ∷ []) self.new }
     {
-        if !is_plain(issue) {
+        if !issue.is_plain() {
             return;
         }
-        let grant = issue.grant();
-        let withdrawn = first_withdrawn(registry, issue.cited());
+        let withdrawn = issue.first_withdrawn(registry);
         let row = self.row_for(issues, front_of(&key.tag(grant)), grant);
         count(&mut self.rows, row, withdrawn);
         self.row_of.push_reserved(row);

@@ -160,6 +160,7 @@ fn copy_procaps(alloc: Global, procaps: &[Procap]) -> Result<Procaps, NoMemory>
     ensures { IfOk result (λ copied. copied ≡ procaps.now) }
 {
     let mut copied = Sequence::new(alloc);
+    copied.reserve(procaps.len())?;
     for procap in procaps {
         copied.push(procap.copy(alloc)?)?;
     }

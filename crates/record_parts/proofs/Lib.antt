@@ -1,8 +1,9 @@
 pub mod CodecLemmas
 pub mod FieldsLemmas
+pub mod FrontLemmas
+pub mod IssuingRecordLemmas
 pub mod OperationLemmas
 pub mod PartsLemmas
 pub mod ProofLengthLemmas
-pub mod ProofRecordLemmas
 pub mod ReadingLemmas
 pub mod RecordLemmas

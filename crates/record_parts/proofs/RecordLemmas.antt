@@ -61,7 +61,7 @@ proved_codec : IsCodec IsProved proved_spelling proved_at
 unfolding both_at proved_at
 proved_codec = both_codec IsSpellableProof sized_proof_spelling sized_proof_at IsSpellableGrant grant_spelling grant_at sized_codec grant_codec
 
-cited_codec : IsCodec (AreSpellable IsSpellableCited) (list_spelling cited_spelling) (λ input. list_at u32_at)
+pub cited_codec : IsCodec (AreSpellable IsSpellableCited) (list_spelling cited_spelling) (λ input. list_at u32_at)
 cited_codec = list_codec IsSpellableCited cited_spelling (λ input. u32_at) u32_codec
 
 pub issued_codec : IsCodec IsIssuing issuing_spelling issued_at

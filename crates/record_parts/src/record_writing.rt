@@ -13,7 +13,6 @@ ghost use Rattle.record_parts.specs.RecordSpelling.{registered_spelling, IsSpell
 use crate::fields::{put_moment, put_sized_bytes};
 use crate::operation_writing::write_operation;
 use crate::parts::{add_numbers, add_procaps, add_sized_proof};
-use crate::proof_record::ProofRecord;
 use bl_codec::write_statement;
 use bl_syntax::fields::u32_bytes;
 use bl_syntax::{Bytes, Grant, NoMemory, Principal, Statement, write_name};
@@ -114,44 +113,6 @@ fn add_issued(
 {
     add_numbers(cited, out)?;
     add_sized_proof(proof, out)?;
-    write_grant(grant, out)
-}
-
-/// Adds the numbers of the statements that a proof cites, at most 255, the proof, whose bytes were kept, and what it grants.
-pub fn write_issued_record(
-    cited: &[u32],
-    proof: &ProofRecord,
-    grant: &Grant,
-    out: &mut Bytes,
-) -> Result<(), NoMemory>
-    requires { length cited.now ≤ 255 }
-    ensures ok { OnOk result (out.new ≡ out.old ++ issued_spelling cited.now proof.now grant.now) }
-    ensures spelled { OnOk result (IsSpellableIssued cited.now proof.now grant.now) }
-    ensures err { OnErr result (out.new ≡ out.old) }
-{
-    let len = out.len();
-    let added = add_issued_record(cited, proof, grant, out);
-    if added.is_err() {
-        out.truncate(len);
-    }
-    added
-}
-
-/// Adds cited numbers, the kept bytes of a proof and a grant, or a front of them.
-#[tactic(auto, using(bl_syntax::proofs::BeginsWithLemmas::writing), unfolding(crate::specs::RecordSpelling::issued_spelling))]
-fn add_issued_record(
-    cited: &[u32],
-    proof: &ProofRecord,
-    grant: &Grant,
-    out: &mut Bytes,
-) -> Result<(), NoMemory>
-    requires { length cited.now ≤ 255 }
-    ensures ok { OnOk result (out.new ≡ out.old ++ issued_spelling cited.now proof.now grant.now) }
-    ensures spelled { OnOk result (IsSpellableIssued cited.now proof.now grant.now) }
-    ensures err { OnErr result (BeginsWith out.new out.old) }
-{
-    add_numbers(cited, out)?;
-    out.extend(proof.bytes())?;
     write_grant(grant, out)
 }
 

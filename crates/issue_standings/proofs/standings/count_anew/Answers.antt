@@ -1,5 +1,5 @@
 -- The issue is counted if its row is to be counted anew, and else the row stays.
-use Rattle.std.proofs.Common.{◌∙◌, sym}
+use Rattle.std.proofs.Common.{◌∙◌, refl, sym}
 use Rattle.policy_statement.specs.Withdrawal.{is_withdrawn}
 use Rattle.issue_standings.specs.Rows.{counted_anew, counted_in}
 use Rattle.issue_standings.proofs.RecountLemmas.{counted_if_anew, kept_if_not}
@@ -12,7 +12,7 @@ returns-then-index-clause-rows g c =
     let withdrawn = is_withdrawn c.args.registry.now.entries in
     c.count.ensures.rows
     ∙ changed_alike (counted_in c.first_withdrawn.result) (counted_anew withdrawn b) c.args.rows.now.items c.args.row c.index.result.now c.requires c.index.ensures
-    (counted_if_anew withdrawn b c.first_withdrawn.result c.cited.result.now c.index.result.now c.first_withdrawn.ensures c.cited.ensures c.if-index.true)
+    (counted_if_anew withdrawn b c.first_withdrawn.result b.cited c.index.result.now c.first_withdrawn.ensures refl c.if-index.true)
 
 pub returns-else-index-clause-rows : goal.returns-else-index-clause-rows
 returns-else-index-clause-rows g c =

@@ -10,8 +10,8 @@ use Rattle.issue_standings.proofs.standings.Standings.from_issues.Goals as goal
 pub loop-place-init : goal.loop-place-init
 loop-place-init g c = c.new-standings.ensures c.args.key.now c.args.registry.now.entries
 
-pub add-requires-clause-index : goal.add-requires-clause-index
-add-requires-clause-index g c =
+pub add_read-requires-clause-index : goal.add_read-requires-clause-index
+add_read-requires-clause-index g c =
     let same : c.loop-place.place - 0 ≡ c.loop-place.place = omega arith in
     subst (λ (n : ℕ). IsIndexOf c.args.key.now c.args.registry.now.entries (map g.B.Bearing.bearing (take n c.args.issues.now)) c.reserve.new.self) (sym same)
     (IsIndexOf-same c.args.key.now c.args.registry.now.entries (map g.B.Bearing.bearing (take c.loop-place.place c.args.issues.now)) c.loop-place.standings c.reserve.new.self c.reserve.ensures.same c.loop-place.invariant)
@@ -19,8 +19,8 @@ add-requires-clause-index g c =
 pub loop-place-preserved : goal.loop-place-preserved
 loop-place-preserved g c =
     let same : c.loop-place.place - 0 ≡ c.loop-place.place = omega arith in
-    subst (λ (bs : List BearingView). IsIndexOf c.args.key.now c.args.registry.now.entries bs c.add.new.self) (sym (bearings_more g.B.Bearing.bearing c.args.issues.now c.loop-place.place c.index-issues-place.result c.loop-place-test.true c.index-issues-place.is))
-    (subst (λ (n : ℕ). IsIndexOf c.args.key.now c.args.registry.now.entries (map g.B.Bearing.bearing (take n c.args.issues.now) ++ g.B.Bearing.bearing c.index-issues-place.result ∷ []) c.add.new.self) same c.add.ensures)
+    subst (λ (bs : List BearingView). IsIndexOf c.args.key.now c.args.registry.now.entries bs c.add_read.new.self) (sym (bearings_more g.B.Bearing.bearing c.args.issues.now c.loop-place.place c.index-issues-place.result c.loop-place-test.true c.index-issues-place.is))
+    (subst (λ (n : ℕ). IsIndexOf c.args.key.now c.args.registry.now.entries (map g.B.Bearing.bearing (take n c.args.issues.now) ++ g.B.Bearing.bearing c.index-issues-place.result ∷ []) c.add_read.new.self) same c.in_ok-add_read.ensures)
 
 pub returns : goal.returns
 returns g c =
