@@ -2,13 +2,14 @@
 -- greeting, who is logged in, the purse, whether a version is agreed, the greatest size of a
 -- message, and the fids.
 use Rattle.std.specs.Prelude.{◌≤◌, ℕ, List, [], length, Bool, false, nat_le, Option, None, is_some}
+use Rattle.nine_messages.specs.declared.framing.TheConstants.{MOST_SIZE}
 use Rattle.nine_fids.specs.declared.connection.Connection.{Connection}
 use Rattle.nine_fids.specs.declared.fid.Fid.{Fid}
 use Rattle.nine_fids.specs.Fids.{fid_in, with_entry, without_entry, AreFids}
 
 -- before the first request
 abbrev pub begun_with : List ℕ → Connection
-begun_with nonce = record { nonce = nonce; caller = None; purse = []; is_agreed = false; msize = 65536; fids = [] }
+begun_with nonce = record { nonce = nonce; caller = None; purse = []; is_agreed = false; msize = MOST_SIZE; fids = [] }
 
 -- what stands under the number, if anything does
 abbrev pub fid_at : Connection → ℕ → Option Fid
@@ -33,4 +34,4 @@ pub record IsWithin (s : Connection) : Type 0 where
   pub procaps : length s.purse ≤ 64
   pub numbers : AreFids s.fids
   pub least : 512 ≤ s.msize
-  pub most : s.msize ≤ 65536
+  pub most : s.msize ≤ MOST_SIZE

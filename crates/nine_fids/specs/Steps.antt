@@ -2,6 +2,7 @@
 -- it, or one for each name of a walk (this project's own).
 use Rattle.std.specs.Prelude.{◌-◌, ℕ, List, [], ◌∷◌, ◌++◌, length, take, codes, Bool, true, ◌||◌, ◌==◌, min, if◌then◌else◌, Option, Some, None}
 use Rattle.std.specs.Str.{bytes_eq}
+use Rattle.nine_messages.specs.declared.framing.TheConstants.{MOST_SIZE}
 use Rattle.bl_syntax.specs.declared.terms.NodeId.{NodeId}
 use Rattle.bl_syntax.specs.declared.terms.Perm.TheVariants as perms
 use Rattle.procap.specs.declared.procap.Procap.{Procap}
@@ -69,8 +70,8 @@ tested s tests outcome = unless_refused s (first_holding tests) outcome
 
 -- all fids go, whatever the version
 abbrev pub version_outcome : Connection → ℕ → List ℕ → Outcome
-version_outcome s msize version = answered (answers.Version (min msize 65536) (is_served version))
-    (record s { is_agreed = is_served version; msize = min msize 65536; fids = [] })
+version_outcome s msize version = answered (answers.Version (min msize MOST_SIZE) (is_served version))
+    (record s { is_agreed = is_served version; msize = min msize MOST_SIZE; fids = [] })
 
 abbrev pub root_file : FidFile
 root_file = files.Node (record { 0 = 1 }) true
@@ -116,7 +117,7 @@ with_procap s (Some p) step = (step p, s)
 
 -- at most so many bytes are read at once
 abbrev pub read_len : ℕ → ℕ → ℕ
-read_len msize count = min count (min 65536 (msize - 11))
+read_len msize count = min count (min MOST_SIZE (msize - 11))
 
 abbrev pub read_node : Connection → ℕ → ℕ → NodeId → Outcome
 read_node s offset count node =

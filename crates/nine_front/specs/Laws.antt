@@ -2,6 +2,7 @@
 -- places do not go back, a connection is placed in what its pass has seen, and each request has an
 -- end, and asks one thing.
 use Rattle.std.specs.Prelude.{◌≡◌, ◌≢◌, ◌+◌, ◌≤◌, ℕ, ℤ, List, ◌++◌, length, take, true, false, Option}
+use Rattle.nine_messages.specs.declared.framing.TheConstants.{MOST_SIZE}
 use Rattle.line_wire.specs.declared.reply.LineReply.TheVariants as lines
 use Rattle.line_wire.specs.ReplyText.{reply_text}
 use mathlib.Core.List.{IsPrefix}
@@ -189,5 +190,5 @@ pub record HasMessageEnd (gives : List StoreEntry → ℤ → Type 0) (p : Store
 abbrev pub MessagesHaveAnEnd : (List StoreEntry → ℤ → Type 0) → Type 0
 MessagesHaveAnEnd gives = (p : StorePass) (s : Connection) (m : RequestView) (asked : Option Control)
     (before : List StoreEntry) → ((found : List StoreEntry) → (clock : ℤ) × gives found clock) →
-    IsAskedBy s m asked → IsNamed s.caller → length (bytes_of m) ≤ 65536 → has_stop before ≡ false →
+    IsAskedBy s m asked → IsNamed s.caller → length (bytes_of m) ≤ MOST_SIZE → has_stop before ≡ false →
     HasMessageEnd gives p before s m

@@ -2,6 +2,7 @@
 -- those of 9P2000).
 use Rattle.std.proofs.Common.{◌≡◌, ◌≤◌, ℕ, List, [], length, arith}
 use Rattle.std.specs.Prelude.{ℤ}
+use Rattle.nine_messages.specs.declared.framing.TheConstants.{MOST_SIZE}
 use Rattle.tree_lock.specs.Seen.{PassView}
 use Rattle.pcfs_store.specs.Entries.{StoreEntry}
 use Rattle.shared_store.specs.declared.entry.LockEntry.{LockEntry}
@@ -30,7 +31,7 @@ pub record IsNextMessage (agreed : ℕ) (left : List ℕ) (m : MessageView) (aft
 
 -- the bytes are less than a message, which may have at most 65,536
 pub record IsLessThanMessage (agreed : ℕ) (left : List ℕ) : Type 0 where
-  pub few : agreed ≤ 65536
+  pub few : agreed ≤ MOST_SIZE
   pub is_open : IsOpen agreed left
 
 -- no bytes are left at the end, and so no message
@@ -42,16 +43,16 @@ abbrev pub nine_cutting : Cutting
 nine_cutting = record {
   Item = MessageView;
   Mark = ℕ;
-  first = 65536;
+  first = MOST_SIZE;
   IsNext = IsNextMessage;
   IsOpen = IsLessThanMessage;
   IsBad = IsBad;
   IsLast = IsNoneLeft;
   IsBadEnd = λ agreed left. 1 ≤ length left;
-  most = 65536;
+  most = MOST_SIZE;
 }
 
-open_few : (agreed : ℕ) (left : List ℕ) → agreed ≤ 65536 → IsOpen agreed left → length left ≤ 65536
+open_few : (agreed : ℕ) (left : List ℕ) → agreed ≤ MOST_SIZE → IsOpen agreed left → length left ≤ MOST_SIZE
 open_few agreed left few (without_size short) = omega (arith, short)
 open_few agreed left few (within_message there least most short) = omega (arith, most, short)
 

@@ -1,6 +1,7 @@
 -- The messages of what was taken of an input, and what is written for them. If the input does not
 -- tell what it has, these are some messages (this project's own).
 use Rattle.std.specs.Prelude.{◌≡◌, ◌≤◌, ◌<◌, ℕ, List, [], length, Option}
+use Rattle.nine_messages.specs.declared.framing.TheConstants.{MOST_SIZE}
 use Rattle.pcfs_ports.specs.Observable.{with_front, ReadsToEnd}
 use Rattle.session_loop.specs.Written as talks
 use Rattle.nine_messages.specs.Requests.{MessageView}
@@ -14,7 +15,7 @@ pub record AreTaken (left left_after : Option (List ℕ)) (messages : List Messa
   pub rest : List ℕ
   pub agreed : ℕ
   pub taken : left ≡ with_front bytes left_after
-  pub cut : Cuts 65536 bytes messages agreed rest
+  pub cut : Cuts MOST_SIZE bytes messages agreed rest
   pub few : length rest ≤ 131072
   pub limit : length bytes ≤ 1073741824
 
@@ -24,7 +25,7 @@ pub record AreAllTaken (left left_after : Option (List ℕ)) (messages : List Me
   pub rest : List ℕ
   pub agreed : ℕ
   pub taken : left ≡ with_front bytes left_after
-  pub cut : Cuts 65536 bytes messages agreed rest
+  pub cut : Cuts MOST_SIZE bytes messages agreed rest
   pub is_open : IsOpen agreed rest
   pub limit : length bytes ≤ 1073741824
 
@@ -35,7 +36,7 @@ pub record IsCutAtBad (left left_after : Option (List ℕ)) (messages : List Mes
   pub rest : List ℕ
   pub agreed : ℕ
   pub taken : left ≡ with_front bytes left_after
-  pub cut : Cuts 65536 bytes messages agreed rest
+  pub cut : Cuts MOST_SIZE bytes messages agreed rest
   pub is_bad : IsBad agreed rest
   pub few : length rest ≤ 131072
   pub limit : length bytes ≤ 1073741824
@@ -45,7 +46,7 @@ pub record IsReadWhole (left left_after : Option (List ℕ)) (messages : List Me
   pub bytes : List ℕ
   pub agreed : ℕ
   pub read : ReadsToEnd left left_after bytes
-  pub cut : Cuts 65536 bytes messages agreed []
+  pub cut : Cuts MOST_SIZE bytes messages agreed []
   pub limit : length bytes < 1073741824
 
 -- such an input was read to its end, which is within the message after these
@@ -54,7 +55,7 @@ pub record IsCutOff (left left_after : Option (List ℕ)) (messages : List Messa
   pub rest : List ℕ
   pub agreed : ℕ
   pub read : ReadsToEnd left left_after bytes
-  pub cut : Cuts 65536 bytes messages agreed rest
+  pub cut : Cuts MOST_SIZE bytes messages agreed rest
   pub some : 1 ≤ length rest
   pub is_open : IsOpen agreed rest
   pub limit : length bytes < 1073741824

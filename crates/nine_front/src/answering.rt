@@ -1,6 +1,7 @@
 //! A request, and its reply.
 
 ghost use Rattle.std.specs.Prelude.{◌≡◌, ◌≤◌, length, Some};
+ghost use Rattle.nine_messages.specs.declared.framing.TheConstants.{MOST_SIZE};
 ghost use Rattle.nine_messages.specs.Replies.{IsWritableReply};
 ghost use Rattle.nine_messages.specs.Requests.{IsRequest, twalk};
 ghost use Rattle.nine_messages.specs.Views.{request_view};
@@ -38,7 +39,7 @@ fn bytes_of<'a>(request: &Request<'a>) -> &'a [u8]
 
 // How many bytes a request writes.
 fn count_of(request: &Request<'_>) -> u32
-    requires { length (bytes_of (request_view request.now)) ≤ 65536 }
+    requires { length (bytes_of (request_view request.now)) ≤ MOST_SIZE }
     ensures { result ≡ length (bytes_of (request_view request.now)) }
 {
     bytes_of(request).len() as u32
@@ -81,7 +82,7 @@ fn log_in<R: Wait, D: Disk, C: TurnClock>(
 ) -> NineReply
     requires lock { pass.old.lock ≡ lock.now }
     requires step { ComesTo connection.old (request_view request.now) (Step.Login who signature) }
-    requires few { length (bytes_of (request_view request.now)) ≤ 65536 }
+    requires few { length (bytes_of (request_view request.now)) ≤ MOST_SIZE }
     ensures answered { HasAnswered D.faults (C.gives clock.now) connection.old (request_view request.now)
         pass.old pass.new (reply_view_of connection.old.nonce result) connection.new }
     ensures writable { IsWritableReply (reply_view_of connection.old.nonce result) }
@@ -121,7 +122,7 @@ fn read<R: Wait, D: Disk, C: TurnClock>(
 ) -> NineReply
     requires lock { pass.old.lock ≡ lock.now }
     requires step { ComesTo connection.now (request_view request.now) (Step.Read node p offset len) }
-    requires few { length (bytes_of (request_view request.now)) ≤ 65536 }
+    requires few { length (bytes_of (request_view request.now)) ≤ MOST_SIZE }
     ensures answered { HasAnswered D.faults (C.gives clock.now) connection.now (request_view request.now)
         pass.old pass.new (reply_view_of connection.now.nonce result) connection.now }
     ensures writable { IsWritableReply (reply_view_of connection.now.nonce result) }
@@ -148,7 +149,7 @@ fn write<R: Wait, D: Disk, C: TurnClock>(
 ) -> NineReply
     requires lock { pass.old.lock ≡ lock.now }
     requires step { ComesTo connection.now (request_view request.now) (Step.Write node p offset) }
-    requires few { length (bytes_of (request_view request.now)) ≤ 65536 }
+    requires few { length (bytes_of (request_view request.now)) ≤ MOST_SIZE }
     ensures answered { HasAnswered D.faults (C.gives clock.now) connection.now (request_view request.now)
         pass.old pass.new (reply_view_of connection.now.nonce result) connection.now }
     ensures writable { IsWritableReply (reply_view_of connection.now.nonce result) }
@@ -237,7 +238,7 @@ fn follow<R: Wait, D: Disk, C: TurnClock>(
 ) -> NineReply
     requires lock { pass.old.lock ≡ lock.now }
     requires step { ComesTo connection.old (request_view request.now) step }
-    requires few { length (bytes_of (request_view request.now)) ≤ 65536 }
+    requires few { length (bytes_of (request_view request.now)) ≤ MOST_SIZE }
     requires turns { NeedsTurns step }
     ensures answered { HasAnswered D.faults (C.gives clock.now) connection.old (request_view request.now)
         pass.old pass.new (reply_view_of connection.old.nonce result) connection.new }
@@ -277,7 +278,7 @@ pub fn answer<R: Wait, D: Disk, C: TurnClock>(
 ) -> NineReply
     requires lock { pass.old.lock ≡ lock.now }
     requires request { IsRequest (request_view request.now) }
-    requires few { length (bytes_of (request_view request.now)) ≤ 65536 }
+    requires few { length (bytes_of (request_view request.now)) ≤ MOST_SIZE }
     ensures answered { HasAnswered D.faults (C.gives clock.now) connection.old (request_view request.now)
         pass.old pass.new (reply_view_of connection.old.nonce result) connection.new }
     ensures writable { IsWritableReply (reply_view_of connection.old.nonce result) }

@@ -1,6 +1,7 @@
 //! The messages of bytes that come in pieces.
 
 ghost use Rattle.std.specs.Prelude.{◌≡◌, ◌≤◌, ◌++◌, drop, length, OnOk, OnErr};
+ghost use Rattle.nine_messages.specs.declared.framing.TheConstants.{MOST_SIZE};
 ghost use Rattle.nine_messages.specs.Framing.{IsCutAt};
 ghost use Rattle.nine_front.specs.Framing.{fresh_framer};
 
@@ -25,7 +26,7 @@ impl Model for MessageFramer {
 
     ghost view = { λ f. record { left = f.left; agreed = f.agreed } };
 
-    ghost invariant = { λ f. f.agreed ≤ 65536 };
+    ghost invariant = { λ f. f.agreed ≤ MOST_SIZE };
 }
 
 impl MessageFramer {
@@ -57,7 +58,7 @@ impl MessageFramer {
     /// How large a message may be.
     pub(crate) fn agreed(&self) -> u32
         ensures agreed { result ≡ self.now.agreed }
-        ensures few { result ≤ 65536 }
+        ensures few { result ≤ MOST_SIZE }
     {
         self.agreed
     }
@@ -72,7 +73,7 @@ impl MessageFramer {
     /// Takes this many bytes, after which a message may be so large.
     pub(crate) fn take(&mut self, count: usize, agreed: u32)
         requires within { count ≤ length self.old.left }
-        requires few { agreed ≤ 65536 }
+        requires few { agreed ≤ MOST_SIZE }
         ensures { self.new ≡ record { left = drop count self.old.left; agreed = agreed } }
     {
         self.left.skip(count);

@@ -1,6 +1,7 @@
 //! Lookups of names, and other operations under one procap, each in a turn.
 
 ghost use Rattle.std.specs.Prelude.{◌≡◌, ◌≤◌, [], ◌∷◌, IfOk, length};
+ghost use Rattle.bl_syntax.specs.declared.limits.TheConstants.{MOST_BYTES_AT_ONCE};
 ghost use Rattle.file_world.specs.Needs.{bytes_to_write, slots};
 ghost use Rattle.file_world.specs.Effect.{IsOperation};
 ghost use Rattle.session_history.specs.Turn.{IsTurnFormed};
@@ -24,7 +25,7 @@ use tree_lock::{Pass, TreeLock};
 fn acting(alloc: Global, who: Principal, op: Op, p: Procap) -> Result<FormedRequest, NoMemory>
     requires operation { IsOperation op }
     requires one { slots op ≡ 1 }
-    requires few { bytes_to_write op ≤ 65536 }
+    requires few { bytes_to_write op ≤ MOST_BYTES_AT_ONCE }
     ensures { IfOk result (λ request. request ≡ act_of who op p) }
 {
     let _name = who.bytes();
@@ -47,7 +48,7 @@ pub(crate) fn act<R: Wait, D: Disk, C: TurnClock>(
     requires lock { pass.old.lock ≡ lock.now }
     requires operation { IsOperation op }
     requires one { slots op ≡ 1 }
-    requires few { bytes_to_write op ≤ 65536 }
+    requires few { bytes_to_write op ≤ MOST_BYTES_AT_ONCE }
     ensures asked { MayHaveAsked (C.gives clock.now) (act_of who op p) pass.old pass.new result }
     ensures stopped { result ≡ TurnReply.Stopped → HasSeenFault D.faults pass.new }
 {

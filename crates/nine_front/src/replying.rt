@@ -1,6 +1,7 @@
 //! Replies, and how they are written.
 
 ghost use Rattle.std.specs.Prelude.{◌≡◌, ◌++◌, ℕ, List, [], map, true, IfOk, OnOk};
+ghost use Rattle.nine_messages.specs.declared.framing.TheConstants.{MOST_SIZE};
 ghost use Rattle.line_wire.specs.ReplyText.{reply_text};
 ghost use Rattle.nine_messages.specs.Requests.{IsText};
 ghost use Rattle.nine_messages.specs.Replies.{IsWritableReply, reply_spelling, rwalk, rerror};
@@ -153,7 +154,7 @@ pub(crate) fn spell_reply(
 
 // The reply to an operation on the tree: no list of names.
 fn tree_reply(count: u32, replied: TreeReply) -> NineReply
-    requires { IsShortTree 65536 replied }
+    requires { IsShortTree MOST_SIZE replied }
     ensures says { (nonce : List ℕ) → reply_view_of nonce result ≡ tree_reply_view count replied }
     ensures writable { (nonce : List ℕ) → IsWritableReply (reply_view_of nonce result) }
 {
@@ -169,7 +170,7 @@ fn tree_reply(count: u32, replied: TreeReply) -> NineReply
 
 // The reply to an operation, which is one on the tree.
 fn operation_reply(count: u32, replied: OpReply) -> NineReply
-    requires { IsShortOperation 65536 replied }
+    requires { IsShortOperation MOST_SIZE replied }
     ensures says { (nonce : List ℕ) → reply_view_of nonce result ≡ operation_reply_view count replied }
     ensures writable { (nonce : List ℕ) → IsWritableReply (reply_view_of nonce result) }
 {
@@ -198,7 +199,7 @@ fn is_operation(replied: &StepReply) -> bool
 
 // The reply for what an operation returns.
 fn done_reply(count: u32, replied: StepReply) -> NineReply
-    requires short { IsShortStep 65536 replied }
+    requires short { IsShortStep MOST_SIZE replied }
     requires operation { is_operation replied ≡ true }
     ensures says { (nonce : List ℕ) → reply_view_of nonce result ≡ step_reply_view count replied }
     ensures writable { (nonce : List ℕ) → IsWritableReply (reply_view_of nonce result) }
@@ -211,7 +212,7 @@ fn done_reply(count: u32, replied: StepReply) -> NineReply
 
 // The reply for what a step replies.
 fn step_reply(count: u32, replied: StepReply) -> NineReply
-    requires { IsShortStep 65536 replied }
+    requires { IsShortStep MOST_SIZE replied }
     ensures says { (nonce : List ℕ) → reply_view_of nonce result ≡ step_reply_view count replied }
     ensures writable { (nonce : List ℕ) → IsWritableReply (reply_view_of nonce result) }
 {
@@ -225,7 +226,7 @@ fn step_reply(count: u32, replied: StepReply) -> NineReply
 
 /// The reply for what a turn of this front replies to a request that writes so many bytes. It fits a message.
 pub(crate) fn reply_of(count: u32, replied: TurnReply) -> NineReply
-    requires { IsShortReply 65536 replied }
+    requires { IsShortReply MOST_SIZE replied }
     ensures says { (nonce : List ℕ) → IsReplyTo count replied (reply_view_of nonce result) }
     ensures writable { (nonce : List ℕ) → IsWritableReply (reply_view_of nonce result) }
 {

@@ -1,6 +1,7 @@
 //! A connection that talks: what it knows, and what came and is not answered.
 
 ghost use Rattle.std.specs.Prelude.{◌≡◌, [], IfOk, length};
+ghost use Rattle.nine_messages.specs.declared.framing.TheConstants.{MOST_SIZE};
 ghost use Rattle.nine_fids.specs.States.{begun_with};
 ghost use Rattle.nine_front.specs.NineTalking.{nine_talking, nine_laws, StandsAt};
 
@@ -26,7 +27,7 @@ pub(crate) struct NineTalk {
 impl NineTalk {
     /// A connection with this nonce, before anything came.
     pub(crate) fn new(alloc: Global, nonce: &[u8; 16]) -> Result<NineTalk, NoMemory>
-        ensures { IfOk result (λ talk. StandsAt talk.connection talk.framer (begun_with nonce.now) 65536 []) }
+        ensures { IfOk result (λ talk. StandsAt talk.connection talk.framer (begun_with nonce.now) MOST_SIZE []) }
     {
         let connection = Connection::new(alloc, nonce)?;
         let framer = MessageFramer::new(alloc);

@@ -2,6 +2,7 @@
 -- message has at least 7 bytes, and at most as many as the two sides have agreed on.
 use Rattle.std.specs.Prelude.{◌≡◌, ◌<◌, ◌≤◌, ℕ, List, [], ◌∷◌, ◌++◌, length, take, min, nat_lt, if◌then◌else◌}
 use Rattle.std.specs.Int.{w32, from_le_bytes}
+use Rattle.nine_messages.specs.declared.framing.TheConstants.{MOST_SIZE, LEAST_SIZE}
 use Rattle.nine_messages.specs.Requests.{RequestView, tversion, tattach, tflush, twalk, topen, tread, twrite, tclunk, tother, MessageView, IsMessage, spelling}
 
 -- the size that the first four bytes say
@@ -41,7 +42,7 @@ pub data Begins (agreed : ℕ) (left : List ℕ) : Type 0 where
 
 -- how large a message may be after this one: a Tversion for at least 512 bytes agrees on it
 abbrev pub agreed_after : ℕ → RequestView → ℕ
-agreed_after agreed (tversion msize version) = if nat_lt msize 512 then agreed else min msize 65536
+agreed_after agreed (tversion msize version) = if nat_lt msize LEAST_SIZE then agreed else min msize MOST_SIZE
 agreed_after agreed (tattach fid afid uname aname) = agreed
 agreed_after agreed (tflush oldtag) = agreed
 agreed_after agreed (twalk fid newfid names) = agreed

@@ -1,6 +1,7 @@
 -- Which entries of a history are those of one connection that speaks 9P2000 (this project's own).
 use Rattle.std.specs.Prelude.{◌≡◌, ℕ, ℤ, List, [], Bool, true, false, Option, IfSome}
 use Rattle.std.specs.List.{AllByRecursion}
+use Rattle.nine_messages.specs.declared.framing.TheConstants.{MOST_SIZE}
 use mathlib.Core.List.{IsPrefix}
 use Rattle.tree_lock.specs.Seen.{PassView}
 use Rattle.pcfs_store.specs.Entries.{StoreEntry}
@@ -29,7 +30,7 @@ pub record NineSources : Type 1 where
 pub record HasFirst (bytes : List ℕ) (messages : List MessageView) : Type 0 where
   pub agreed : ℕ
   pub rest : List ℕ
-  pub cut : Cuts 65536 bytes messages agreed rest
+  pub cut : Cuts MOST_SIZE bytes messages agreed rest
 
 -- if an input tells which bytes are still to come, they begin with these messages
 abbrev pub AreFirstMessages : Option (List ℕ) → List MessageView → Type 0
