@@ -4,7 +4,8 @@ ghost use Rattle.std.specs.Prelude.{◌≡◌, IfOk};
 ghost use Rattle.access_history.specs.Replay.{fresh};
 
 use crate::copying::{copy_issues, copy_statements};
-use crate::event::{Issue, Issues, Statements};
+use crate::event::{Issues, Statements};
+use crate::issue_record::IssueRecord;
 use bl_syntax::limits::FIRST_MOMENT;
 use bl_syntax::{NoMemory, Sequence};
 use policy_statement::Registered;
@@ -94,8 +95,8 @@ impl Base {
         self.statements.as_slice()
     }
 
-    /// The grants that were issued, by their numbers from 1.
-    pub fn issues(&self) -> &[Issue]
+    /// The records of the issues, by their numbers from 1.
+    pub fn issues(&self) -> &[IssueRecord]
         ensures { result.now ≡ self.now.issues }
     {
         self.issues.as_slice()

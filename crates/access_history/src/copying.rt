@@ -2,7 +2,8 @@
 
 ghost use Rattle.std.specs.Prelude.{◌≡◌, ◌≤◌, ◌<◌, ◌∷◌, ◌++◌, [], IfOk, OnOk, length};
 
-use crate::event::{Issue, Issues, Statements};
+use crate::event::{Issues, Statements};
+use crate::issue_record::IssueRecord;
 use bl_syntax::{Bytes, NoMemory, Sequence, Statement, copy_bytes};
 use policy_statement::{Registered, Registry};
 use std::alloc::Global;
@@ -32,33 +33,21 @@ pub fn copy_statements(alloc: Global, entries: &[Registered]) -> Result<Statemen
     ensures { IfOk result (λ copied. copied ≡ entries.now) }
 {
     let mut copied = Sequence::new(alloc);
+    copied.reserve(entries.len())?;
     for entry in entries {
         copied.push(copy_registered(alloc, entry)?)?;
     }
     Ok(copied)
 }
 
-// An equal issue, in memory of its own.
-fn copy_issue(alloc: Global, issue: &Issue) -> Result<Issue, NoMemory>
-    ensures { IfOk result (λ copied. copied ≡ issue.now) }
-{
-    let cited = issue.cited.copy(alloc)?;
-    let proof = issue.proof.copy(alloc)?;
-    let grant = issue.grant.copy(alloc)?;
-    Ok(Issue {
-        cited,
-        proof,
-        grant,
-    })
-}
-
-/// Equal issues, in memory of their own.
-pub fn copy_issues(alloc: Global, issues: &[Issue]) -> Result<Issues, NoMemory>
+/// Records of equal issues, in memory of their own.
+pub fn copy_issues(alloc: Global, issues: &[IssueRecord]) -> Result<Issues, NoMemory>
     ensures { IfOk result (λ copied. copied ≡ issues.now) }
 {
     let mut copied = Sequence::new(alloc);
+    copied.reserve(issues.len())?;
     for issue in issues {
-        copied.push(copy_issue(alloc, issue)?)?;
+        copied.push(issue.copy(alloc)?)?;
     }
     Ok(copied)
 }

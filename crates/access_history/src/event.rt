@@ -1,28 +1,17 @@
 //! What the state keeps of an event.
 
+use crate::issue_record::IssueRecord;
 use bl_syntax::{Bytes, Grant, Numbers, Sequence, Statement};
-use issue_standings::Bearing;
 use policy_statement::Registered;
-use record_parts::ProofRecord;
+use proof_term::ProofTree;
 
-/// A grant that was issued, its proof, which is kept as its bytes, and the numbers of the statements that the proof cites.
+/// A grant that was issued, its proof, and the numbers of the statements that the proof cites. A state keeps it as its
+/// record.
 #[derive(Debug, Drop)]
 pub struct Issue {
     pub cited: Numbers,
-    pub proof: ProofRecord,
+    pub proof: ProofTree,
     pub grant: Grant,
-}
-
-impl Bearing for Issue {
-    ghost bearing = { λ issue. record { grant = issue.grant; cited = issue.cited } };
-
-    fn grant(&self) -> &Grant {
-        &self.grant
-    }
-
-    fn cited(&self) -> &[u32] {
-        self.cited.as_slice()
-    }
 }
 
 /// What the state keeps of an event beside the event.
@@ -33,7 +22,7 @@ pub enum Addition {
     /// The statement of this number is withdrawn.
     Withdrawal(u32),
     /// An issue more.
-    Issue(Issue),
+    Issue(IssueRecord),
     /// Nothing more: the world makes the change of an operation.
     Operation,
 }
@@ -41,5 +30,5 @@ pub enum Addition {
 /// Statements with their signatures, by their numbers from 1.
 pub type Statements = Sequence<Registered>;
 
-/// Issues, by their numbers from 1.
-pub type Issues = Sequence<Issue>;
+/// Records of issues, by their numbers from 1.
+pub type Issues = Sequence<IssueRecord>;

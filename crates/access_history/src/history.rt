@@ -4,11 +4,12 @@ ghost use Rattle.std.specs.Prelude.{◌≡◌, ◌≤◌, ◌<◌, ◌-◌, ◌^
 
 use crate::base::Base;
 use crate::copying::{copy_issues, copy_statements, registry_of};
-use crate::event::{Addition, Issue};
+use crate::event::Addition;
+use crate::issue_record::IssueRecord;
 use crate::keeping::{add_to_state, apply_event};
 use bl_syntax::{Grant, NoMemory, Principal, Statement};
 use file_world::{Op, OpFault, OpReply};
-use issue_standings::{Standings, first_withdrawn};
+use issue_standings::{Bearing, Standings, first_withdrawn};
 use journal_records::{Event, EventRecord};
 use policy_statement::{Keyring, Registered, Registry};
 use procap::{Procap, SealKey};
@@ -26,7 +27,7 @@ pub struct History {
     events: Vec<EventRecord>,
     world: World,
     statements: Registry,
-    issues: Vec<Issue>,
+    issues: Vec<IssueRecord>,
     // How each grant stands that was issued.
     standings: Standings,
     moment: i64,
@@ -223,19 +224,29 @@ impl History {
             .gone_by(&self.statements, self.issues.as_slice(), procap)
     }
 
-    /// The grant of the issue of that number; none exactly if there is no such issue.
-    pub fn issue(&self, number: u64) -> Option<&Grant>
-        ensures { let issues = (state_of self.now).issues in MatchOption result (HasNone issues number) (λ grant. IsIssued issues number grant.now) }
+    // The issue of that number; none exactly if there is no such issue.
+    fn numbered(&self, number: u64) -> Option<&IssueRecord>
+        ensures { let issues = (state_of self.now).issues in MatchOption result (HasNone issues number) (λ issue. IsNumbered issues number issue.now) }
     {
         let issues = self.issues.as_slice();
         if number == 0 || (issues.len() as u64) < number {
             return None;
         }
-        Some(&issues[number as usize - 1].grant)
+        Some(&issues[number as usize - 1])
     }
 
-    /// The grants that were issued, by their numbers from 1.
-    pub fn issues(&self) -> &[Issue]
+    /// The grant of the issue of that number, in memory of its own; none exactly if there is no such issue.
+    pub fn issue(&self, alloc: Global, number: u64) -> Result<Option<Grant>, NoMemory>
+        ensures { let issues = (state_of self.now).issues in IfOk result (λ found. MatchOption found (HasNone issues number) (IsIssued issues number)) }
+    {
+        match self.numbered(number) {
+            Some(issue) => Ok(Some(issue.grant(alloc)?)),
+            None => Ok(None),
+        }
+    }
+
+    /// The records of the issues, by their numbers from 1.
+    pub fn issues(&self) -> &[IssueRecord]
         ensures { result.now ≡ (state_of self.now).issues }
     {
         self.issues.as_slice()
@@ -323,6 +334,7 @@ impl History {
             &mut self.statements,
             &mut self.issues,
             &mut self.standings,
+            &event,
             addition,
         );
         self.events.push(kept).unwrap();

@@ -1,13 +1,14 @@
 //! What an event changes of the state.
 
-ghost use Rattle.std.specs.Prelude.{◌≡◌, ◌≤◌};
+ghost use Rattle.std.specs.Prelude.{◌≡◌, ◌≤◌, ◌∷◌, ◌++◌, []};
 ghost use Rattle.issue_standings.specs.Index.{IsIndexOf, room_of};
-ghost use Rattle.access_history.specs.Gone.{bearings};
+ghost use Rattle.access_history.specs.Gone.{bearing, bearings};
 ghost use Rattle.access_history.specs.History.{IsReadyIn, spare};
 ghost use Rattle.access_history.specs.Keeping.{HasMomentInRange, HasPlaceAmong};
-ghost use Rattle.access_history.specs.Replay.{world_next, moment_next, statements_with, issues_with};
+ghost use Rattle.access_history.specs.Replay.{addition_of, world_next, moment_next, statements_with, issues_with};
 
-use crate::event::{Addition, Issue};
+use crate::event::Addition;
+use crate::issue_record::IssueRecord;
 use issue_standings::Standings;
 use journal_records::Event;
 use policy_statement::Registry;
@@ -45,15 +46,39 @@ pub fn apply_event(world: &mut World, last: &mut i64, event: Event) -> Event
     }
 }
 
-/// Adds what the state keeps of an event, for which there has to be room, to the statements, the issues, and the index of how
-/// each issued grant stands, whose procaps are sealed under this key. It takes no memory.
+// Adds an issue after these to the index of how each issued grant stands. The event has its grant.
+fn add_standing(
+    key: &SealKey,
+    statements: &Registry,
+    issues: &[IssueRecord],
+    standings: &mut Standings,
+    event: &Event,
+    issue: &IssueRecord,
+)
+    requires issued { Addition.Issue issue.now ≡ addition_of event.now }
+    requires room { 1 ≤ room_of standings.old }
+    requires index { IsIndexOf key.now statements.now.entries (bearings issues.now) standings.old }
+    ensures { IsIndexOf key.now statements.now.entries (bearings issues.now ++ bearing issue.now ∷ []) standings.new }
+{
+    match event {
+        Event::Registered { .. } => {}
+        Event::Withdrawn { .. } => {}
+        Event::Issued { grant, .. } => standings.add(key, statements, issues, issue, grant),
+        Event::Acted { .. } => {}
+    }
+}
+
+/// Adds what the state keeps of this event, for which there has to be room, to the statements, the issues, and the index of
+/// how each issued grant stands, whose procaps are sealed under this key. It takes no memory.
 pub fn add_to_state(
     key: &SealKey,
     statements: &mut Registry,
-    issues: &mut Vec<Issue>,
+    issues: &mut Vec<IssueRecord>,
     standings: &mut Standings,
+    event: &Event,
     addition: Addition,
 )
+    requires addition { addition ≡ addition_of event.now }
     requires place { HasPlaceAmong statements.old.entries addition }
     requires statements_room { 1 ≤ statements.old.spare }
     requires issues_room { 1 ≤ spare issues.old }
@@ -72,7 +97,7 @@ pub fn add_to_state(
             standings.recount(statements, issues.as_slice(), number);
         }
         Addition::Issue(issue) => {
-            standings.add(key, statements, issues.as_slice(), &issue);
+            add_standing(key, statements, issues.as_slice(), standings, event, &issue);
             issues.push(issue).unwrap();
         }
         Addition::Operation => {}

@@ -10,6 +10,7 @@ mod citing;
 mod copying;
 mod event;
 mod history;
+mod issue_record;
 mod keeping;
 mod laws;
 mod reply;
@@ -20,6 +21,7 @@ pub use citing::is_grant_of;
 pub use copying::keep_copy;
 pub use event::{Addition, Issue, Issues, Statements};
 pub use history::History;
+pub use issue_record::IssueRecord;
 pub use laws::{
     admitted_operations_are_kept, answers_are_determined, answers_may_follow, fresh_is_lawful,
     gone_grants_are_denied, gone_grants_are_told, histories_keep_worlds,

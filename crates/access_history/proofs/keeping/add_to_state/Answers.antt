@@ -10,8 +10,8 @@ use Rattle.access_history.proofs.keeping.add_to_state.Goals as goal
 pub recount-requires : goal.recount-requires
 recount-requires c = subst (λ (is : List Issue). HasRows (bearings is) c.args.standings.now) (sym c.as_slice.ensures.value) c.requires.standings.rows
 
-pub add-requires-clause-index : goal.add-requires-clause-index
-add-requires-clause-index c =
+pub add_standing-requires-clause-index : goal.add_standing-requires-clause-index
+add_standing-requires-clause-index c =
     subst (λ (is : List Issue). IsIndexOf c.args.key.now c.args.statements.now.entries (bearings is) c.args.standings.now) (sym c.as_slice-in-Issue.ensures.value) c.requires.standings
 
 pub returns-in-Statement-clause-standings : goal.returns-in-Statement-clause-standings
@@ -26,5 +26,5 @@ returns-in-Withdrawal-clause-standings c =
 
 pub returns-in-Issue-clause-standings : goal.returns-in-Issue-clause-standings
 returns-in-Issue-clause-standings c =
-    standings_issue c.args.key.now c.args.statements.now.entries c.args.issues.now.items c.push.new.self.items c.in-Issue.issue c.add.new.self (pushed _ _ _ _ _ c.push.ensures.items c.unwrap.ensures)
-    (subst (λ (is : List Issue). IsIndexOf c.args.key.now c.args.statements.now.entries (bearings is ++ bearing c.in-Issue.issue ∷ []) c.add.new.self) c.as_slice-in-Issue.ensures.value c.add.ensures)
+    standings_issue c.args.key.now c.args.statements.now.entries c.args.issues.now.items c.push.new.self.items c.in-Issue.issue c.add_standing.new.standings (pushed _ _ _ _ _ c.push.ensures.items c.unwrap.ensures)
+    (subst (λ (is : List Issue). IsIndexOf c.args.key.now c.args.statements.now.entries (bearings is ++ bearing c.in-Issue.issue ∷ []) c.add_standing.new.standings) c.as_slice-in-Issue.ensures.value c.add_standing.ensures)
