@@ -5,9 +5,9 @@
 #[cfg(test)]
 mod events;
 #[cfg(test)]
-mod operations;
+mod issues;
 #[cfg(test)]
-mod proofs;
+mod operations;
 #[cfg(test)]
 mod rows;
 #[cfg(test)]

@@ -26,5 +26,5 @@ returns-in-Withdrawal-clause-standings c =
 
 pub returns-in-Issue-clause-standings : goal.returns-in-Issue-clause-standings
 returns-in-Issue-clause-standings c =
-    standings_issue c.args.key.now c.args.statements.now.entries c.args.issues.now.items c.push.new.self.items c.in-Issue.issue c.add_standing.new.self (pushed _ _ _ _ _ c.push.ensures.items c.unwrap.ensures)
-    (subst (λ (is : List Issue). IsIndexOf c.args.key.now c.args.statements.now.entries (bearings is ++ bearing c.in-Issue.issue ∷ []) c.add_standing.new.self) c.as_slice-in-Issue.ensures.value c.add_standing.ensures)
+    standings_issue c.args.key.now c.args.statements.now.entries c.args.issues.now.items c.push.new.self.items c.in-Issue.issue c.add_standing.new.standings (pushed _ _ _ _ _ c.push.ensures.items c.unwrap.ensures)
+    (subst (λ (is : List Issue). IsIndexOf c.args.key.now c.args.statements.now.entries (bearings is ++ bearing c.in-Issue.issue ∷ []) c.add_standing.new.standings) c.as_slice-in-Issue.ensures.value c.add_standing.ensures)
