@@ -1,6 +1,6 @@
 //! Services: what is done with a connection.
 
-ghost use Rattle.std.specs.Prelude.{◌≡◌, ℕ, ◌+◌, ◌<◌, ◌≤◌, ◌≢◌, Bool, true, false, IfOk, IsErrOf, is_ok, if◌then◌else◌};
+ghost use Rattle.std.specs.Prelude.{◌≡◌, ◌⊎◌, ℕ, ◌+◌, ◌<◌, ◌≤◌, ◌≢◌, Bool, true, false, IfOk, OnOk, IsErrOf, is_ok, if◌then◌else◌};
 ghost use Rattle.pcfs_ports.specs.Faults.{HasRisen, raise};
 
 use pcfs_ports::{Sink, Source};
@@ -67,7 +67,7 @@ pub trait Service<I: Source, O: Sink> {
     ghost kept: { Self.Door → Self.Kept };
 
     /// Admits a connection. `Failed` comes only if the door's count of faults rose, by one, by the last call that can fail; at
-    /// each other answer it stands still, and the last such call did not fail.
+    /// each other answer it stands still. At `Ok` the last such call did not fail; at `NoMemory` neither, or none was made.
     fn admit(&self, alloc: Global, door: &mut Self::Door) -> Result<Self::Token, AdmitFault>
         requires belongs { is_door self.now door.old }
         requires room { 0 < room door.old }
@@ -85,7 +85,9 @@ pub trait Service<I: Source, O: Sink> {
         ensures steady { result ≢ Err AdmitFault.Failed → faults door.new ≡ faults door.old }
         ensures by_one { IsErrOf result AdmitFault.Failed → faults door.new ≡ raise (faults door.old) }
         ensures broken { IsErrOf result AdmitFault.Failed → broken door.new ≡ true }
-        ensures whole { result ≢ Err AdmitFault.Failed → broken door.new ≡ false };
+        ensures whole { OnOk result (broken door.new ≡ false) }
+        ensures untouched { IsErrOf result AdmitFault.NoMemory →
+            (broken door.new ≡ broken door.old) ⊎ (broken door.new ≡ false) };
 
     /// Attends the connection of the token's number, whatever its input and output do. It may wait.
     fn attend<R: Wait>(
