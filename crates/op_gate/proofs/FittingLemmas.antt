@@ -20,7 +20,9 @@ use Rattle.access_history.specs.Base.{BaseView}
 use Rattle.access_history.specs.History.{authority_with}
 use Rattle.access_history.specs.Citing.{numbers_of}
 use Rattle.access_history.specs.Lawful.{MayFollow}
+use Rattle.bl_syntax.specs.Citable.{AreNamed}
 use Rattle.proof_verifier.specs.declared.cites.Cite.{Cite}
+use Rattle.proof_verifier.specs.Cited.{AreCited}
 use Rattle.record_parts.specs.Fields.{FitsOneByte}
 use Rattle.record_parts.specs.OperationSpelling.{HasFittingWords}
 use Rattle.journal_records.specs.EventSpelling.{HasFittingFields}
@@ -92,3 +94,10 @@ fits_fields key ring state (Acted pass caller op procaps moment) may =
 fits_fields key ring state (Withdrawn pass number signature) may =
     let short = accepted_length ring may.statement.who (withdraw_message may.statement) signature may.signed in
     omega (arith, short)
+
+-- the numbers that a proof cites, and those that a grant names, fit their count
+pub numbers_few : (cites : List Cite) → AreCited cites → length (numbers_of cites) ≤ 255
+numbers_few cites h = omega (arith, numbers-length cites, h.few)
+
+pub named_few : (numbers : List ℕ) → AreNamed numbers → length numbers ≤ 255
+named_few numbers h = omega (arith, h.few)

@@ -1,6 +1,6 @@
 //! Events that were read from an area: each is tested as if it came now, at its own moment.
 
-ghost use Rattle.std.specs.Prelude.{◌≡◌, ◌↔◌, ◌<◌, ◌-◌, ◌^◌, ◌≤◌, ℕ, List, IfErr, IfOk, IsTrue, MatchOption, OnOk};
+ghost use Rattle.std.specs.Prelude.{◌≡◌, ◌↔◌, ◌<◌, ◌-◌, ◌^◌, ◌≤◌, ℕ, List, IfErr, IfOk, IsTrue, MatchOption, OnOk, length};
 ghost use Rattle.journal_records.specs.declared.event.Event.TheVariants as events;
 ghost use Rattle.bl_syntax.specs.Grant.{MayName};
 ghost use Rattle.proof_verifier.specs.Cited.{AreCited};
@@ -117,7 +117,8 @@ fn proof_damage(fault: CheckFault) -> AdmitFault
 
 // The issue of a checked proof whose grant names these statements, in memory of its own.
 fn issue(alloc: Global, pass: u64, checked: Checked, named: Numbers) -> Result<Pending, AdmitFault>
-    requires { MayName named }
+    requires few { length (numbers_of checked.cited) ≤ 255 }
+    requires named { MayName named }
     ensures ok { IfOk result (λ pending. pending ≡ pending_issue pass (numbers_of checked.cited) checked.proof (issued_grant checked.grant named)) }
     ensures err { IfErr result (λ fault. fault ≡ AdmitFault.NoMemory) }
 {

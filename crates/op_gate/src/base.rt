@@ -11,11 +11,12 @@ ghost use Rattle.op_gate.specs.BaseTests.{IsFormed, IsSignedIn, TellsTest};
 use crate::admit::{check_again, find_cited, register_damage};
 use crate::cite::Among;
 use crate::damage::{AdmitFault, Damage};
-use access_history::{Base, Issue, keep_copy};
-use bl_syntax::is_moment;
+use access_history::{Base, Issue, IssueRecord, keep_copy};
 use bl_syntax::limits::MOST_EVENTS;
+use bl_syntax::{Grant, is_moment};
 use pcfs_ports::Signatures;
 use policy_statement::{Keyring, Registered, Registry, statement_message};
+use proof_term::ProofTree;
 use std::alloc::Global;
 
 // Whether its moment lies in the range of moments, and its count is within that of numbers.
@@ -58,25 +59,53 @@ fn test_signatures(alloc: Global, ring: &Keyring, entries: &[Registered]) -> Res
     Ok(())
 }
 
-// Whether the issue is good: the statements that it cites are looked up, withdrawn ones too, and its proof is checked.
-fn test_issue(alloc: Global, entries: &[Registered], issue: &Issue) -> Result<(), AdmitFault>
-    ensures { TellsTest (IsGoodIssue (sayings entries.now) issue.now) Damage.Unproved result }
+// Whether the issue of these parts is good: the statements that it cites are looked up, withdrawn ones too, and its proof
+// is checked.
+fn test_issue_parts(
+    alloc: Global,
+    entries: &[Registered],
+    cited: &[u32],
+    proof: ProofTree,
+    grant: &Grant,
+) -> Result<(), AdmitFault>
+    ensures { TellsTest (IsGoodIssue (sayings entries.now) (record { cited = cited.now; proof = proof; grant = grant.now })) Damage.Unproved result }
 {
-    let cited = issue.cited.as_slice();
     match find_cited(alloc, entries, Among::Registered, cited) {
-        Ok(cites) => match issue.proof.proof(alloc) {
-            Ok(proof) => match check_again(alloc, cites, proof, cited, &issue.grant) {
-                Ok(_) => Ok(()),
-                Err(fault) => Err(fault),
-            },
-            Err(_) => Err(AdmitFault::NoMemory),
+        Ok(cites) => match check_again(alloc, cites, proof, cited, grant) {
+            Ok(_) => Ok(()),
+            Err(fault) => Err(fault),
         },
         Err(uncited) => Err(uncited),
     }
 }
 
+// Whether the issue is good. It is read once.
+fn test_issue(
+    alloc: Global,
+    entries: &[Registered],
+    issue: &IssueRecord,
+) -> Result<(), AdmitFault>
+    ensures { TellsTest (IsGoodIssue (sayings entries.now) issue.now) Damage.Unproved result }
+{
+    match issue.issue(alloc) {
+        Ok(read) => {
+            let Issue {
+                cited,
+                proof,
+                grant,
+            } = read;
+            test_issue_parts(alloc, entries, cited.as_slice(), proof, &grant)
+        }
+        Err(_) => Err(AdmitFault::NoMemory),
+    }
+}
+
 // Whether each issue is good.
-fn test_issues(alloc: Global, entries: &[Registered], issues: &[Issue]) -> Result<(), AdmitFault>
+fn test_issues(
+    alloc: Global,
+    entries: &[Registered],
+    issues: &[IssueRecord],
+) -> Result<(), AdmitFault>
     ensures { TellsTest (AllByRecursion (IsGoodIssue (sayings entries.now)) issues.now) Damage.Unproved result }
 {
     for issue in issues {

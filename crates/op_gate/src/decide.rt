@@ -1,6 +1,6 @@
 //! The answers to requests on statements and issues, and what is to be kept.
 
-ghost use Rattle.std.specs.Prelude.{◌≡◌, ◌↔◌, Some, None, IfOk, MatchOption, IsTrue, ℕ, ℤ, length};
+ghost use Rattle.std.specs.Prelude.{◌≡◌, ◌↔◌, ◌≤◌, Some, None, IfOk, MatchOption, IsTrue, ℕ, ℤ, length};
 ghost use Rattle.bl_syntax.specs.Citable.{AreNamed};
 ghost use Rattle.bl_syntax.specs.Grant.{MayName};
 ghost use Rattle.bl_syntax.specs.Statement.{IsStatement};
@@ -16,13 +16,12 @@ ghost use Rattle.op_gate.specs.Rejection.{rejection_of};
 
 use crate::cite::{cited_numbers, first_moved};
 use crate::planned::{DecisionPlan, Pending};
-use access_history::{Addition, History, Issue, Rejection, StepReply};
+use access_history::{Addition, History, IssueRecord, Rejection, StepReply};
 use bl_syntax::{Bytes, Grant, NoMemory, Numbers, Principal, Statement};
 use journal_records::Event;
 use policy_statement::{RegisterFault as RegistryFault, WithdrawFault};
 use procap::Procap;
 use proof_verifier::Checked;
-use record_parts::ProofRecord;
 use std::alloc::Global;
 
 // The answer to a statement that may not be registered, or out of memory.
@@ -165,7 +164,7 @@ pub fn decide_withdraw(
     }
 }
 
-/// The procap of the issue of that number; none exactly if there is no such issue.
+/// The procap of the issue of that number, whose grant is read; none exactly if there is no such issue.
 pub fn issued_procap(
     alloc: Global,
     history: &History,
@@ -174,8 +173,8 @@ pub fn issued_procap(
     ensures { IfOk result (λ found. MatchOption found (HasNone (state_of history.now).issues number)
         (IsProcapOf history.now.key (state_of history.now).issues number)) }
 {
-    match history.issue(number) {
-        Some(grant) => Ok(Some(history.key().seal(grant.copy(alloc)?))),
+    match history.issue(alloc, number)? {
+        Some(grant) => Ok(Some(history.key().seal(grant))),
         None => Ok(None),
     }
 }
@@ -213,19 +212,16 @@ pub fn decide_show(
 }
 
 // The issue of a checked proof whose grant names these statements, in memory of its own.
-fn issue_of(alloc: Global, checked: &Checked, named: &Numbers) -> Result<Issue, NoMemory>
-    requires { MayName named.now }
+fn issue_of(alloc: Global, checked: &Checked, named: &Numbers) -> Result<IssueRecord, NoMemory>
+    requires few { length (numbers_of checked.now.cited) ≤ 255 }
+    requires named { MayName named.now }
     ensures { IfOk result (λ issue. issue ≡ issue_naming checked.now named.now) }
 {
     let cited = cited_numbers(alloc, checked.cited().as_slice())?;
-    let proof = ProofRecord::of(alloc, checked.proof())?;
     let grant = checked.grant().copy(alloc)?;
     let named = named.copy(alloc)?;
-    Ok(Issue {
-        cited,
-        proof,
-        grant: grant.naming(named),
-    })
+    let grant = grant.naming(named);
+    IssueRecord::of(alloc, cited.as_slice(), checked.proof(), &grant)
 }
 
 /// What is made of a checked proof beside it: the numbers that it cites, those that its grant names, and what the state
@@ -234,12 +230,13 @@ fn issue_of(alloc: Global, checked: &Checked, named: &Numbers) -> Result<Issue, 
 pub struct IssueParts {
     cited: Numbers,
     named: Numbers,
-    issue: Issue,
+    issue: IssueRecord,
 }
 
 /// What is made of the checked proof beside it, of which the grant names these statements.
 pub fn issue_parts(alloc: Global, checked: &Checked, named: Numbers) -> Result<IssueParts, NoMemory>
-    requires { MayName named }
+    requires few { length (numbers_of checked.now.cited) ≤ 255 }
+    requires named { MayName named }
     ensures cited { IfOk result (λ parts. parts.cited ≡ numbers_of checked.now.cited) }
     ensures named { IfOk result (λ parts. parts.named ≡ named) }
     ensures issue { IfOk result (λ parts. parts.issue ≡ issue_naming checked.now named) }

@@ -2,14 +2,19 @@
 use Rattle.std.proofs.Common.{◌≡◌, List, sym, subst, ◌∙◌}
 use Rattle.std.specs.Prelude.{IfOk}
 use Rattle.bl_syntax.specs.Grant.{MayName}
+use Rattle.proof_verifier.specs.Cited.{AreCited}
 use Rattle.op_gate.specs.declared.planned.Pending.{Pending}
 use Rattle.op_gate.specs.Admits.{pending_issue}
 use Rattle.access_history.specs.Citing.{issued_grant, numbers_of}
 use Rattle.op_gate.proofs.AdmitLemmas.{issued_told, issued_unchecked}
+use Rattle.op_gate.proofs.FittingLemmas.{numbers_few}
 use Rattle.op_gate.proofs.admit.issue_again.Goals as goal
 
-pub issue-requires : goal.issue-requires
-issue-requires c = subst MayName (sym (c.in-Ok-copy_numbers.ensures ∙ c.cited.ensures.same)) c.cited.ensures.kept.names
+pub issue-requires-clause-few : goal.issue-requires-clause-few
+issue-requires-clause-few c = numbers_few c.in-Ok.checked.cited (subst AreCited (sym c.in-Ok.ensures.cited_is) c.requires.rising)
+
+pub issue-requires-clause-named : goal.issue-requires-clause-named
+issue-requires-clause-named c = subst MayName (sym (c.in-Ok-copy_numbers.ensures ∙ c.cited.ensures.same)) c.cited.ensures.kept.names
 
 pub returns-in-Ok-copy_numbers : goal.returns-in-Ok-copy_numbers
 returns-in-Ok-copy_numbers c =
