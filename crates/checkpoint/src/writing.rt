@@ -9,7 +9,7 @@ ghost use Rattle.checkpoint_image.specs.WithdrawnNumbers.{AreStanding};
 ghost use Rattle.checkpoint.specs.Reading.{IsImageOf};
 ghost use Rattle.checkpoint.specs.Writing.{FitsImage, IsWrittenImageOf, state_with, front_spelling};
 
-use access_history::{Base, History, Issue};
+use access_history::{Base, History, IssueRecord};
 use bl_syntax::{Bytes, NoMemory, Sequence};
 use checkpoint_image::{
     write_head, write_issues, write_nodes, write_statements, write_version, write_withdrawn_numbers,
@@ -52,7 +52,7 @@ fn with_room(bytes: Bytes, room: usize) -> Result<Bytes, NoMemory>
 fn begun(
     alloc: Global,
     statements: &[Registered],
-    issues: &[Issue],
+    issues: &[IssueRecord],
     moment: i64,
     count: u64,
     next: u64,
@@ -76,7 +76,7 @@ fn image_of(
     alloc: Global,
     world: &World,
     statements: &[Registered],
-    issues: &[Issue],
+    issues: &[IssueRecord],
     moment: i64,
     count: u64,
 ) -> Result<Bytes, NoMemory>

@@ -6,22 +6,25 @@ ghost use Rattle.access_history.specs.History.{state_of};
 ghost use Rattle.history_table.specs.WhoMay.{AddsAdmitting, AreAdmitting, WouldAdmit};
 
 use crate::issues::does_stand;
-use access_history::{History, Issue};
-use bl_syntax::{Goal, NoMemory, NodeId, Perm, Sequence};
+use access_history::{History, IssueRecord};
+use bl_syntax::{Goal, Grant, NoMemory, NodeId, Perm, Sequence};
 use condition_set::{first_failing_state, first_failing_time};
+use issue_standings::Bearing;
 use std::alloc::Global;
 
-// Whether the issue would admit its principal to the permission on the file at that moment.
+// Whether the issue, whose grant is this one, would admit its principal to the permission on the file at that moment.
 fn would_admit(
     history: &History,
-    issue: &Issue,
+    issue: &IssueRecord,
+    grant: &Grant,
     file: NodeId,
     permission: Perm,
     moment: i64,
 ) -> bool
+    requires { grant.now ≡ issue.now.grant }
     ensures { IsTrue result ↔ WouldAdmit (state_of history.now) file permission moment issue.now }
 {
-    let goal = issue.grant.goal();
+    let goal = grant.goal();
     let wanted = Goal {
         who: goal.who,
         file,
@@ -33,16 +36,17 @@ fn would_admit(
     if !does_stand(history.registry(), issue) {
         return false;
     }
-    if first_failing_time(&issue.grant, moment).is_some() {
+    if first_failing_time(grant, moment).is_some() {
         return false;
     }
-    first_failing_state(&issue.grant, history.world()).is_none()
+    first_failing_state(grant, history.world()).is_none()
 }
 
-// Adds the number of an issue, if it would admit its principal.
+// Adds the number of an issue, if it would admit its principal. Its grant is read.
 fn add_admitting(
+    alloc: Global,
     history: &History,
-    issue: &Issue,
+    issue: &IssueRecord,
     number: u64,
     file: NodeId,
     permission: Perm,
@@ -51,7 +55,8 @@ fn add_admitting(
 ) -> Result<(), NoMemory>
     ensures { OnOk result (AddsAdmitting (state_of history.now) file permission moment number issue.now numbers.old numbers.new) }
 {
-    if would_admit(history, issue, file, permission, moment) {
+    let grant = issue.grant(alloc)?;
+    if would_admit(history, issue, &grant, file, permission, moment) {
         return numbers.push(number);
     }
     Ok(())
@@ -72,6 +77,7 @@ fn admitting_at(
     for place in 0..issues.len() {
         let number = place as u64 + 1;
         add_admitting(
+            alloc,
             history,
             &issues[place],
             number,

@@ -1,17 +1,18 @@
 //! A history that keeps one more event of another one.
 
 ghost use Rattle.std.specs.Prelude.{◌≡◌, IfOk, OnOk};
+ghost use Rattle.journal_records.specs.EventSpelling.{HasFittingFields};
 ghost use Rattle.access_history.specs.History.{IsReadyFor, addition_of};
 ghost use Rattle.history_table.specs.Following.{Keeps, MayKeep};
 
-use access_history::{Addition, History, Issue};
+use access_history::{Addition, History, IssueRecord};
 use bl_syntax::NoMemory;
 use journal_records::{Event, EventRecord};
-use record_parts::ProofRecord;
 use std::alloc::Global;
 
 // What the state keeps of an event, in memory of its own.
 fn addition_for(alloc: Global, event: &Event) -> Result<Addition, NoMemory>
+    requires { HasFittingFields event.now }
     ensures { IfOk result (λ addition. addition ≡ addition_of event.now) }
 {
     match event {
@@ -26,11 +27,12 @@ fn addition_for(alloc: Global, event: &Event) -> Result<Addition, NoMemory>
             cited,
             proof,
             grant,
-        } => Ok(Addition::Issue(Issue {
-            cited: cited.copy(alloc)?,
-            proof: ProofRecord::of(alloc, proof)?,
-            grant: grant.copy(alloc)?,
-        })),
+        } => Ok(Addition::Issue(IssueRecord::of(
+            alloc,
+            cited.as_slice(),
+            proof,
+            grant,
+        )?)),
         Event::Acted { .. } => Ok(Addition::Operation),
     }
 }
@@ -77,8 +79,8 @@ pub fn follow(alloc: Global, history: &mut History, kept: &EventRecord) -> Resul
     history.reserve()?;
     let event = kept.event(alloc)?;
     let copied = EventRecord::of(alloc, &event)?;
-    let event = make_ready(alloc, history, event)?;
     let addition = addition_for(alloc, &event)?;
+    let event = make_ready(alloc, history, event)?;
     history.keep(event, copied, addition);
     Ok(())
 }

@@ -2,12 +2,13 @@
 
 ghost use Rattle.std.specs.Prelude.{◌≡◌, ◌<◌, ◌++◌, ◌∷◌, [], ℕ, List, IfOk, None, Some, length};
 ghost use Rattle.std.specs.List.{slice_get};
+ghost use Rattle.bl_syntax.specs.Equality.{grant_eq};
 ghost use Rattle.history_table.specs.Index.{IsIndexOf, digest_of, digests_of, place_for, tag_digest};
 ghost use Rattle.history_table.specs.Issues.{cited_by, does_stand, is_ground, last_ground, rests_on};
 
-use access_history::Issue;
-use bl_syntax::{Grant, NoMemory, Numbers, copy_numbers};
-use issue_standings::first_withdrawn;
+use access_history::IssueRecord;
+use bl_syntax::{Grant, NoMemory, Numbers, Sequence, copy_numbers};
+use issue_standings::Bearing;
 use policy_statement::Registry;
 use procap::SealKey;
 use std::alloc::{AllocFailed, Global};
@@ -38,31 +39,42 @@ fn digest_of(key: &SealKey, grant: &Grant) -> u64
 }
 
 /// Whether the issue stands: it cites no statement that was withdrawn.
-pub fn does_stand(registry: &Registry, issue: &Issue) -> bool
+pub fn does_stand(registry: &Registry, issue: &IssueRecord) -> bool
     ensures { result ≡ does_stand registry.now.entries issue.now }
 {
-    first_withdrawn(registry, issue.cited.as_slice()).is_none()
+    issue.first_withdrawn(registry).is_none()
+}
+
+// Whether the issue has the grant. The bytes of both are compared.
+fn has_grant(issue: &IssueRecord, grant: &Grant) -> bool
+    ensures { result ≡ grant_eq issue.now.grant grant.now }
+{
+    issue.is_grant(grant)
 }
 
 // Whether the issue has the grant, and stands.
-fn is_ground(registry: &Registry, issue: &Issue, grant: &Grant) -> bool
+fn is_ground(registry: &Registry, issue: &IssueRecord, grant: &Grant) -> bool
     ensures { result ≡ is_ground registry.now.entries grant.now issue.now }
 {
-    issue.grant.is_same(grant) && does_stand(registry, issue)
+    has_grant(issue, grant) && does_stand(registry, issue)
 }
 
-// The numbers that the issue of that number cites; none if there is no such issue.
-fn cited_by(issues: &[Issue], number: Option<u64>) -> &[u32]
-    ensures { result.now ≡ cited_by issues.now number }
+// The numbers that the issue of that number cites, in memory of their own; none if there is no such issue.
+fn cited_by(
+    alloc: Global,
+    issues: &[IssueRecord],
+    number: Option<u64>,
+) -> Result<Numbers, NoMemory>
+    ensures { IfOk result (λ numbers. numbers ≡ cited_by issues.now number) }
 {
     match number {
         Some(number) => {
             if number == 0 || (issues.len() as u64) < number {
-                return &[];
+                return Ok(Sequence::new(alloc));
             }
-            issues[number as usize - 1].cited.as_slice()
+            issues[number as usize - 1].cited(alloc)
         }
-        None => &[],
+        None => Ok(Sequence::new(alloc)),
     }
 }
 
@@ -70,7 +82,7 @@ fn cited_by(issues: &[Issue], number: Option<u64>) -> &[u32]
 /// that the issue of this number cites.
 pub fn rests_on(
     alloc: Global,
-    issues: &[Issue],
+    issues: &[IssueRecord],
     grant: &Grant,
     number: Option<u64>,
 ) -> Result<Numbers, NoMemory>
@@ -78,7 +90,7 @@ pub fn rests_on(
 {
     let named = grant.cited();
     if named.is_empty() {
-        copy_numbers(alloc, cited_by(issues, number))
+        cited_by(alloc, issues, number)
     } else {
         copy_numbers(alloc, named)
     }
@@ -113,13 +125,18 @@ impl IssueIndex {
         }
     }
 
-    /// The index of these issues.
-    pub fn of_issues(alloc: Global, key: &SealKey, issues: &[Issue]) -> Result<IssueIndex, NoMemory>
+    /// The index of these issues. The grant of each is read.
+    pub fn of_issues(
+        alloc: Global,
+        key: &SealKey,
+        issues: &[IssueRecord],
+    ) -> Result<IssueIndex, NoMemory>
         ensures { IfOk result (IsIndexOf (digests_of key.now issues.now)) }
     {
         let mut index = IssueIndex::new(alloc);
         for issue in issues {
-            index = index.with(key, &issue.grant)?;
+            let grant = issue.grant(alloc)?;
+            index = index.with(key, &grant)?;
         }
         Ok(index)
     }
@@ -144,7 +161,7 @@ impl IssueIndex {
         &self,
         key: &SealKey,
         registry: &Registry,
-        issues: &[Issue],
+        issues: &[IssueRecord],
         grant: &Grant,
     ) -> Option<u64>
         requires { IsIndexOf (digests_of key.now issues.now) self.now }

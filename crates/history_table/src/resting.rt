@@ -5,8 +5,9 @@ ghost use Rattle.access_history.specs.Gone.{gone};
 ghost use Rattle.access_history.specs.History.{state_of};
 ghost use Rattle.history_table.specs.Resting.{does_cite, resting_on, rests_added};
 
-use access_history::{History, Issue};
+use access_history::{History, IssueRecord};
 use bl_syntax::{NoMemory, Sequence};
+use issue_standings::Bearing;
 use std::alloc::Global;
 
 /// An issue that cites a statement, and how its procap stands.
@@ -19,21 +20,21 @@ pub struct Rest {
 }
 
 // Whether the issue cites the statement of that number.
-fn does_cite(issue: &Issue, statement: u32) -> bool
+fn does_cite(issue: &IssueRecord, statement: u32) -> bool
     ensures { result ≡ does_cite statement issue.now }
 {
-    issue
-        .cited
-        .as_slice()
-        .iter()
-        .any(|cited| *cited == statement)
+    issue.cites(statement)
 }
 
-// The number of the withdrawn statement by which the procap of the issue is denied.
-fn gone_of(alloc: Global, history: &History, issue: &Issue) -> Result<Option<u32>, NoMemory>
+// The number of the withdrawn statement by which the procap of the issue is denied. Its grant is read.
+fn gone_of(
+    alloc: Global,
+    history: &History,
+    issue: &IssueRecord,
+) -> Result<Option<u32>, NoMemory>
     ensures { IfOk result (λ found. found ≡ gone (state_of history.now) issue.now.grant) }
 {
-    let grant = issue.grant.copy(alloc)?;
+    let grant = issue.grant(alloc)?;
     let procap = history.key().seal(grant);
     Ok(history.gone(&procap))
 }
@@ -44,7 +45,7 @@ fn add_rest(
     history: &History,
     statement: u32,
     number: u64,
-    issue: &Issue,
+    issue: &IssueRecord,
     rests: &mut Sequence<Rest>,
 ) -> Result<(), NoMemory>
     ensures { OnOk result (rests.new ≡ rests.old ++ rests_added (state_of history.now) statement number issue.now) }

@@ -17,9 +17,9 @@ pub record BasisView : Type 0 where
   pub proof : ProofView
   pub cited : List ℕ
 
--- what the references point to
+-- the basis as plain data
 abbrev pub shown : Basis → BasisView
-shown basis = record { number = basis.number; grant = basis.grant.now; proof = basis.proof; cited = basis.cited.now }
+shown basis = record { number = basis.number; grant = basis.grant; proof = basis.proof; cited = basis.cited }
 
 abbrev pub with_number : ℕ → Issue → BasisView
 with_number number issue = record { number = number; grant = issue.grant; proof = issue.proof; cited = issue.cited }

@@ -5,48 +5,52 @@ ghost use Rattle.std.specs.Option.{option_map};
 ghost use Rattle.access_history.specs.History.{state_of};
 ghost use Rattle.history_text.specs.IssueBasis.{issue_made, issue_numbered, shown};
 
-use access_history::History;
-use bl_syntax::{Grant, NoMemory};
+use access_history::{History, Issue};
+use bl_syntax::{Grant, NoMemory, Numbers};
 use journal_records::Event;
 use proof_term::ProofTree;
 use std::alloc::Global;
 
 /// An issue: its number, its grant, its proof, and the numbers of the statements that it cites.
 #[derive(Drop)]
-pub struct Basis<'a> {
+pub struct Basis {
     pub number: u64,
-    pub grant: &'a Grant,
+    pub grant: Grant,
     pub proof: ProofTree,
-    pub cited: &'a [u32],
+    pub cited: Numbers,
 }
 
-/// The issue of that number, whose proof is read; none exactly if there is no such issue.
-pub fn issue_numbered<'a>(
+/// The issue of that number, which is read; none exactly if there is no such issue.
+pub fn issue_numbered(
     alloc: Global,
-    history: &'a History,
+    history: &History,
     number: u64,
-) -> Result<Option<Basis<'a>>, NoMemory>
+) -> Result<Option<Basis>, NoMemory>
     ensures { IfOk result (λ basis. option_map shown basis ≡ issue_numbered (state_of history.now).issues number) }
 {
     let issues = history.issues();
     if number == 0 || (issues.len() as u64) < number {
         return Ok(None);
     }
-    let issue = &issues[number as usize - 1];
+    let Issue {
+        cited,
+        proof,
+        grant,
+    } = issues[number as usize - 1].issue(alloc)?;
     Ok(Some(Basis {
         number,
-        grant: &issue.grant,
-        proof: issue.proof.proof(alloc)?,
-        cited: issue.cited.as_slice(),
+        grant,
+        proof,
+        cited,
     }))
 }
 
-/// The issue that an event makes, with a copy of its proof; none if it makes none.
-pub fn issue_made<'a>(
+/// The issue that an event makes, in memory of its own; none if it makes none.
+pub fn issue_made(
     alloc: Global,
     before: &History,
-    event: &'a Event,
-) -> Result<Option<Basis<'a>>, NoMemory>
+    event: &Event,
+) -> Result<Option<Basis>, NoMemory>
     ensures { IfOk result (λ basis. option_map shown basis ≡ issue_made (state_of before.now) event.now) }
 {
     match event {
@@ -57,9 +61,9 @@ pub fn issue_made<'a>(
             ..
         } => Ok(Some(Basis {
             number: before.issues().len() as u64 + 1,
-            grant,
+            grant: grant.copy(alloc)?,
             proof: proof.copy(alloc)?,
-            cited: cited.as_slice(),
+            cited: cited.copy(alloc)?,
         })),
         _ => Ok(None),
     }

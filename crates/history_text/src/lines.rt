@@ -54,7 +54,7 @@ fn put_basis(out: &mut Bytes, history: &History, basis: &Basis) -> Result<(), No
     ensures { OnOk result (out.new ≡ out.old ++ basis_text (state_of history.now).statements (shown basis.now)) }
 {
     put_proof_line(out, basis)?;
-    put_all_cited(out, history, basis.cited)
+    put_all_cited(out, history, basis.cited.as_slice())
 }
 
 // Writes the issue that was found, or that there is none.
@@ -237,7 +237,7 @@ pub fn put_resting_lines(
 ) -> Result<(), NoMemory>
     ensures { OnOk result (out.new ≡ out.old ++ resting_lines (state_of history.now) gone (shown basis.now)) }
 {
-    put_goal(out, basis.grant)?;
+    put_goal(out, &basis.grant)?;
     put_text(out, " ")?;
     put_standing(out, gone)?;
     put_text(out, " ")?;

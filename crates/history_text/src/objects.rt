@@ -174,7 +174,7 @@ fn put_basis(
     ensures { OnOk result (out.new ≡ out.old ++ basis_members (state_of history.now).statements (shown basis.now)) }
 {
     put_issued_proof(alloc, out, basis)?;
-    put_statements(alloc, out, history, basis.cited)
+    put_statements(alloc, out, history, basis.cited.as_slice())
 }
 
 // Writes the members of an issue, if there is one.
@@ -467,7 +467,7 @@ pub fn put_resting_object(
 ) -> Result<(), NoMemory>
     ensures { OnOk result (out.new ≡ out.old ++ resting_object (state_of history.now) gone (shown basis.now)) }
 {
-    put_goal(alloc, out, basis.grant)?;
+    put_goal(alloc, out, &basis.grant)?;
     put_standing(out, gone)?;
     put_basis(alloc, out, history, basis)?;
     put_text(out, "}\n")

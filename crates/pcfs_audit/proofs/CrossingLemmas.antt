@@ -28,7 +28,7 @@ use Rattle.proof_term.proofs.proof.Proof.TheLaws.TheKnot as proof
 use Rattle.proof_term.specs.contracts.tree.ProofTree as ProofTree
 use Rattle.procap.proofs.procap.Procap.TheSendSync as procap
 use Rattle.procap.specs.contracts.sealing.SealKey as SealKey
-use Rattle.record_parts.proofs.proof_record.ProofRecord.TheSendSync as proof_record
+use Rattle.access_history.proofs.issue_record.IssueRecord.TheSendSync as issue_record
 use Rattle.pcfs_hmac.proofs.given.NoBytes.TheSendSync as no_bytes
 use Rattle.sha2.proofs.Sha256.TheSendSync as sha256
 use Rattle.sha2.proofs.block256.Core256.TheSendSync as core256
@@ -61,7 +61,7 @@ event_sync = variants_sync Event.enum (
 )
 
 pub base_sync : IsSync Base.the_row
-base_sync = search (sendable, as_row_sync, declared_sync, crosses, statement_sync, proof_record.the_sync, formula.sync-Formula, world.the_sync, marks) depth 60 fits 20000
+base_sync = search (sendable, as_row_sync, declared_sync, crosses, statement_sync, issue_record.the_sync, formula.sync-Formula, world.the_sync, marks) depth 60 fits 20000
 
 pub key_sync : IsSync SealKey.the_row
 key_sync = search (sendable, as_row_sync, declared_sync, crosses, sha256.the_sync, core256.the_sync, no_bytes.the_sync) depth 40 fits 20000

@@ -9,7 +9,7 @@ use crate::auditor::auditor_at;
 use crate::credentials::{Credentials, credentials_in_order, credentials_in_pieces};
 use crate::digests::{grant_digests, grant_digests_in_pieces};
 use crate::dossier::{Dossier, dossier_of};
-use crate::papers::papers_of;
+use crate::papers::{base_grants, papers_of};
 use crate::report::{Report, ReportRows, unissued_among};
 use crate::supports::base_supports;
 use access_history::Base;
@@ -81,7 +81,8 @@ pub fn audit<S: Signatures>(
     ensures { IfOk result (IsReport (authority_by key.now (S.Signatures.accepted ring.now)) base.now events.now) }
 {
     let key = SealKey::new(key);
-    let papers = papers_of(alloc, base, events)?;
+    let granted = base_grants(alloc, base)?;
+    let papers = papers_of(alloc, base, granted.as_slice(), events)?;
     let digests = grant_digests(alloc, &key, papers.grants.as_slice())?;
     let dossier = dossier_of(alloc, key, base, events, papers, digests.as_slice())?;
     let all = credentials_in_order(alloc, &dossier, ring)?;
@@ -112,7 +113,8 @@ pub fn audit_pieces<R: Threads + Sync, S: Signatures + Sync>(
     ensures { IfOk result (IsReport (authority_by key.now (S.Signatures.accepted ring.now)) base.now events.now) }
 {
     let key = SealKey::new(key);
-    let papers = papers_of(alloc, base, events)?;
+    let granted = base_grants(alloc, base)?;
+    let papers = papers_of(alloc, base, granted.as_slice(), events)?;
     let grants = papers.grants.as_slice();
     let digests = grant_digests_in_pieces(rt, alloc, &key, grants, least_of(grants.len(), pieces))?;
     let dossier = dossier_of(alloc, key, base, events, papers, digests.as_slice())?;

@@ -1,5 +1,5 @@
 //! The papers of a history: its statements, before which event each was withdrawn, the grants that were issued, and how many
-//! statements and issues there were before each event. Nothing of them is copied.
+//! statements and issues there were before each event. Of these only the grants of a base are copied, which it keeps as bytes.
 
 ghost use Rattle.std.specs.Prelude.{◌≡◌, ◌∷◌, ◌++◌, [], List, IfOk};
 ghost use Rattle.journal_records.specs.declared.event.Event.{Event as EventView};
@@ -9,7 +9,8 @@ ghost use Rattle.pcfs_audit.specs.Papers.{ArePapers, grants_in, shown};
 
 use crate::ends::{Ends, add_open_end, base_ends, end_statement, has_ended};
 use access_history::Base;
-use bl_syntax::{Grant, NoMemory, Statement};
+use bl_syntax::{Grant, NoMemory, Sequence, Statement};
+use issue_standings::Bearing;
 use journal_records::Event;
 use std::alloc::Global;
 
@@ -43,24 +44,41 @@ fn base_statements<'a>(alloc: Global, base: &'a Base) -> Result<Vec<&'a Statemen
     Ok(statements)
 }
 
-// The grants of the issues of a base.
-fn base_grants<'a>(alloc: Global, base: &'a Base) -> Result<Vec<&'a Grant>, NoMemory>
-    ensures { IfOk result (λ grants. shown grants.items ≡ grants_in base.now.issues) }
+/// The grants of the issues of a base, in memory of their own.
+pub fn base_grants(alloc: Global, base: &Base) -> Result<Sequence<Grant>, NoMemory>
+    ensures { IfOk result (λ grants. grants ≡ grants_in base.now.issues) }
 {
-    let mut grants = Vec::new(alloc);
+    let mut grants = Sequence::new(alloc);
     let issues = base.issues();
+    grants.reserve(issues.len())?;
     for issue in issues {
-        grants.push(&issue.grant)?;
+        grants.push(issue.grant(alloc)?)?;
     }
     Ok(grants)
 }
 
-// The papers of a base.
-fn base_papers<'a>(alloc: Global, base: &'a Base) -> Result<Papers<'a>, NoMemory>
+// References to the grants.
+fn references<'a>(alloc: Global, grants: &'a [Grant]) -> Result<Vec<&'a Grant>, NoMemory>
+    ensures { IfOk result (λ references. shown references.items ≡ grants.now) }
+{
+    let mut references = Vec::new(alloc);
+    for grant in grants {
+        references.push(grant)?;
+    }
+    Ok(references)
+}
+
+// The papers of a base, whose issues have these grants.
+fn base_papers<'a>(
+    alloc: Global,
+    base: &'a Base,
+    granted: &'a [Grant],
+) -> Result<Papers<'a>, NoMemory>
+    requires { granted.now ≡ grants_in base.now.issues }
     ensures { IfOk result (ArePapers base.now []) }
 {
     let statements = base_statements(alloc, base)?;
-    let grants = base_grants(alloc, base)?;
+    let grants = references(alloc, granted)?;
     let ends = base_ends(alloc, base)?;
     let has_ended = has_ended(ends.as_slice());
     Ok(Papers {
@@ -103,15 +121,17 @@ fn with_event<'a>(papers: Papers<'a>, event: &'a Event) -> Result<Papers<'a>, No
     }
 }
 
-/// The papers of the base and the events.
+/// The papers of the base, whose issues have these grants, and the events.
 pub fn papers_of<'a>(
     alloc: Global,
     base: &'a Base,
+    granted: &'a [Grant],
     events: &'a [Event],
 ) -> Result<Papers<'a>, NoMemory>
+    requires { granted.now ≡ grants_in base.now.issues }
     ensures { IfOk result (ArePapers base.now events.now) }
 {
-    let mut papers = base_papers(alloc, base)?;
+    let mut papers = base_papers(alloc, base, granted)?;
     for event in events {
         papers = with_event(papers, event)?;
     }

@@ -1,7 +1,7 @@
 //! Until when grants that were issued have support: an issue of whose statements none was withdrawn. A grant that was issued
 //! and has lost its support is gone, unless it names statements: then these tell.
 
-ghost use Rattle.std.specs.Prelude.{◌≡◌, ◌<◌, ◌+◌, [], true, Some, IfOk, length, not, replicate};
+ghost use Rattle.std.specs.Prelude.{◌≡◌, ◌<◌, ◌+◌, [], true, Some, IfOk, OnOk, length, not, replicate};
 ghost use Rattle.std.specs.List.{slice_get};
 ghost use Rattle.pcfs_audit.specs.Dossier.{IsDossier};
 ghost use Rattle.pcfs_audit.specs.Supports.{AreSupportsOf, CountsIssue, FollowIssues, FollowsEvent, FollowsIssue, TellsStanding, TellsStandingByIssues, has_lost, supported};
@@ -11,6 +11,7 @@ use crate::dossier::Dossier;
 use crate::ends::{first_end, is_past};
 use crate::grants::row_of;
 use bl_syntax::{Grant, NoMemory};
+use issue_standings::Bearing;
 use journal_records::Event;
 use procap::Procap;
 use std::alloc::Global;
@@ -89,35 +90,42 @@ fn count_issue(rows: &mut Vec<Support>, dossier: &Dossier, grant: &Grant, cited:
     }
 }
 
-// Counts the issues of the base.
-fn count_base(rows: &mut Vec<Support>, dossier: &Dossier)
+// Counts the issues of the base. Of each the grant and the numbers are read.
+fn count_base(alloc: Global, rows: &mut Vec<Support>, dossier: &Dossier) -> Result<(), NoMemory>
     requires dossier { IsDossier dossier.now }
     requires sized { length rows.old.items ≡ length dossier.now.papers.grants.items }
-    ensures rows { AreSupportsOf dossier.now [] rows.old.items
-        → AreSupportsOf dossier.now dossier.now.base.now.issues rows.new.items }
+    ensures rows { OnOk result (AreSupportsOf dossier.now [] rows.old.items
+        → AreSupportsOf dossier.now dossier.now.base.now.issues rows.new.items) }
     ensures sized { length rows.new.items ≡ length rows.old.items }
 {
     let issues = dossier.base.issues();
     for issue in issues {
-        count_issue(rows, dossier, &issue.grant, issue.cited.as_slice());
+        let grant = issue.grant(alloc)?;
+        let cited = issue.cited(alloc)?;
+        count_issue(rows, dossier, &grant, cited.as_slice());
     }
+    Ok(())
 }
 
 // The rows with the issues of the base counted, if some statement is ever withdrawn.
-fn with_base(rows: Vec<Support>, dossier: &Dossier) -> Vec<Support>
+fn with_base(
+    alloc: Global,
+    rows: Vec<Support>,
+    dossier: &Dossier,
+) -> Result<Vec<Support>, NoMemory>
     requires dossier { IsDossier dossier.now }
     requires sized { length rows.items ≡ length dossier.now.papers.grants.items }
-    ensures rows { dossier.now.papers.has_ended ≡ true → AreSupportsOf dossier.now [] rows.items
-        → AreSupportsOf dossier.now dossier.now.base.now.issues result.items }
-    ensures sized { length result.items ≡ length dossier.now.papers.grants.items }
+    ensures rows { IfOk result (λ counted. dossier.now.papers.has_ended ≡ true → AreSupportsOf dossier.now [] rows.items
+        → AreSupportsOf dossier.now dossier.now.base.now.issues counted.items) }
+    ensures sized { IfOk result (λ counted. length counted.items ≡ length dossier.now.papers.grants.items) }
 {
     let counts = dossier.papers.has_ended;
     if !counts {
-        return rows;
+        return Ok(rows);
     }
     let mut rows = rows;
-    count_base(&mut rows, dossier);
-    rows
+    count_base(alloc, &mut rows, dossier)?;
+    Ok(rows)
 }
 
 /// The supports by the issues of the base, before the first event.
@@ -128,10 +136,8 @@ pub fn base_supports(alloc: Global, dossier: &Dossier) -> Result<Supports, NoMem
 {
     let grants = dossier.papers.grants.as_slice();
     let rows = rows_without_support(alloc, grants.len())?;
-    Ok(Supports {
-        rows: with_base(rows, dossier),
-        place: 0,
-    })
+    let rows = with_base(alloc, rows, dossier)?;
+    Ok(Supports { rows, place: 0 })
 }
 
 impl Supports {

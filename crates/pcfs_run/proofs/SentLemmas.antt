@@ -16,7 +16,7 @@ use Rattle.file_world.proofs.operation.Op.TheSendSync as op
 use Rattle.bl_syntax.proofs.lists.Sequence.TheSendSync as sequence
 use Rattle.bl_syntax.proofs.grant.Grant.TheSendSync as grant
 use Rattle.procap.proofs.procap.Procap.TheSendSync as procap
-use Rattle.record_parts.proofs.proof_record.ProofRecord.TheSendSync as proof_record
+use Rattle.access_history.proofs.issue_record.IssueRecord.TheSendSync as issue_record
 use Rattle.bl_syntax.proofs.names.Principal.TheSendSync as principal
 use Rattle.bl_syntax.specs.contracts.formula.Formula as Formula
 use Rattle.bl_syntax.specs.contracts.statement.Statement as Statement
@@ -30,7 +30,7 @@ use Rattle.issue_standings.specs.contracts.standings.Standings as Standings
 use Rattle.journal_records.specs.contracts.event.Event as Event
 use Rattle.journal_records.specs.contracts.record.EventRecord as EventRecord
 use Rattle.access_history.specs.contracts.event.Addition as Addition
-use Rattle.access_history.specs.contracts.event.Issue as Issue
+use Rattle.access_history.specs.contracts.issue_record.IssueRecord as IssueRecord
 use Rattle.access_history.specs.contracts.base.Base as Base
 use Rattle.access_history.specs.contracts.history.History as History
 use Rattle.world_state.specs.contracts.world.World as World
@@ -80,11 +80,11 @@ world_send = search (sendable, crosses, maps.crosses) depth 100 fits 20000
 record_send : IsSend EventRecord.the_row
 record_send = search (sendable, crosses, sequence.the_send) depth 100 fits 20000
 
-issue_send : IsSend Issue.the_row
-issue_send = search (sendable, crosses, proof_record.the_send) depth 100 fits 20000
+issue_send : IsSend IssueRecord.the_row
+issue_send = issue_record.the_send
 
 addition_send : IsSend Addition.the_row
-addition_send = search (sendable, crosses, statement_send, proof_record.the_send) depth 100 fits 20000
+addition_send = search (sendable, crosses, statement_send, issue_record.the_send) depth 100 fits 20000
 
 base_send : IsSend Base.the_row
 base_send = search (sendable, crosses, world_send, statement_send, issue_send) depth 100 fits 20000
@@ -128,7 +128,7 @@ event_field : IsSend Event.the_field.row
 event_field = search (sendable, crosses, statement_send, tree_send, op.the_field_send, sequence.the_send, grant.the_send, procap.the_send, principal.the_send) depth 100 fits 20000
 
 addition_field : IsSend Addition.the_field.row
-addition_field = search (sendable, crosses, statement_send, proof_record.the_send) depth 100 fits 20000
+addition_field = search (sendable, crosses, statement_send, issue_record.the_send) depth 100 fits 20000
 
 pending_field : IsSend Pending.the_field.row
 pending_field = search (sendable, crosses, event_field, addition_field) depth 100 fits 20000

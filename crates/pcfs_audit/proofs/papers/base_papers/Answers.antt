@@ -11,7 +11,7 @@ returns c =
     let ends_is = sym c.in_ok-ends.ensures in
     record {
       statements_are = c.in_ok-statements.ensures;
-      grants_are = c.in_ok-grants.ensures;
+      grants_are = c.in_ok-grants.ensures ∙ c.requires;
       before_are = c.new.ensures.items;
       ends_counted = ap length c.in_ok-ends.ensures ∙ length-map c.args.base.now.statements base_end;
       ends_within = subst (AllByRecursion (IsEndWithin 0)) ends_is (base_within c.args.base.now.statements);

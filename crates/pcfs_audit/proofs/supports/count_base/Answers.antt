@@ -22,7 +22,7 @@ loop-issue-preserved c = record {
       let ends = c.args.dossier.now.papers.ends.items in
       let more : take (k + 1) issues ≡ take k issues ++ c.issue-item.result ∷ [] = take_more issues k c.issue-item.result c.loop-issue-test.true ∙ ap (λ (i : Issue). take k issues ++ i ∷ []) (sym c.issue-item.is) in
       subst (λ (is : List Issue). AreSupports grants ends is c.count_issue.new.rows.items) (sym more)
-      (c.count_issue.ensures.rows (take k issues) c.issue-item.result refl (sym c.as_slice.ensures) (c.loop-issue.invariant.counted none));
+      (c.count_issue.ensures.rows (take k issues) c.issue-item.result (sym c.in_ok-grant.ensures) (sym (c.as_slice.ensures ∙ c.in_ok-cited.ensures)) (c.loop-issue.invariant.counted none));
 }
 
 pub returns-clause-rows : goal.returns-clause-rows
