@@ -27,12 +27,7 @@ fn addition_for(alloc: Global, event: &Event) -> Result<Addition, NoMemory>
             cited,
             proof,
             grant,
-        } => Ok(Addition::Issue(IssueRecord::of(
-            alloc,
-            cited.as_slice(),
-            proof,
-            grant,
-        )?)),
+        } => Ok(Addition::Issue(IssueRecord::of(alloc, cited.as_slice(), proof, grant)?)),
         Event::Acted { .. } => Ok(Addition::Operation),
     }
 }

@@ -60,11 +60,7 @@ fn is_ground(registry: &Registry, issue: &IssueRecord, grant: &Grant) -> bool
 }
 
 // The numbers that the issue of that number cites, in memory of their own; none if there is no such issue.
-fn cited_by(
-    alloc: Global,
-    issues: &[IssueRecord],
-    number: Option<u64>,
-) -> Result<Numbers, NoMemory>
+fn cited_by(alloc: Global, issues: &[IssueRecord], number: Option<u64>) -> Result<Numbers, NoMemory>
     ensures { IfOk result (λ numbers. numbers ≡ cited_by issues.now number) }
 {
     match number {

@@ -27,11 +27,7 @@ fn does_cite(issue: &IssueRecord, statement: u32) -> bool
 }
 
 // The number of the withdrawn statement by which the procap of the issue is denied. Its grant is read.
-fn gone_of(
-    alloc: Global,
-    history: &History,
-    issue: &IssueRecord,
-) -> Result<Option<u32>, NoMemory>
+fn gone_of(alloc: Global, history: &History, issue: &IssueRecord) -> Result<Option<u32>, NoMemory>
     ensures { IfOk result (λ found. found ≡ gone (state_of history.now) issue.now.grant) }
 {
     let grant = issue.grant(alloc)?;

@@ -46,11 +46,7 @@ pub fn issue_numbered(
 }
 
 /// The issue that an event makes, in memory of its own; none if it makes none.
-pub fn issue_made(
-    alloc: Global,
-    before: &History,
-    event: &Event,
-) -> Result<Option<Basis>, NoMemory>
+pub fn issue_made(alloc: Global, before: &History, event: &Event) -> Result<Option<Basis>, NoMemory>
     ensures { IfOk result (λ basis. option_map shown basis ≡ issue_made (state_of before.now) event.now) }
 {
     match event {

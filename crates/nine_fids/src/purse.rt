@@ -33,7 +33,9 @@ impl Model for Purse {
 fn is_fitting(who: &Principal, node: NodeId, permission: Perm, p: &Procap) -> bool
     ensures { result ≡ is_fitting who.now node permission p.now }
 {
-    p.grant.goal().file.0 == node.0 && p.grant.goal().perm == permission && p.grant.goal().who == *who
+    p.grant.goal().file.0 == node.0
+        && p.grant.goal().perm == permission
+        && p.grant.goal().who == *who
 }
 
 impl Purse {
@@ -41,7 +43,10 @@ impl Purse {
     fn first_fitting(&self, who: &Principal, node: NodeId, permission: Perm) -> Option<&Procap>
         ensures { option_map (λ p. p.now) result ≡ fitting self.now who.now node permission }
     {
-        self.procaps.as_slice().iter().find(|p| is_fitting(who, node, permission, p))
+        self.procaps
+            .as_slice()
+            .iter()
+            .find(|p| is_fitting(who, node, permission, p))
     }
 
     /// No procaps. It takes no memory.

@@ -108,11 +108,7 @@ fn count_base(alloc: Global, rows: &mut Vec<Support>, dossier: &Dossier) -> Resu
 }
 
 // The rows with the issues of the base counted, if some statement is ever withdrawn.
-fn with_base(
-    alloc: Global,
-    rows: Vec<Support>,
-    dossier: &Dossier,
-) -> Result<Vec<Support>, NoMemory>
+fn with_base(alloc: Global, rows: Vec<Support>, dossier: &Dossier) -> Result<Vec<Support>, NoMemory>
     requires dossier { IsDossier dossier.now }
     requires sized { length rows.items ≡ length dossier.now.papers.grants.items }
     ensures rows { IfOk result (λ counted. dossier.now.papers.has_ended ≡ true → AreSupportsOf dossier.now [] rows.items

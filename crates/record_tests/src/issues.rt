@@ -15,25 +15,29 @@ fn is_given_back(alloc: Global, kept: &IssuingRecord, bytes: &[u8]) -> Result<bo
     let copied = kept.copy(alloc)?;
     let (cited, proof, _) = copied.parts(alloc)?;
     let numbers = copied.cited(alloc)?;
-    Ok(kept.bytes() == bytes
-        && copied.bytes() == bytes
-        && cited.as_slice() == [1].as_slice()
-        && numbers.as_slice() == [1].as_slice()
-        && proof.size() == 3
-        && proof.depth() == 3)
+    Ok(
+        kept.bytes() == bytes
+            && copied.bytes() == bytes
+            && cited.as_slice() == [1].as_slice()
+            && numbers.as_slice() == [1].as_slice()
+            && proof.size() == 3
+            && proof.depth() == 3,
+    )
 }
 
 // Whether the record tells its grant, which is this one, from the same without conditions, and what it cites.
 fn is_told(alloc: Global, kept: &IssuingRecord, grant: &Grant) -> Result<bool, NoMemory> {
     let again = kept.grant(alloc)?;
     let other = Grant::new(alloc, grant.goal());
-    Ok(again.is_same(grant)
-        && kept.is_grant(grant)
-        && !kept.is_grant(&other)
-        && kept.is_plain()
-        && kept.cites(1)
-        && !kept.cites(2)
-        && kept.cited_bytes() == [0, 0, 0, 1].as_slice())
+    Ok(
+        again.is_same(grant)
+            && kept.is_grant(grant)
+            && !kept.is_grant(&other)
+            && kept.is_plain()
+            && kept.cites(1)
+            && !kept.cites(2)
+            && kept.cited_bytes() == [0, 0, 0, 1].as_slice(),
+    )
 }
 
 // Whether the issue with these bytes is kept.
