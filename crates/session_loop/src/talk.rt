@@ -74,7 +74,7 @@ pub trait Talk<L, P, C> {
         ensures fits { fits lock.now pass.new };
 
     /// Spells that what comes is no item.
-    fn spell_bad(&self, clock: &C, out: &mut Bytes) -> Result<(), NoMemory>
+    fn spell_bad(&self, alloc: Global, clock: &C, out: &mut Bytes) -> Result<(), NoMemory>
         requires empty { out.old ≡ [] }
         ensures { OnOk result (out.new ≡ (talking clock.now).bad_text) };
 
