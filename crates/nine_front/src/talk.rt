@@ -85,7 +85,7 @@ impl<D: Disk, C: TurnClock> Talk<TreeLock<OpenedStore<D>>, Pass<OpenedStore<D>>,
         }
     }
 
-    fn spell_bad(&self, clock: &C, out: &mut Bytes) -> Result<(), NoMemory> {
+    fn spell_bad(&self, alloc: Global, clock: &C, out: &mut Bytes) -> Result<(), NoMemory> {
         Ok(())
     }
 

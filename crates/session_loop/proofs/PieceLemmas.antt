@@ -23,8 +23,8 @@ module _ {P : Type 0} (t : Talking P) where
     pub EndsAtLast-cut : (fault : Unsent) (how : TalkEnd) → how ≡ unsent_end fault → IsLastUnsent t state mark left old new held held_after → EndsAtLast t state mark left old new held held_after how
     EndsAtLast-cut fault how is cut = subst (EndsAtLast t state mark left old new held held_after) (sym is) (last_unsent fault cut)
 
-    pub EndsAtLast-bad : (Stands : t.State → t.cutting.Mark → List ℕ → Type 0) (how : TalkEnd) → IsBadLast t Stands state mark left old new → TellsBad t held held_after how → EndsAtLast t state mark left old new held held_after how
-    EndsAtLast-bad Stands how b tells = bad_last how b.is_bad b.same tells
+    pub EndsAtLast-bad : (how : TalkEnd) → IsBadLast t state mark left old new → TellsBad t held held_after how → EndsAtLast t state mark left old new held held_after how
+    EndsAtLast-bad how b tells = bad_last how b.is_bad b.same tells
 
 -- memory ran out for a piece
 pub EndsAtPiece-refused : {P : Type 0} (t : Talking P) (laws : TalkingLaws t) (state : t.State) (mark : t.cutting.Mark) (left : List ℕ) (at : P) (held : Option (List ℕ)) → EndsAtPiece t state mark left at at held held ends.NoMemory

@@ -94,26 +94,27 @@ module _ {P : Type 0} (t : Talking P) (laws : TalkingLaws t) where
     pub one_unsent : IsAnswered t Stands state mark left old new → held_after ≡ held → IsCutWithin t state mark left old new held held_after
     one_unsent a same = one_cut a (nothing_out held held_after (t.text a.item a.reply) same)
 
-    -- ---- the last one
+  -- ---- the last one
 
-    last_answered : (a : IsLastAnswered t Stands state mark left old new) → held_after ≡ with_back held (t.text a.item a.reply) → SpeaksLast t state mark left old new held held_after
+  module _ (state : t.State) (mark : t.cutting.Mark) (left : List ℕ) (old new : P) (held held_after : Option (List ℕ)) where
+    last_answered : (a : IsLastAnswered t state mark left old new) → held_after ≡ with_back held (t.text a.item a.reply) → SpeaksLast t state mark left old new held held_after
     last_answered a sent = record { items = a.item ∷ []; end = a.end; last = a.last; spoken = IsSpoken-one a.item a.reply state a.end old new held held_after a.said sent }
 
-    last_cut : (a : IsLastAnswered t Stands state mark left old new) → HoldsSome held held_after (t.text a.item a.reply) → IsLastUnsent t state mark left old new held held_after
+    last_cut : (a : IsLastAnswered t state mark left old new) → HoldsSome held held_after (t.text a.item a.reply) → IsLastUnsent t state mark left old new held held_after
     last_cut a some = record { items = a.item ∷ []; end = a.end; last = a.last; unsent = IsUnsent-one a.item a.reply state a.end old new held held_after a.said some }
 
-    pub last_told : (out : List ℕ) (a : IsLastAnswered t Stands state mark left old new) → out ≡ t.text a.item a.reply → held_after ≡ with_back held out → SpeaksLast t state mark left old new held held_after
+    pub last_told : (out : List ℕ) (a : IsLastAnswered t state mark left old new) → out ≡ t.text a.item a.reply → held_after ≡ with_back held out → SpeaksLast t state mark left old new held held_after
     last_told out a is sent = last_answered a (sent ∙ ap (with_back held) is)
 
-    pub last_cut_off : (out : List ℕ) (a : IsLastAnswered t Stands state mark left old new) → out ≡ t.text a.item a.reply → HoldsSome held held_after out → IsLastUnsent t state mark left old new held held_after
+    pub last_cut_off : (out : List ℕ) (a : IsLastAnswered t state mark left old new) → out ≡ t.text a.item a.reply → HoldsSome held held_after out → IsLastUnsent t state mark left old new held held_after
     last_cut_off out a is some = last_cut a (subst (HoldsSome held held_after) is some)
 
-    pub last_unsent : IsLastAnswered t Stands state mark left old new → held_after ≡ held → IsLastUnsent t state mark left old new held held_after
+    pub last_unsent : IsLastAnswered t state mark left old new → held_after ≡ held → IsLastUnsent t state mark left old new held held_after
     last_unsent a same = last_cut a (nothing_out held held_after (t.text a.item a.reply) same)
 
   -- nothing is left
-  pub last_none : (Stands : t.State → t.cutting.Mark → List ℕ → Type 0) (state : t.State) (mark : t.cutting.Mark) (left : List ℕ) (old new : P) (held : Option (List ℕ)) → HasNoLast t Stands state mark left old new → SpeaksLast t state mark left old new held held
-  last_none Stands state mark left old new held n = record { items = []; end = state; last = n.last; spoken = subst (λ (p : P). IsSpoken t [] state old p state held held) (sym n.same) (IsSpoken-none state old held) }
+  pub last_none : (state : t.State) (mark : t.cutting.Mark) (left : List ℕ) (old new : P) (held : Option (List ℕ)) → HasNoLast t state mark left old new → SpeaksLast t state mark left old new held held
+  last_none state mark left old new held n = record { items = []; end = state; last = n.last; spoken = subst (λ (p : P). IsSpoken t [] state old p state held held) (sym n.same) (IsSpoken-none state old held) }
 
   -- ---- the items that came whole
 

@@ -35,6 +35,7 @@ module _ {P : Type 0} (t : Talking P) (Stands : t.State → t.cutting.Mark → L
   HasHeard out heards.Open = IsStill
   HasHeard out heards.Bad = IsBadNext
 
+module _ {P : Type 0} (t : Talking P) (state : t.State) (mark : t.cutting.Mark) (left : List ℕ) (old new : P) where
   -- the bytes that are left are the last item, which was answered
   pub record IsLastAnswered : Type 0 where
     pub item : t.cutting.Item

@@ -147,7 +147,7 @@ fn end_at_bad<L, P, C, T: Talk<L, P, C>, O: Sink>(
     ensures no_read { result ≢ TalkEnd.ReadFault }
 {
     let mut out = Bytes::new(alloc);
-    match talk.spell_bad(clock, &mut out) {
+    match talk.spell_bad(alloc, clock, &mut out) {
         Ok(()) => {}
         Err(_) => return TalkEnd::NoMemory,
     }

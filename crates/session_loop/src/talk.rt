@@ -70,12 +70,11 @@ pub trait Talk<L, P, C> {
             (mark : (talking clock.now).cutting.Mark) (left : List ℕ) →
             stands clock.now self.old state mark left →
             (talking clock.now).cutting.IsOpen mark left →
-            HasHeardLast (talking clock.now) (stands clock.now self.new) state mark left
-            pass.old pass.new out.new result }
+            HasHeardLast (talking clock.now) state mark left pass.old pass.new out.new result }
         ensures fits { fits lock.now pass.new };
 
     /// Spells that what comes is no item.
-    fn spell_bad(&self, clock: &C, out: &mut Bytes) -> Result<(), NoMemory>
+    fn spell_bad(&self, alloc: Global, clock: &C, out: &mut Bytes) -> Result<(), NoMemory>
         requires empty { out.old ≡ [] }
         ensures { OnOk result (out.new ≡ (talking clock.now).bad_text) };
 
