@@ -122,8 +122,9 @@ pub data FollowEnds (start end : ScriptState) (before after : Streams) (broken :
       HoldsSome (with_back before.held lines) after.held last →
       FollowEnds start end before after broken 7
   cut_short : (messages : List Message) (lines : List ℕ)
-      (over : FollowsOver start messages end lines) → AreTaken before.left after.left messages → after.read_faults ≡ before.read_faults →
-      end.met ≡ None → FailedLast before.write_faults after.write_faults broken.output →
+      (over : FollowsOver start messages end lines) → AreTaken before.left after.left messages →
+      after.read_faults ≡ before.read_faults → end.met ≡ None →
+      FailedLast before.write_faults after.write_faults broken.output →
       HoldsButLast before.held after.held messages over.told →
       FollowEnds start end before after broken 7
   out_of_memory : (messages : List Message) (lines : List ℕ)
