@@ -1,6 +1,7 @@
 -- Messages that are taken by a store, one after the other.
-use Rattle.std.proofs.Common.{◌≡◌, inl, inr, ℕ, ◌+◌, List, [], ◌∷◌, ◌++◌, length, Option, None, Result, OnOk, refl, sym, ap, subst, ◌∙◌, append_assoc}
+use Rattle.std.proofs.Common.{◌≡◌, inl, inr, ℕ, ◌+◌, ◌≤◌, take, arith, append-nil, length-append, List, [], ◌∷◌, ◌++◌, length, Option, None, Result, OnOk, refl, sym, ap, subst, ◌∙◌, append_assoc}
 use Rattle.std.specs.Prelude.{IfErr}
+use Rattle.std.proofs.Math.Seq.{take-append-add}
 use Rattle.std.specs.List.{AllByRecursion}
 use Rattle.pcfs_ports.specs.Observable.{with_back, HoldsSome}
 use Rattle.pcfs_ports.proofs.TakesLemmas.{with_back-with_back}
@@ -9,17 +10,19 @@ use Rattle.event_messages.specs.Reader.{ReaderState, after_message, BeginsNoMess
 use Rattle.follower.specs.declared.taking.Taken.{Taken}
 use Rattle.pcfs_store.specs.Entries.{StoreEntry}
 use Rattle.pcfs_store.specs.StoreView.{StoreView}
+use Rattle.pcfs_session.specs.ScriptRun.{ScriptState}
 use Rattle.pcfs_session.proofs.OutboxLemmas.{with_back-nil, GoesOut-all, GoesOut-some}
 use Rattle.pcfs_session.proofs.StoredLemmas.{StoreGoesOn-on, StoreGoesOn-same, runs_for}
-use Rattle.follow_run.specs.AnswerText.{answer_lines}
+use Rattle.follow_run.specs.AnswerText.{answer_line, answer_lines, but_last, HoldsButLast}
+use Rattle.follow_run.specs.FollowRun.{FollowRun}
 use Rattle.follow_run.specs.FollowRun as follows
-use Rattle.follow_run.specs.Followed.{standing_at, IsOutAt, WereTaken, AreAnswered, HaltsAt, HaltsBy, TakesAll, StopsWithin, halted, no_message}
+use Rattle.follow_run.specs.Followed.{standing_at, AreOutAt, WereTaken, AreAnswered, HaltsAt, HaltsBy, TakesAll, StopsWithin, halted, no_message}
 use Rattle.follow_run.specs.Taken.{AreFirst}
 use Rattle.follow_run.specs.declared.follow_end.FollowEnd.{FollowEnd}
 use Rattle.follow_run.specs.declared.follow_end.FollowEnd.TheVariants as ends
 use Rattle.follow_run.proofs.BoundLemmas.{IsFirst}
 use Rattle.follow_run.proofs.StoreLemmas.{HaltsAt-none}
-use Rattle.follow_run.proofs.RunLemmas.{FollowRun-then, lines-then, spelling-append, spelling-one}
+use Rattle.follow_run.proofs.RunLemmas.{FollowRun-then, lines-then, answers_each, spelling-append, spelling-one}
 
 -- ---- the first messages of bytes
 
@@ -51,14 +54,58 @@ out_after held between held_after first more out next = next ∙ ap (λ (t : Opt
 pub some_after : (held between held_after : Option (List ℕ)) (first more : List ℕ) → between ≡ with_back held first → HoldsSome between held_after more → HoldsSome held held_after (first ++ more)
 some_after held between held_after first more out some = GoesOut-some held between held_after first [] more (GoesOut-all held between first [] out refl) some
 
-out_at-after : (how : FollowEnd) (held between held_after : Option (List ℕ)) (first more : List ℕ) → between ≡ with_back held first → IsOutAt how between held_after more → IsOutAt how held held_after (first ++ more)
-out_at-after ends.Stopped held between held_after first more out next = out_after held between held_after first more out next
-out_at-after ends.WriteFault held between held_after first more out next = some_after held between held_after first more out next
-out_at-after ends.NoMemory held between held_after first more out next = some_after held between held_after first more out next
-out_at-after ends.Done held between held_after first more out next = next
-out_at-after (ends.BadFrame place) held between held_after first more out next = next
-out_at-after ends.ReadFault held between held_after first more out next = next
-out_at-after ends.InputTooLong held between held_after first more out next = next
+-- the same bytes in front of fewer and of more
+longer : (front few many more : List ℕ) → length few ≤ length many + length more → length (front ++ few) ≤ length (front ++ many) + length more
+longer front few many more within = omega (arith, within, length-append front few, length-append front many)
+
+-- all lines but the last of these messages, after those of others, have no more bytes than those of the others and all of these but the last
+but_last_length : (messages others : List Message) (told after : List Taken) → length told ≡ length messages → length (answer_lines (messages ++ others) (but_last (told ++ after))) ≤ length (answer_lines messages told) + length (answer_lines others (but_last after))
+but_last_length [] others [] after each = omega arith
+but_last_length [] others (taken ∷ told) after each = absurd (omega (arith, each))
+but_last_length (message ∷ messages) others [] after each = absurd (omega (arith, each))
+but_last_length (message ∷ messages) others (taken ∷ []) [] each = omega arith
+but_last_length (message ∷ []) others (taken ∷ []) (next ∷ after) each =
+    longer (answer_line message.number taken) (answer_lines others (but_last (next ∷ after))) [] (answer_lines others (but_last (next ∷ after))) (omega arith)
+but_last_length (message ∷ (second ∷ messages)) others (taken ∷ []) (next ∷ after) each = absurd (omega (arith, each))
+but_last_length (message ∷ messages) others (taken ∷ (second ∷ told)) after each =
+    longer (answer_line message.number taken) (answer_lines (messages ++ others) (but_last ((second ∷ told) ++ after))) (answer_lines messages (second ∷ told)) (answer_lines others (but_last after))
+    (but_last_length messages others (second ∷ told) after (omega (arith, each)))
+
+-- no line is out, and there is none
+pub none_out : (held held_after : Option (List ℕ)) → held_after ≡ held → HoldsButLast held held_after [] []
+none_out held held_after same = record { some = record { count = 0; within = omega arith; held = same ∙ with_back-nil held }; earlier = omega arith }
+
+module _ (held between held_after : Option (List ℕ)) (messages others : List Message) (told after : List Taken) (each : length told ≡ length messages) (lines : answer_lines (messages ++ others) (told ++ after) ≡ answer_lines messages told ++ answer_lines others after) (out : between ≡ with_back held (answer_lines messages told)) where
+  pub last_after : HoldsButLast between held_after others after → HoldsButLast held held_after (messages ++ others) (told ++ after)
+  last_after last = record {
+    some = record {
+      count = length (answer_lines messages told) + last.some.count;
+      within = omega (arith, last.some.within, ap length lines, length-append (answer_lines messages told) (answer_lines others after));
+      held =
+          last.some.held ∙ ap (λ (t : Option (List ℕ)). with_back t (take last.some.count (answer_lines others after))) out ∙ with_back-with_back held (answer_lines messages told) (take last.some.count (answer_lines others after))
+          ∙ ap (with_back held)
+          (sym (take-append-add (answer_lines messages told) (answer_lines others after) last.some.count) ∙ ap (take (length (answer_lines messages told) + last.some.count)) (sym lines));
+    };
+    earlier = omega (arith, but_last_length messages others told after each, last.earlier);
+  }
+
+  out_at-after : (how : FollowEnd) → AreOutAt how between held_after others after → AreOutAt how held held_after (messages ++ others) (told ++ after)
+  out_at-after ends.Stopped next = out_after held between held_after (answer_lines messages told) (answer_lines others after) out next ∙ ap (with_back held) (sym lines)
+  out_at-after ends.WriteFault next = last_after next
+  out_at-after ends.NoMemory next = last_after next
+  out_at-after ends.Done next = next
+  out_at-after (ends.BadFrame place) next = next
+  out_at-after ends.ReadFault next = next
+  out_at-after ends.InputTooLong next = next
+
+-- all lines of a run are out
+pub all_but_last : (start end : ScriptState) (held held_after : Option (List ℕ)) (messages : List Message) (told : List Taken) → FollowRun start messages told end → held_after ≡ with_back held (answer_lines messages told) → HoldsButLast held held_after messages told
+all_but_last start end held held_after messages told run out =
+    let each = answers_each start end messages told run in
+    let lines : answer_lines (messages ++ []) (told ++ []) ≡ answer_lines messages told ++ [] =
+    ap (λ (ts : List Taken). answer_lines (messages ++ []) ts) (append-nil told) ∙ ap (λ (ms : List Message). answer_lines ms told) (append-nil messages) ∙ sym (append-nil (answer_lines messages told)) in
+    subst (λ (ms : List Message). HoldsButLast held held_after ms told) (append-nil messages)
+    (subst (λ (ts : List Taken). HoldsButLast held held_after (messages ++ []) ts) (append-nil told) (last_after held held_after held_after messages [] told [] each lines out (none_out held_after held_after refl)))
 
 module _ {D : Type 0} (clock : D → ℕ) (left_since : D → ℕ → List ℕ → Type 0) (image : D → Option (List ℕ)) (faults : D → ℕ) where
   abbrev Answered : List Message → StoreView D → StoreView D → Option (List ℕ) → Option (List ℕ) → Type 0
@@ -99,8 +146,8 @@ module _ {D : Type 0} (clock : D → ℕ) (left_since : D → ℕ → List ℕ �
     were = WereTaken-then messages others old mid new other.met one.told other.told one.were other.were;
     is_met = other.is_met;
     out =
-        subst (IsOutAt how held held_after) (sym (lines-then (standing_at old None) (standing_at mid None) messages others one.told other.told one.were.run))
-        (out_at-after how held between held_after (answer_lines messages one.told) (answer_lines others other.told) one.out other.out);
+        out_at-after held between held_after messages others one.told other.told (answers_each (standing_at old None) (standing_at mid None) messages one.told one.were.run)
+        (lines-then (standing_at old None) (standing_at mid None) messages others one.told other.told one.were.run) one.out how other.out;
   }
 
   -- where no disk failed the next message is taken

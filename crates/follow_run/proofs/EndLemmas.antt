@@ -94,7 +94,7 @@ module _ {D : Type 0} (clock : D → ℕ) (left_since : D → ℕ → List ℕ �
       ends =
           without_memory [] [] refl (FollowsOver-none (standing_at start None) stands)
           (record { bytes = []; rest = []; taken = with_front-nil before.left ∙ ap (with_front []) (sym left); first = AreFirst-none []; few = omega arith }) reads refl
-          (record { count = 0; within = omega arith; held = held ∙ with_back-nil before.held }) writes;
+          (record { some = record { count = 0; within = omega arith; held = held ∙ with_back-nil before.held }; earlier = omega arith }) writes;
       goes_on = StoreGoesOn-same clock left_since image faults start running;
     }
 

@@ -1,5 +1,5 @@
 -- Runs of a follower, one after the other, and the histories that they lead to.
-use Rattle.std.proofs.Common.{◌≡◌, ℕ, List, [], ◌∷◌, ◌++◌, Some, refl, sym, ap, ◌∙◌, subst, arith, append-nil, append_assoc, length-append}
+use Rattle.std.proofs.Common.{◌≡◌, ℕ, suc, length, List, [], ◌∷◌, ◌++◌, Some, refl, sym, ap, ◌∙◌, subst, arith, append-nil, append_assoc, length-append}
 use Rattle.journal_records.specs.declared.event.Event.{Event}
 use Rattle.access_history.specs.Authority.{Authority}
 use Rattle.access_history.specs.Base.{BaseView}
@@ -29,6 +29,11 @@ lines-then start _ _ others _ after (ended _) = refl
 lines-then start mid _ others _ after (one_more _ message messages taken told next _ going takes run) =
     ap (λ (b : List ℕ). answer_line message.number taken ++ b) (lines-then next mid messages others told after run)
     ∙ sym (append_assoc (answer_line message.number taken) (answer_lines messages told) (answer_lines others after))
+
+-- each message has its answer
+pub answers_each : (start end : ScriptState) (messages : List Message) (told : List Taken) → FollowRun start messages told end → length told ≡ length messages
+answers_each start _ _ _ (ended _) = refl
+answers_each start end _ _ (one_more _ message messages taken told next _ going takes run) = ap suc (answers_each next end messages told run)
 
 pub lines-one : (message : Message) (taken : Taken) → answer_lines (message ∷ []) (taken ∷ []) ≡ answer_line message.number taken
 lines-one message taken = append-nil (answer_line message.number taken)

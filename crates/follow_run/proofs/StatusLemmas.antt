@@ -11,13 +11,14 @@ use Rattle.pcfs_session.specs.Streams.{Streams}
 use Rattle.pcfs_session.proofs.OutboxLemmas.{with_back-nil}
 use Rattle.pcfs_tools.specs.Broken.{Broken}
 use Rattle.pcfs_tools.specs.LastLine.{IsWritten}
+use Rattle.follow_run.specs.AnswerText.{HoldsButLast}
 use Rattle.follow_run.specs.FollowRun.{FollowsOver, HasEnded, done, bad_frame, read_fault, input_too_long, stopped, FollowEnds, FollowsInput}
 use Rattle.follow_run.specs.FollowRun as follows
 use Rattle.follow_run.specs.Followed.{TellsEnd, IsEnding, all_told, unwritten, without_memory, last_line_of, EndsFollowing}
 use Rattle.follow_run.specs.Taken.{AreTaken, HasBadFrame, no_message, cut_off}
 use Rattle.follow_run.specs.declared.follow_end.FollowEnd.{FollowEnd}
 use Rattle.follow_run.specs.declared.follow_end.FollowEnd.TheVariants as ends
-use Rattle.follow_run.proofs.AnsweredLemmas.{out_after, some_after}
+use Rattle.follow_run.proofs.AnsweredLemmas.{out_after, all_but_last}
 use Rattle.follow_run.proofs.BoundLemmas.{few_open}
 
 -- an input that was read to its end was taken up to it
@@ -30,10 +31,6 @@ taken_at_frame : (left left_after : Option (List ℕ)) (messages : List Message)
 taken_at_frame left left_after messages (no_message bytes rest taken first none few) = record { bytes = bytes; rest = rest; taken = taken; first = first; few = few }
 taken_at_frame left left_after messages (cut_off bytes rest reads first may_go_on some) =
     record { bytes = bytes; rest = rest; taken = taken_to_end left left_after bytes reads; first = first; few = omega (arith, few_open rest may_go_on) }
-
--- all of the lines is a first part of them
-all_some : (held held_after : Option (List ℕ)) (lines : List ℕ) → held_after ≡ with_back held lines → HoldsSome held held_after lines
-all_some held held_after lines out = subst (HoldsSome held held_after) (append-nil lines) (some_after held held_after held_after lines [] out (record { count = 0; within = omega arith; held = with_back-nil held_after }))
 
 module _ (start end : ScriptState) (before : Streams) (left held held_after : Option (List ℕ)) (read_faults write_faults faults_after : ℕ) (input was output : Bool) where
   -- what ports told before the last line, and after it
@@ -92,7 +89,7 @@ module _ (start end : ScriptState) (before : Streams) (left held held_after : Op
       subst Ends (sym all.0) (follows.written status messages lines last over (ended_still messages status last ended) (out_after before.held held held_after lines last out all.1) (all.2 ∙ writes))
   by_line messages lines last status result over ended out writes (inr cut) =
       subst Ends (sym cut.0)
-      (follows.last_line_cut status messages lines last over (ended_still messages status last ended) (cut.1.0 ∙ ap raise writes, cut.1.1) (some_after before.held held held_after lines last out cut.2))
+      (follows.last_line_cut status messages lines last over (ended_still messages status last ended) (cut.1.0 ∙ ap raise writes, cut.1.1) (subst (λ (h : Option (List ℕ)). HoldsSome h held_after last) out cut.2))
 
   -- nothing more is written
   silent : (status : ℕ) (result : ℕ) → result ≡ status → held_after ≡ held → faults_after ≡ write_faults → IsWritten status [] held write_faults result held_after faults_after output
@@ -103,7 +100,7 @@ module _ (start end : ScriptState) (before : Streams) (left held held_after : Op
   by_end (ends.BadFrame place) result (all_told messages lines over ended out writes) same (inl tells) = by_line messages lines (last_line_of (ends.BadFrame place)) 16 result over ended out writes tells
   by_end (ends.BadFrame place) result (all_told messages lines over ended out writes) same (inr tells) =
       let framed = framed_of messages 16 (last_line_of (ends.BadFrame place)) ended refl in
-      subst Ends (sym tells.0) (follows.out_of_memory messages lines over framed.taken framed.reads framed.not_met (all_some before.held held_after lines (tells.1 ∙ out)) (tells.2 ∙ writes))
+      subst Ends (sym tells.0) (follows.out_of_memory messages lines over framed.taken framed.reads framed.not_met (all_but_last start end before.held held_after messages over.told over.run (tells.1 ∙ out ∙ ap (with_back before.held) over.lines_are)) (tells.2 ∙ writes))
   by_end ends.ReadFault result (all_told messages lines over ended out writes) same tells = by_line messages lines (last_line_of ends.ReadFault) 6 result over ended out writes tells
   by_end ends.InputTooLong result (all_told messages lines over ended out writes) same tells = by_line messages lines (last_line_of ends.InputTooLong) 13 result over ended out writes tells
   by_end ends.Stopped result (all_told messages lines over ended out writes) same tells = by_line messages lines (last_line_of ends.Stopped) 5 result over ended out writes tells
@@ -112,11 +109,11 @@ module _ (start end : ScriptState) (before : Streams) (left held held_after : Op
   by_end how result (unwritten messages lines is over taken reads none failed some) same tells =
       let silent_end = subst (λ (h : FollowEnd). TellsEnd h held write_faults result held_after faults_after output) is tells in
       subst Ends (sym silent_end.0)
-      (follows.cut_short messages lines over taken reads none (silent_end.2 ∙ failed.0, same is ∙ failed.1) (subst (λ (h : Option (List ℕ)). HoldsSome before.held h lines) (sym silent_end.1) some))
+      (follows.cut_short messages lines over taken reads none (silent_end.2 ∙ failed.0, same is ∙ failed.1) (subst (λ (h : Option (List ℕ)). HoldsButLast before.held h messages over.told) (sym silent_end.1) some))
   by_end how result (without_memory messages lines is over taken reads none some writes) same tells =
       let silent_end = subst (λ (h : FollowEnd). TellsEnd h held write_faults result held_after faults_after output) is tells in
       subst Ends (sym silent_end.0)
-      (follows.out_of_memory messages lines over taken reads none (subst (λ (h : Option (List ℕ)). HoldsSome before.held h lines) (sym silent_end.1) some) (silent_end.2 ∙ writes))
+      (follows.out_of_memory messages lines over taken reads none (subst (λ (h : Option (List ℕ)). HoldsButLast before.held h messages over.told) (sym silent_end.1) some) (silent_end.2 ∙ writes))
 
 module _ {D : Type 0} (clock : D → ℕ) (left_since : D → ℕ → List ℕ → Type 0) (image : D → Option (List ℕ)) (faults : D → ℕ) where
   -- a store as the one that a run begins and ends with

@@ -2,7 +2,7 @@
 use Rattle.std.proofs.Common.{◌≡◌, ◌≢◌, ◌⊎◌, inl, inr, ◌≤◌, ℕ, Bool, true, false, List, [], ◌∷◌, Option, Some, None, Result, Ok, Err, refl, sym, ap, subst, ◌∙◌, arith, append-nil}
 use Rattle.std.specs.Prelude.{IfErr}
 use Rattle.pcfs_ports.specs.Faults.{HasRisen}
-use Rattle.pcfs_ports.specs.Observable.{with_back}
+use Rattle.pcfs_ports.specs.Observable.{with_back, HoldsSome}
 use Rattle.journal_records.specs.declared.event.Event.{Event}
 use Rattle.event_messages.specs.Messages.{Message}
 use Rattle.follower.specs.declared.taking.Taken.{Taken}
@@ -17,10 +17,10 @@ use Rattle.pcfs_store.specs.StoreView.{StoreView, first_disk, second_disk}
 use Rattle.pcfs_session.specs.Stored.{StoreGoesOn}
 use Rattle.pcfs_session.proofs.OutboxLemmas.{with_back-nil}
 use Rattle.pcfs_session.proofs.StoredLemmas.{none_some, running_for, StoreGoesOn-same}
-use Rattle.follow_run.specs.AnswerText.{answer_line}
+use Rattle.follow_run.specs.AnswerText.{answer_line, answer_lines, HoldsButLast}
 use Rattle.follow_run.specs.FollowRun.{IsNextIn, TakesIn}
 use Rattle.follow_run.specs.FollowRun as follows
-use Rattle.follow_run.specs.Followed.{standing_at, IsOutAt, IsMetAt, WereTaken, AreAnswered, HaltsAt, HaltsBy}
+use Rattle.follow_run.specs.Followed.{standing_at, IsOutAt, AreOutAt, IsMetAt, WereTaken, AreAnswered, HaltsAt, HaltsBy}
 use Rattle.follow_run.specs.declared.follow_end.FollowEnd.{FollowEnd}
 use Rattle.follow_run.specs.declared.follow_end.FollowEnd.TheVariants as ends
 use Rattle.follow_run.proofs.RunLemmas.{lines-one}
@@ -91,6 +91,20 @@ module _ {D : Type 0} (faults : D → ℕ) where
   no_memory : (old new : StoreView D) (number : ℕ) (payload : List ℕ) → Takes faults old number payload answers.NoMemory new → new ≡ old
   no_memory old _ number payload (takes.without_memory goes at) = refl
 
+-- ---- its line
+
+one_last : (held held_after : Option (List ℕ)) (message : Message) (taken : Taken) → HoldsSome held held_after (answer_line message.number taken) → HoldsButLast held held_after (message ∷ []) (taken ∷ [])
+one_last held held_after message taken some = record { some = subst (HoldsSome held held_after) (sym (lines-one message taken)) some; earlier = omega arith }
+
+out_at-one : (how : FollowEnd) (held held_after : Option (List ℕ)) (message : Message) (taken : Taken) → IsOutAt how held held_after (answer_line message.number taken) → AreOutAt how held held_after (message ∷ []) (taken ∷ [])
+out_at-one ends.Stopped held held_after message taken out = out ∙ ap (with_back held) (sym (lines-one message taken))
+out_at-one ends.WriteFault held held_after message taken out = one_last held held_after message taken out
+out_at-one ends.NoMemory held held_after message taken out = one_last held held_after message taken out
+out_at-one ends.Done held held_after message taken out = out
+out_at-one (ends.BadFrame place) held held_after message taken out = out
+out_at-one ends.ReadFault held held_after message taken out = out
+out_at-one ends.InputTooLong held held_after message taken out = out
+
 -- ---- the store goes on
 
 module _ {D : Type 0} (clock : D → ℕ) (left_since : D → ℕ → List ℕ → Type 0) (image : D → Option (List ℕ)) (faults : D → ℕ) where
@@ -146,7 +160,7 @@ module _ {D : Type 0} (clock : D → ℕ) (left_since : D → ℕ → List ℕ �
     met = None;
     were = were_taken old new message taken going had t;
     is_met = met;
-    out = subst (IsOutAt how held held_after) (sym (lines-one message taken)) out;
+    out = out_at-one how held held_after message taken out;
   })
 
   -- a disk failed for its event
@@ -190,7 +204,7 @@ module _ {D : Type 0} (clock : D → ℕ) (left_since : D → ℕ → List ℕ �
     met = None;
     were = record { run = follows.ended (standing_at s None); goes_on = StoreGoesOn-same clock left_since image faults s running };
     is_met = refl;
-    out = record { count = 0; within = omega arith; held = same ∙ with_back-nil held };
+    out = record { some = record { count = 0; within = omega arith; held = same ∙ with_back-nil held }; earlier = omega arith };
   }
 
   -- memory ran out for it

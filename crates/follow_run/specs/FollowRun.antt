@@ -21,7 +21,7 @@ use Rattle.pcfs_session.specs.ScriptRun.{ScriptState, state_of_standing, standin
 use Rattle.pcfs_session.specs.Stored.{StoreGoesOn}
 use Rattle.pcfs_session.specs.Streams.{Streams}
 use Rattle.pcfs_tools.specs.Broken.{Broken}
-use Rattle.follow_run.specs.AnswerText.{answer_lines}
+use Rattle.follow_run.specs.AnswerText.{answer_lines, HoldsButLast}
 use Rattle.follow_run.specs.Taken.{AreTaken, AreAllTaken, AreAll, HasBadFrame}
 
 -- the number of the last event here, and of the next one
@@ -104,9 +104,11 @@ pub data HasEnded (end : ScriptState) (before after : Streams) (broken : Bool) (
       HasEnded end before after broken messages 5 (with_line_end (codes "stopped"))
 
 -- How a run ends, by its status: the lines for the messages that were taken and the last line were
--- written. Or the output failed, at its last call, and some first part of that was written, or of
--- the lines for the messages so far; or memory ran out, and it was some first part of these lines.
--- No other call of the output failed, and of the input none, unless that is the cause.
+-- written. Or the output failed, at its last call, and all these lines were written and some first
+-- part of the last line, or of the line for the last message that was taken, and all those for the
+-- messages before it; or memory ran out, and these were written. So no message is taken after one
+-- whose line was not written. No other call of the output failed, and of the input none, unless that
+-- is the cause.
 pub data FollowEnds (start end : ScriptState) (before after : Streams) (broken : Broken) : ℕ → Type 0 where
   written : (status : ℕ) (messages : List Message) (lines last : List ℕ) →
       FollowsOver start messages end lines →
@@ -117,17 +119,19 @@ pub data FollowEnds (start end : ScriptState) (before after : Streams) (broken :
       FollowsOver start messages end lines →
       HasEnded end before after broken.input messages status last →
       FailedLast before.write_faults after.write_faults broken.output →
-      HoldsSome before.held after.held (lines ++ last) →
+      HoldsSome (with_back before.held lines) after.held last →
       FollowEnds start end before after broken 7
-  cut_short : (messages : List Message) (lines : List ℕ) → FollowsOver start messages end lines →
-      AreTaken before.left after.left messages → after.read_faults ≡ before.read_faults →
-      end.met ≡ None → FailedLast before.write_faults after.write_faults broken.output →
-      HoldsSome before.held after.held lines → FollowEnds start end before after broken 7
-  out_of_memory : (messages : List Message) (lines : List ℕ) →
-      FollowsOver start messages end lines → AreTaken before.left after.left messages →
+  cut_short : (messages : List Message) (lines : List ℕ)
+      (over : FollowsOver start messages end lines) → AreTaken before.left after.left messages →
       after.read_faults ≡ before.read_faults → end.met ≡ None →
-      HoldsSome before.held after.held lines → after.write_faults ≡ before.write_faults →
-      FollowEnds start end before after broken 9
+      FailedLast before.write_faults after.write_faults broken.output →
+      HoldsButLast before.held after.held messages over.told →
+      FollowEnds start end before after broken 7
+  out_of_memory : (messages : List Message) (lines : List ℕ)
+      (over : FollowsOver start messages end lines) → AreTaken before.left after.left messages →
+      after.read_faults ≡ before.read_faults → end.met ≡ None →
+      HoldsButLast before.held after.held messages over.told →
+      after.write_faults ≡ before.write_faults → FollowEnds start end before after broken 9
 
 -- Below `clock`, `left_since`, `image` and `faults` tell of a disk what they do in `Stored`.
 module _ {D : Type 0} (clock : D → ℕ) (left_since : D → ℕ → List ℕ → Type 0) (image : D → Option (List ℕ)) (faults : D → ℕ) where

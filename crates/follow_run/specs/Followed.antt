@@ -17,7 +17,7 @@ use Rattle.pcfs_session.specs.Streams.{Streams}
 use Rattle.pcfs_tools.specs.Broken.{Broken}
 use Rattle.pcfs_tools.specs.LastLine.{IsWritten, Wrote, WroteNothing}
 use Rattle.pcfs_tools.specs.ScriptStatus.{IsSilent}
-use Rattle.follow_run.specs.AnswerText.{answer_lines}
+use Rattle.follow_run.specs.AnswerText.{answer_lines, HoldsButLast}
 use Rattle.follow_run.specs.FollowRun.{FollowRun, FollowsOver, HasEnded, frame_line}
 use Rattle.follow_run.specs.Taken.{AreFirst, AreTaken}
 use Rattle.follow_run.specs.declared.follow_end.FollowEnd.{FollowEnd}
@@ -64,32 +64,42 @@ TellsEnd WriteFault held faults result held_after faults_after broken = IsSilent
 TellsEnd NoMemory held faults result held_after faults_after broken = IsSilent 9 held faults result held_after faults_after
 
 -- how a run ends, before its last line: the lines for all messages that were taken are out; or the
--- output failed, at its last call, or memory ran out, and some first part of them is
+-- output failed, at its last call, or memory ran out, and all but the last of them are, and some first
+-- part of that
 pub data IsEnding (start end : ScriptState) (before after : Streams) (broken : Broken) (how : FollowEnd) : Type 0 where
   all_told : (messages : List Message) (lines : List ℕ) → FollowsOver start messages end lines →
       HasEnded end before after broken.input messages (status_of how) (last_line_of how) →
       after.held ≡ with_back before.held lines → after.write_faults ≡ before.write_faults →
       IsEnding start end before after broken how
   unwritten : (messages : List Message) (lines : List ℕ) → how ≡ WriteFault →
-      FollowsOver start messages end lines → AreTaken before.left after.left messages →
+      (over : FollowsOver start messages end lines) → AreTaken before.left after.left messages →
       after.read_faults ≡ before.read_faults → end.met ≡ None →
       FailedLast before.write_faults after.write_faults broken.output →
-      HoldsSome before.held after.held lines → IsEnding start end before after broken how
-  without_memory : (messages : List Message) (lines : List ℕ) → how ≡ NoMemory →
-      FollowsOver start messages end lines → AreTaken before.left after.left messages →
-      after.read_faults ≡ before.read_faults → end.met ≡ None →
-      HoldsSome before.held after.held lines → after.write_faults ≡ before.write_faults →
+      HoldsButLast before.held after.held messages over.told →
       IsEnding start end before after broken how
+  without_memory : (messages : List Message) (lines : List ℕ) → how ≡ NoMemory →
+      (over : FollowsOver start messages end lines) → AreTaken before.left after.left messages →
+      after.read_faults ≡ before.read_faults → end.met ≡ None →
+      HoldsButLast before.held after.held messages over.told →
+      after.write_faults ≡ before.write_faults → IsEnding start end before after broken how
 
 -- ---- from one message to the next
 
--- what is out of the lines if no further message is taken: all of them after the fault of a disk, or
--- some first part
+-- what is out of the line for a message, or of none, if no further message is taken: all of it after
+-- the fault of a disk, or some first part
 abbrev pub IsOutAt : FollowEnd → Option (List ℕ) → Option (List ℕ) → List ℕ → Type 0
 IsOutAt Stopped held held_after lines = held_after ≡ with_back held lines
 IsOutAt WriteFault held held_after lines = HoldsSome held held_after lines
 IsOutAt NoMemory held held_after lines = HoldsSome held held_after lines
 IsOutAt _ held held_after lines = ⊥
+
+-- what is out of the lines for messages: all of them after the fault of a disk, or all but the last,
+-- and some first part of that
+abbrev pub AreOutAt : FollowEnd → Option (List ℕ) → Option (List ℕ) → List Message → List Taken → Type 0
+AreOutAt Stopped held held_after messages told = held_after ≡ with_back held (answer_lines messages told)
+AreOutAt WriteFault held held_after messages told = HoldsButLast held held_after messages told
+AreOutAt NoMemory held held_after messages told = HoldsButLast held held_after messages told
+AreOutAt _ held held_after messages told = ⊥
 
 -- after a fault of a disk there is the event that met it
 abbrev pub IsMetAt : FollowEnd → Option StoreEntry → Type 0
@@ -117,7 +127,7 @@ module _ {D : Type 0} (clock : D → ℕ) (left_since : D → ℕ → List ℕ �
     pub met : Option StoreEntry
     pub were : WereTaken messages old new met told
     pub is_met : IsMetAt how met
-    pub out : IsOutAt how held held_after (answer_lines messages told)
+    pub out : AreOutAt how held held_after messages told
 
   -- the message is the last one that is taken; or memory ran out for it, and none is
   abbrev pub HaltsBy : Message → StoreView D → StoreView D → Option (List ℕ) → FollowEnd → Option (List ℕ) → Type 0

@@ -1,6 +1,6 @@
 -- The lines of an inquiry, one after the other.
 use Rattle.std.proofs.Common.{◌≡◌, ◌<◌, ◌≤◌, ◌+◌, ℕ, suc, List, [], ◌∷◌, ◌++◌, length, refl, sym, ap, subst, ◌∙◌, append_assoc, ⊎_elim, arith, Bool, true, false, None, Some, Result, Ok, Err}
-use Rattle.std.specs.Prelude.{IfOk, MatchResult, codes, if◌then◌else◌}
+use Rattle.std.specs.Prelude.{◌≢◌, IfOk, OnErr, MatchResult, codes, if◌then◌else◌}
 use Rattle.std.specs.Str.{bytes_eq}
 use Rattle.std.proofs.lemmas.Bool.{cases_lt}
 use Rattle.std.proofs.lemmas.Slice.Eq.{bytes_eq-Decides}
@@ -8,6 +8,8 @@ use Rattle.std.proofs.lemmas.List.{append-nil, length-append}
 use Rattle.bl_syntax.specs.declared.grant.Goal.{Goal}
 use Rattle.bl_syntax.specs.Statement.{StatementView}
 use Rattle.bl_syntax.specs.declared.lists.NoMemory.{NoMemory as OutOfMemory}
+use Rattle.pcfs_ports.specs.declared.streams.TakeFault.{TakeFault}
+use Rattle.pcfs_ports.specs.declared.streams.TakeFault.TheVariants.{Failed, TooLong}
 use Rattle.pcfs_inquiry.specs.declared.answering.InquiryEnd.{InquiryEnd}
 use Rattle.proof_term.specs.Proof.{ProofView}
 use Rattle.proof_verifier.specs.declared.cites.Cite.{Cite}
@@ -295,3 +297,12 @@ pub ends_with : (r : Result InquiryEnd OutOfMemory) (line : Result (List ℕ) Ou
 ends_with (Ok end) line status text Ends status_is line_is told ends =
     (text, subst (λ (l : Result (List ℕ) OutOfMemory). IfOk l (λ (bytes : List ℕ). bytes ≡ text ++ 10 ∷ [])) line_is told, subst (λ (n : ℕ). Ends n text) (sym status_is) ends)
 ends_with (Err refused) line status text Ends status_is line_is told ends = tt
+
+-- what holds anyhow holds if memory ran out
+pub on_err : (r : Result InquiryEnd OutOfMemory) (P : Type 0) → P → OnErr r P
+on_err (Ok end) P p = tt
+on_err (Err refused) P p = p
+
+-- an input that is too long has not failed
+pub not_failed : (r : Result (List ℕ) TakeFault) → r ≡ Err TooLong → r ≢ Err Failed
+not_failed r long failed = cc

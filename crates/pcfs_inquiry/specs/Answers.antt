@@ -1,9 +1,9 @@
 -- What is answered to an inquiry, and how a run of it ends (this project's own).
-use Rattle.std.specs.Prelude.{ℕ, List, drop, codes, Option, Result, Ok, Err}
+use Rattle.std.specs.Prelude.{◌≡◌, ℕ, List, drop, codes, Bool, true, Option, Result, Ok, Err}
 use Rattle.bl_syntax.specs.declared.grant.Goal.{Goal}
 use Rattle.bl_syntax.specs.Grant.{GrantView}
 use Rattle.bl_syntax.specs.Statement.{StatementView}
-use Rattle.pcfs_ports.specs.Faults.{HasRisen}
+use Rattle.pcfs_ports.specs.Faults.{raise}
 use Rattle.pcfs_ports.specs.Observable.{ReadsToEnd, TakesFirst}
 use Rattle.proof_term.specs.Proof.{ProofView}
 use Rattle.proof_verifier.specs.Verdict.{verdict}
@@ -23,20 +23,21 @@ verdict_text (Ok g) = drop 3 (checked_text g)
 verdict_text (Err fault) = unproved_text fault
 
 -- The status that the inquiry in an input ends with, and the line that it has to write. A line that
--- is too long comes before any other fault, wherever it stands. `left` and `faults` are what the
--- input has left and the count of its faults.
-pub data InquiryEnds (left left_after : Option (List ℕ)) (faults faults_after : ℕ) : ℕ → List ℕ →
-    Type 0 where
+-- is too long comes before any other fault, wherever it stands. At a fault of the input one call of
+-- it failed, and it was the last; at each other end none did. `left` and `faults` are what the input
+-- has left and the count of its faults, and `broken` says whether its last call failed.
+pub data InquiryEnds (left left_after : Option (List ℕ)) (faults faults_after : ℕ) (broken : Bool) : ℕ → List ℕ → Type 0 where
   answered : (bytes : List ℕ) (statements : List StatementView) (goal : Goal) (proof : ProofView) →
       ReadsToEnd left left_after bytes → (HasLongLine (lines_of bytes) → ⊥) →
-      IsInquiry (lines_of bytes) statements goal proof →
-      InquiryEnds left left_after faults faults_after 0 (verdict_text (verdict statements goal proof))
+      IsInquiry (lines_of bytes) statements goal proof → faults_after ≡ faults →
+      InquiryEnds left left_after faults faults_after broken 0 (verdict_text (verdict statements goal proof))
   bad_line : (bytes : List ℕ) (number : ℕ) (fault : LineFault) → ReadsToEnd left left_after bytes →
       (HasLongLine (lines_of bytes) → ⊥) → HasFirstFault (lines_of bytes) number fault →
-      InquiryEnds left left_after faults faults_after 12 (bad_line_text number fault)
+      faults_after ≡ faults →
+      InquiryEnds left left_after faults faults_after broken 12 (bad_line_text number fault)
   long_line : (bytes : List ℕ) → ReadsToEnd left left_after bytes → HasLongLine (lines_of bytes) →
-      InquiryEnds left left_after faults faults_after 2 (codes "bad 3")
-  read_fault : HasRisen faults faults_after →
-      InquiryEnds left left_after faults faults_after 6 (codes "readfault")
-  too_long : TakesFirst 1073741824 left left_after →
-      InquiryEnds left left_after faults faults_after 13 (codes "toolong")
+      faults_after ≡ faults → InquiryEnds left left_after faults faults_after broken 2 (codes "bad 3")
+  read_fault : faults_after ≡ raise faults → broken ≡ true →
+      InquiryEnds left left_after faults faults_after broken 6 (codes "readfault")
+  too_long : TakesFirst 1073741824 left left_after → faults_after ≡ faults →
+      InquiryEnds left left_after faults faults_after broken 13 (codes "toolong")

@@ -1,6 +1,6 @@
 //! The answer to the inquiry in an input.
 
-ghost use Rattle.std.specs.Prelude.{◌≡◌, ◌≢◌, ◌++◌, ◌∷◌, [], ℕ, List, IfOk, OnOk};
+ghost use Rattle.std.specs.Prelude.{◌≡◌, ◌≢◌, ◌++◌, ◌∷◌, [], ℕ, List, IfOk, OnOk, OnErr};
 ghost use Rattle.proof_verifier.specs.Cited.{AreCited, statements_of};
 ghost use Rattle.proof_verifier.specs.Verdict.{verdict};
 ghost use Rattle.pcfs_inquiry.specs.Answers.{InquiryEnds, verdict_text};
@@ -95,15 +95,18 @@ fn end_with(status: u8, line: Result<Bytes, NoMemory>) -> Result<InquiryEnd, NoM
 }
 
 /// Reads the input to its end and answers the inquiry in it. What ends it otherwise is told with its status: 2, a line is
-/// too long; 6, the input failed; 12, a line is wrong; 13, the input has 1 GiB or more.
+/// too long; 6, the input failed; 12, a line is wrong; 13, the input has 1 GiB or more. After a read that failed nothing is
+/// read, and if memory runs out no read has failed.
 pub fn answer_input<I: Source>(alloc: Global, input: &mut I) -> Result<InquiryEnd, NoMemory>
-    ensures { IfOk result (λ end. (text : List ℕ) × (end.line ≡ text ++ 10 ∷ [])
+    ensures ends { IfOk result (λ end. (text : List ℕ) × (end.line ≡ text ++ 10 ∷ [])
         × InquiryEnds (I.left input.old) (I.left input.new) (I.faults input.old)
-        (I.faults input.new) end.status text) }
+        (I.faults input.new) (I.broken input.new) end.status text) }
+    ensures steady { OnErr result (I.faults input.new ≡ I.faults input.old) }
 {
+    let failed = end_with(READ_FAULT, line_with(alloc, "readfault"))?;
     let bytes = match read_to_end(alloc, input) {
         Ok(bytes) => bytes,
-        Err(TakeFault::Failed) => return end_with(READ_FAULT, line_with(alloc, "readfault")),
+        Err(TakeFault::Failed) => return Ok(failed),
         Err(TakeFault::TooLong) => return end_with(TOO_LONG, line_with(alloc, "toolong")),
         Err(TakeFault::NoMemory) => return Err(NoMemory),
     };

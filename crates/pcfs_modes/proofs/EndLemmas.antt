@@ -1,6 +1,6 @@
 -- What a table, a text and an input come to, by the answers of the calls that look at them.
-use Rattle.std.proofs.Common.{◌≡◌, ◌≢◌, ◌≤◌, ℕ, ℤ, List, length, pos, refl, sym, subst, arith}
-use Rattle.std.specs.Prelude.{Result, Ok, Err, IfOk, Option}
+use Rattle.std.proofs.Common.{◌≡◌, ◌≢◌, ◌≤◌, ℕ, ℤ, List, length, pos, Bool, refl, sym, subst, arith}
+use Rattle.std.specs.Prelude.{Result, Ok, Err, IfOk, OnErr, Option}
 use Rattle.std.proofs.lemmas.Int.{ints}
 use Rattle.bl_syntax.specs.declared.lists.NoMemory.{NoMemory as OutOfMemory}
 use Rattle.bl_syntax.specs.declared.terms.TimePoint.{TimePoint}
@@ -16,6 +16,8 @@ use Rattle.mode_policy.specs.Statements.{statements_of}
 use Rattle.mode_policy.specs.Stating.{GivesStatements}
 use Rattle.mode_policy.specs.Table.{TableView}
 use Rattle.pcfs_ports.specs.Observable.{ReadsToEnd}
+use Rattle.pcfs_ports.specs.declared.streams.TakeFault.{TakeFault}
+use Rattle.pcfs_ports.specs.declared.streams.TakeFault.TheVariants.{Failed, TooLong}
 use Rattle.pcfs_modes.specs.Answers.{ComesTo, ModesEnds, StatesTable, answered, bad_line, of_table, stated, too_many, twice}
 use Rattle.pcfs_modes.specs.ModesText.{fault_line, register_lines}
 use Rattle.pcfs_modes.specs.declared.answering.ModesEnd.{ModesEnd}
@@ -71,7 +73,16 @@ at_seconds r from to u v text bytes u_is v_is text_is ends =
     (subst (λ (y : TimePoint). IfOk r (λ (end : ModesEnd). ComesTo u y (lines_of bytes) end.status end.lines)) v_is
     (subst (λ (b : List ℕ). IfOk r (λ (end : ModesEnd). ComesTo u v (lines_of b) end.status end.lines)) text_is ends))
 
-pub ends_answered : (r : Result ModesEnd OutOfMemory) (from to : ℕ) (left left_after : Option (List ℕ)) (faults faults_after : ℕ) (bytes : List ℕ) → ReadsToEnd left left_after bytes →
-    IfOk r (λ (end : ModesEnd). ComesTo (At (pos from)) (At (pos to)) (lines_of bytes) end.status end.lines) → IfOk r (λ (end : ModesEnd). ModesEnds from to left left_after faults faults_after end.status end.lines)
-ends_answered (Ok end) from to left left_after faults faults_after bytes reads ends = answered bytes end.status end.lines reads ends
-ends_answered (Err refused) from to left left_after faults faults_after bytes reads ends = tt
+pub ends_answered : (r : Result ModesEnd OutOfMemory) (from to : ℕ) (left left_after : Option (List ℕ)) (faults faults_after : ℕ) (broken : Bool) (bytes : List ℕ) → ReadsToEnd left left_after bytes → faults_after ≡ faults →
+    IfOk r (λ (end : ModesEnd). ComesTo (At (pos from)) (At (pos to)) (lines_of bytes) end.status end.lines) → IfOk r (λ (end : ModesEnd). ModesEnds from to left left_after faults faults_after broken end.status end.lines)
+ends_answered (Ok end) from to left left_after faults faults_after broken bytes reads steady ends = answered bytes end.status end.lines reads ends steady
+ends_answered (Err refused) from to left left_after faults faults_after broken bytes reads steady ends = tt
+
+-- what holds anyhow holds if memory ran out
+pub on_err : (r : Result ModesEnd OutOfMemory) (P : Type 0) → P → OnErr r P
+on_err (Ok end) P p = tt
+on_err (Err refused) P p = p
+
+-- an input that is too long has not failed
+pub not_failed : (r : Result (List ℕ) TakeFault) → r ≡ Err TooLong → r ≢ Err Failed
+not_failed r long failed = cc

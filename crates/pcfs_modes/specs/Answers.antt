@@ -1,6 +1,6 @@
 -- What the table of modes in an input comes to: the status that a run of it ends with, and what it
 -- writes (this project's own).
-use Rattle.std.specs.Prelude.{◌≤◌, ◌<◌, ℕ, List, length, codes, pos, Option}
+use Rattle.std.specs.Prelude.{◌≡◌, ◌≤◌, ◌<◌, ℕ, List, length, codes, pos, Bool, true, Option}
 use Rattle.bl_syntax.specs.declared.limits.TheConstants.{MOST_STATEMENTS}
 use Rattle.bl_syntax.specs.declared.terms.TimePoint.{TimePoint}
 use Rattle.bl_syntax.specs.declared.terms.TimePoint.TheVariants.{At}
@@ -9,7 +9,7 @@ use Rattle.mode_policy.specs.declared.fault.ModeFault.TheVariants.{BadLine, Twic
 use Rattle.mode_policy.specs.Lines.{AreOfTable, IsBad, IsFirst, IsTwice}
 use Rattle.mode_policy.specs.Statements.{statements_of}
 use Rattle.mode_policy.specs.Table.{TableView}
-use Rattle.pcfs_ports.specs.Faults.{HasRisen}
+use Rattle.pcfs_ports.specs.Faults.{raise}
 use Rattle.pcfs_ports.specs.Observable.{ReadsToEnd, TakesFirst}
 use Rattle.pcfs_modes.specs.ModesText.{fault_line, register_lines}
 
@@ -31,15 +31,14 @@ pub data ComesTo (from to : TimePoint) (lines : List (List ℕ)) : ℕ → List 
       ComesTo from to lines 15 (fault_line (Twice number))
 
 -- The status that the table in an input ends with, whose statements hold from one second to
--- another, and what has to be
--- written, with the ends of its lines. `left` and `faults` are what the input has left and the
--- count of its faults.
-pub data ModesEnds (from to : ℕ) (left left_after : Option (List ℕ)) (faults faults_after : ℕ) : ℕ →
-    List ℕ → Type 0 where
+-- another, and what has to be written, with the ends of its lines. At a fault of the input one call
+-- of it failed, and it was the last; at each other end none did. `left` and `faults` are what the
+-- input has left and the count of its faults, and `broken` says whether its last call failed.
+pub data ModesEnds (from to : ℕ) (left left_after : Option (List ℕ)) (faults faults_after : ℕ) (broken : Bool) : ℕ → List ℕ → Type 0 where
   answered : (bytes : List ℕ) (status : ℕ) (written : List ℕ) → ReadsToEnd left left_after bytes →
       ComesTo (At (pos from)) (At (pos to)) (lines_of bytes) status written →
-      ModesEnds from to left left_after faults faults_after status written
-  read_fault : HasRisen faults faults_after →
-      ModesEnds from to left left_after faults faults_after 6 (codes "readfault\n")
-  too_long : TakesFirst 1073741824 left left_after →
-      ModesEnds from to left left_after faults faults_after 13 (codes "toolong\n")
+      faults_after ≡ faults → ModesEnds from to left left_after faults faults_after broken status written
+  read_fault : faults_after ≡ raise faults → broken ≡ true →
+      ModesEnds from to left left_after faults faults_after broken 6 (codes "readfault\n")
+  too_long : TakesFirst 1073741824 left left_after → faults_after ≡ faults →
+      ModesEnds from to left left_after faults faults_after broken 13 (codes "toolong\n")

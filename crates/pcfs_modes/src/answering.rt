@@ -1,6 +1,6 @@
 //! What the table of modes in an input comes to.
 
-ghost use Rattle.std.specs.Prelude.{◌≡◌, ◌≢◌, ◌≤◌, pos, length, IfOk, OnOk};
+ghost use Rattle.std.specs.Prelude.{◌≡◌, ◌≢◌, ◌≤◌, pos, length, IfOk, OnOk, OnErr};
 ghost use Rattle.bl_syntax.specs.declared.limits.TheConstants.{MOST_STATEMENTS};
 ghost use Rattle.bl_syntax.specs.TimeOrder.{IsInRange};
 ghost use Rattle.bl_syntax.specs.declared.terms.TimePoint.TheVariants.{At};
@@ -117,7 +117,8 @@ fn text_end(
 
 /// Reads the input to its end, and answers with a line for each statement of the table of modes in it, which registers it from
 /// one second to another. What ends it otherwise is told in one line, with its status: 6, the input failed; 13, the input has
-/// 1 GiB or more; 15, a line is the first that is wrong, or there are more than 4,096 statements.
+/// 1 GiB or more; 15, a line is the first that is wrong, or there are more than 4,096 statements. After a read that failed
+/// nothing is read, and if memory runs out no read has failed.
 pub fn answer_table<I: Source>(
     alloc: Global,
     from: u64,
@@ -126,11 +127,14 @@ pub fn answer_table<I: Source>(
 ) -> Result<ModesEnd, NoMemory>
     requires from { from ≤ 253402300799 }
     requires to { to ≤ 253402300799 }
-    ensures { IfOk result (λ end. ModesEnds from to (I.left input.old) (I.left input.new) (I.faults input.old) (I.faults input.new) end.status end.lines) }
+    ensures ends { IfOk result (λ end. ModesEnds from to (I.left input.old) (I.left input.new) (I.faults input.old) (I.faults input.new)
+        (I.broken input.new) end.status end.lines) }
+    ensures steady { OnErr result (I.faults input.new ≡ I.faults input.old) }
 {
+    let failed = unread_end(alloc, READ_FAULT, "readfault\n")?;
     match read_to_end(alloc, input) {
         Ok(bytes) => text_end(alloc, point_at(from), point_at(to), bytes.as_slice()),
-        Err(TakeFault::Failed) => unread_end(alloc, READ_FAULT, "readfault\n"),
+        Err(TakeFault::Failed) => Ok(failed),
         Err(TakeFault::TooLong) => unread_end(alloc, TOO_LONG, "toolong\n"),
         Err(TakeFault::NoMemory) => Err(NoMemory),
     }

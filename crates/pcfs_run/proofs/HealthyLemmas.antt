@@ -147,17 +147,17 @@ module _ (secrets : Secrets) (words : List (String Global)) (before after : Serv
 
   -- ---- an inquiry
 
-  by_answer : (status : ℕ) (line : List ℕ) → AsksFor words Check → InquiryEnds before.ports.streams.left after.ports.streams.left before.ports.streams.read_faults after.ports.streams.read_faults status line → Ends status
-  by_answer _ _ asks (inquiries.answered bytes statements goal proof reads short is) = healthy.done
-  by_answer _ _ asks (inquiries.bad_line bytes number fault reads short first) = healthy.inquiry_wrong bytes number fault asks reads short first
-  by_answer _ _ asks (inquiries.long_line bytes reads long) = healthy.inquiry_long bytes asks reads long
-  by_answer _ _ asks (inquiries.read_fault risen) = absurd (sound.input risen)
-  by_answer _ _ asks (inquiries.too_long first) = healthy.inquiry_too_many_bytes asks first
+  by_answer : (status : ℕ) (line : List ℕ) → AsksFor words Check → InquiryEnds before.ports.streams.left after.ports.streams.left before.ports.streams.read_faults after.ports.streams.read_faults after.ports.broken.input status line → Ends status
+  by_answer _ _ asks (inquiries.answered bytes statements goal proof reads short is steady) = healthy.done
+  by_answer _ _ asks (inquiries.bad_line bytes number fault reads short first steady) = healthy.inquiry_wrong bytes number fault asks reads short first
+  by_answer _ _ asks (inquiries.long_line bytes reads long steady) = healthy.inquiry_long bytes asks reads long
+  by_answer _ _ asks (inquiries.read_fault by_one broken) = absurd (no_read_failed (by_one, broken))
+  by_answer _ _ asks (inquiries.too_long first steady) = healthy.inquiry_too_many_bytes asks first
 
-  of_inquiry : (status : ℕ) → AsksFor words Check → TellsInquiry before.ports.streams after.ports.streams after.ports.broken.output status → Ends status
+  of_inquiry : (status : ℕ) → AsksFor words Check → TellsInquiry before.ports.streams after.ports.streams after.ports.broken status → Ends status
   of_inquiry status asks (inquired.answered found line ends (inl told)) = subst Ends (sym told.0) (by_answer found line asks ends)
   of_inquiry status asks (inquired.answered found line ends (inr failed)) = absurd (no_write_failed failed.1)
-  of_inquiry status asks (inquired.unanswered untold) = subst Ends (sym untold.0) healthy.out_of_memory
+  of_inquiry status asks (inquired.unanswered untold steady) = subst Ends (sym untold.0) healthy.out_of_memory
 
   -- ---- a table of modes
 
@@ -168,15 +168,15 @@ module _ (secrets : Secrets) (words : List (String Global)) (before after : Serv
     by_text bytes _ _ reads (tables.bad_line number first) = healthy.table_wrong from to bytes _ asks reads (tables.bad_line number first)
     by_text bytes _ _ reads (tables.twice number first) = healthy.table_wrong from to bytes _ asks reads (tables.twice number first)
 
-    by_table : (status : ℕ) (written : List ℕ) → ModesEnds from to before.ports.streams.left after.ports.streams.left before.ports.streams.read_faults after.ports.streams.read_faults status written → Ends status
-    by_table _ _ (tables.answered bytes status written reads comes) = by_text bytes status written reads comes
-    by_table _ _ (tables.read_fault risen) = absurd (sound.input risen)
-    by_table _ _ (tables.too_long first) = healthy.table_too_many_bytes from to asks first
+    by_table : (status : ℕ) (written : List ℕ) → ModesEnds from to before.ports.streams.left after.ports.streams.left before.ports.streams.read_faults after.ports.streams.read_faults after.ports.broken.input status written → Ends status
+    by_table _ _ (tables.answered bytes status written reads comes steady) = by_text bytes status written reads comes
+    by_table _ _ (tables.read_fault by_one broken) = absurd (no_read_failed (by_one, broken))
+    by_table _ _ (tables.too_long first steady) = healthy.table_too_many_bytes from to asks first
 
-    of_modes : (status : ℕ) → TellsModes from to before.ports.streams after.ports.streams after.ports.broken.output status → Ends status
+    of_modes : (status : ℕ) → TellsModes from to before.ports.streams after.ports.streams after.ports.broken status → Ends status
     of_modes status (stated.stated found written ends (inl told)) = subst Ends (sym told.0) (by_table found written ends)
     of_modes status (stated.stated found written ends (inr failed)) = absurd (no_write_failed failed.1)
-    of_modes status (stated.unstated untold) = subst Ends (sym untold.0) healthy.out_of_memory
+    of_modes status (stated.unstated untold steady) = subst Ends (sym untold.0) healthy.out_of_memory
 
   -- ---- statements to be signed
 
@@ -189,16 +189,16 @@ module _ (secrets : Secrets) (words : List (String Global)) (before after : Serv
     by_lines bytes status written reads short comes (inr (inr spent)) =
         subst Ends (sym spent) (healthy.leaves_spent height from bytes written asks reads short (subst (λ (n : ℕ). signing.ComesTo height from (lines_of bytes) n written) spent comes))
 
-    by_signing : (status : ℕ) (written : List ℕ) → signing.SigningEnds height from before.ports.streams.left after.ports.streams.left before.ports.streams.read_faults after.ports.streams.read_faults status written → Ends status
-    by_signing _ _ (signing.answered bytes status written reads short comes) = by_lines bytes status written reads short comes (status_of_end height from (lines_of bytes) status written comes)
-    by_signing _ _ (signing.long_line bytes reads long) = healthy.signing_long height from bytes asks reads long
-    by_signing _ _ (signing.read_fault risen) = absurd (sound.input risen)
-    by_signing _ _ (signing.too_long first) = healthy.signing_too_many_bytes height from asks first
+    by_signing : (status : ℕ) (written : List ℕ) → signing.SigningEnds height from before.ports.streams.left after.ports.streams.left before.ports.streams.read_faults after.ports.streams.read_faults after.ports.broken.input status written → Ends status
+    by_signing _ _ (signing.answered bytes status written reads short comes steady) = by_lines bytes status written reads short comes (status_of_end height from (lines_of bytes) status written comes)
+    by_signing _ _ (signing.long_line bytes reads long steady) = healthy.signing_long height from bytes asks reads long
+    by_signing _ _ (signing.read_fault by_one broken) = absurd (no_read_failed (by_one, broken))
+    by_signing _ _ (signing.too_long first steady) = healthy.signing_too_many_bytes height from asks first
 
-    of_signing : (status : ℕ) → TellsSigning height from before.ports.streams after.ports.streams after.ports.broken.output status → Ends status
+    of_signing : (status : ℕ) → TellsSigning height from before.ports.streams after.ports.streams after.ports.broken status → Ends status
     of_signing status (signed.signed found written ends (inl told)) = subst Ends (sym told.0) (by_signing found written ends)
     of_signing status (signed.signed found written ends (inr failed)) = absurd (no_write_failed failed.1)
-    of_signing status (signed.unsigned untold) = subst Ends (sym untold.0) healthy.out_of_memory
+    of_signing status (signed.unsigned untold steady) = subst Ends (sym untold.0) healthy.out_of_memory
 
   -- ---- a run with one line
 
@@ -256,5 +256,5 @@ module _ (secrets : Secrets) (words : List (String Global)) (before after : Serv
   pub EndsHealthy-run : (of_session of_nine : PassEntries) (rests : Rests) (status : ℕ) → RunEnds of_session of_nine secrets words rests before after status → Ends status
   EndsHealthy-run of_session of_nine rests _ (serving.serves status port count serves input ends) = of_serving of_session rests port count (inl serves) status ends
   EndsHealthy-run of_session of_nine rests _ (serving.serves_nine status port count serves input ends) = of_serving of_nine rests port count (inr serves) status ends
-  EndsHealthy-run of_session of_nine rests _ (serving.unread same net input out writes) = healthy.out_of_memory
+  EndsHealthy-run of_session of_nine rests _ (serving.unread disks net input out writes) = healthy.out_of_memory
   EndsHealthy-run of_session of_nine rests _ (serving.alone status alone apart ends net) = of_run rests status alone apart ends

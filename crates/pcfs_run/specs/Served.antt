@@ -86,12 +86,11 @@ root_under secrets generation image base = record {
   image_length = length image;
 }
 
--- The store on the disks was opened, and connections had sessions over it. The history that was
--- found is that of the newest area, from its image. Its events at the end are those, and then the
--- ones that the sessions' passes added, and the checkpoints are those that these passes made, each
--- after its
--- number of events: each of them was added in a turn of a line of its pass's session; the events
--- are lawful, so the headline holds of them. Unless a disk failed, the newest area has the
+-- The store on the disks was opened, and connections had sessions over it, or spoke 9P2000 with it.
+-- The history that was found is that of the newest area, from its image. Its events at the end are
+-- those, and then the ones that the passes of the connections added, and the checkpoints are those
+-- that these passes made, each after its number of events: each of them was added in a turn of a line
+-- of its pass's session, or of a message of its connection; the events are lawful, so the headline holds of them. Unless a disk failed, the newest area has the
 -- generation of the opened one, and one more for each checkpoint, and stands for the state at the
 -- last of these, or for
 -- the opened base if there is none, and the events since; it is on the other disk after each of
@@ -99,8 +98,8 @@ root_under secrets generation image base = record {
 -- failed in a turn of some pass, its count rose; and if the opened area had its closed gate, the
 -- newest one stands
 -- for these events, or, in a step, for them with the event that the step was keeping, which may
--- follow them: this is in the mark, which is one of the entries of the pass's session, so that a
--- line of the session asks for it. The area that did not count is as it was, if no checkpoint was
+-- follow them: this is in the mark, which is one of the entries of the pass, so that a line of its
+-- session, or a message, asks for it. The area that did not count is as it was, if no checkpoint was
 -- made; only if
 -- one was tried, its disk may have failed, and then the mark has no event.
 pub record IsServed (is_of : PassEntries) (secrets : Secrets) (rests : Rests) (before after : Disks) (attended count : ℕ) (stop : Option ℕ) : Type 0 where
@@ -218,7 +217,7 @@ pub data RunEnds (of_session of_nine : PassEntries) (secrets : Secrets)
       IsInputKept before.ports.streams after.ports.streams →
       EndsServing of_nine secrets count rests before after status →
       RunEnds of_session of_nine secrets words rests before after status
-  unread : AreBytesKept before.ports.disks after.ports.disks → IsNetKept before.net after.net →
+  unread : after.ports.disks ≡ before.ports.disks → IsNetKept before.net after.net →
       IsInputKept before.ports.streams after.ports.streams →
       after.ports.streams.held ≡ before.ports.streams.held →
       after.ports.streams.write_faults ≡ before.ports.streams.write_faults →

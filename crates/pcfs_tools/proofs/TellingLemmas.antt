@@ -15,6 +15,7 @@ use Rattle.pcfs_session.specs.ScriptEnds.{with_line_end}
 use Rattle.pcfs_session.specs.Streams.{Streams}
 use Rattle.policy_statement.specs.Ring.{KeyView}
 use Rattle.pcfs_tools.specs.Audited.{TellsAudit, reported, unreported, audit_status}
+use Rattle.pcfs_tools.specs.Broken.{Broken}
 use Rattle.pcfs_tools.specs.Inquired.{TellsInquiry, answered}
 use Rattle.pcfs_tools.specs.LastLine.{Wrote, WroteNothing, IsWritten}
 use Rattle.pcfs_tools.specs.Signed.{TellsSigning, signed}
@@ -63,22 +64,22 @@ TellsAudit-same authority base base' events events' held held_after faults fault
 
 -- ---- inquiries
 
-pub TellsInquiry-told : (before after : Streams) (status : ℕ) (text line bytes : List ℕ) (result : ℕ) (broken : Bool) → bytes ≡ line → line ≡ with_line_end text → InquiryEnds before.left after.left before.read_faults after.read_faults status text →
-    IsWritten status bytes before.held before.write_faults result after.held after.write_faults broken → TellsInquiry before after broken result
+pub TellsInquiry-told : (before after : Streams) (status : ℕ) (text line bytes : List ℕ) (result : ℕ) (broken : Broken) → bytes ≡ line → line ≡ with_line_end text → InquiryEnds before.left after.left before.read_faults after.read_faults broken.input status text →
+    IsWritten status bytes before.held before.write_faults result after.held after.write_faults broken.output → TellsInquiry before after broken result
 TellsInquiry-told before after status text line bytes result broken same is ends writes =
-    answered status text ends (Wrote-line status text line before.held after.held before.write_faults after.write_faults result broken is
-    (subst (λ (b : List ℕ). IsWritten status b before.held before.write_faults result after.held after.write_faults broken) same writes))
+    answered status text ends (Wrote-line status text line before.held after.held before.write_faults after.write_faults result broken.output is
+    (subst (λ (b : List ℕ). IsWritten status b before.held before.write_faults result after.held after.write_faults broken.output) same writes))
 
 -- ---- tables of modes
 
-pub TellsModes-told : (from to : ℕ) (before after : Streams) (status : ℕ) (written bytes : List ℕ) (result : ℕ) (broken : Bool) → bytes ≡ written → ModesEnds from to before.left after.left before.read_faults after.read_faults status written →
-    IsWritten status bytes before.held before.write_faults result after.held after.write_faults broken → TellsModes from to before after broken result
+pub TellsModes-told : (from to : ℕ) (before after : Streams) (status : ℕ) (written bytes : List ℕ) (result : ℕ) (broken : Broken) → bytes ≡ written → ModesEnds from to before.left after.left before.read_faults after.read_faults broken.input status written →
+    IsWritten status bytes before.held before.write_faults result after.held after.write_faults broken.output → TellsModes from to before after broken result
 TellsModes-told from to before after status written bytes result broken is ends writes =
-    stated status written ends (subst (λ (b : List ℕ). IsWritten status b before.held before.write_faults result after.held after.write_faults broken) is writes)
+    stated status written ends (subst (λ (b : List ℕ). IsWritten status b before.held before.write_faults result after.held after.write_faults broken.output) is writes)
 
 -- ---- statements to be signed
 
-pub TellsSigning-told : (height from : ℕ) (before after : Streams) (status : ℕ) (written bytes : List ℕ) (result : ℕ) (broken : Bool) → bytes ≡ written → SigningEnds height from before.left after.left before.read_faults after.read_faults status written →
-    IsWritten status bytes before.held before.write_faults result after.held after.write_faults broken → TellsSigning height from before after broken result
+pub TellsSigning-told : (height from : ℕ) (before after : Streams) (status : ℕ) (written bytes : List ℕ) (result : ℕ) (broken : Broken) → bytes ≡ written → SigningEnds height from before.left after.left before.read_faults after.read_faults broken.input status written →
+    IsWritten status bytes before.held before.write_faults result after.held after.write_faults broken.output → TellsSigning height from before after broken result
 TellsSigning-told height from before after status written bytes result broken is ends writes =
-    signed status written ends (subst (λ (b : List ℕ). IsWritten status b before.held before.write_faults result after.held after.write_faults broken) is writes)
+    signed status written ends (subst (λ (b : List ℕ). IsWritten status b before.held before.write_faults result after.held after.write_faults broken.output) is writes)

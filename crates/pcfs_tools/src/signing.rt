@@ -1,6 +1,7 @@
 //! The statements in an input, and the lines that register them by a tree of hashes.
 
 ghost use Rattle.std.specs.Prelude.{◌≤◌, ◌^◌};
+ghost use Rattle.pcfs_tools.specs.Broken.{broken_of};
 ghost use Rattle.pcfs_tools.specs.Signed.{TellsSigning};
 ghost use Rattle.pcfs_session.specs.Streams.{streams_of};
 
@@ -22,7 +23,8 @@ pub fn sign_statements<I: Source, O: Sink>(
     requires within { from ≤ 2 ^ height }
     ensures { TellsSigning height from
         (streams_of I.left I.faults O.held O.faults input.old output.old)
-        (streams_of I.left I.faults O.held O.faults input.new output.new) (O.broken output.new) result }
+        (streams_of I.left I.faults O.held O.faults input.new output.new)
+        (broken_of I.broken O.broken input.new output.new) result }
 {
     match answer_signing(alloc, height, from, input) {
         Ok(end) => write_last_line(output, end.lines.as_slice(), end.status),

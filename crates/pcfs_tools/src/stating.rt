@@ -1,6 +1,7 @@
 //! The table of modes in an input, and the lines that register its statements.
 
 ghost use Rattle.std.specs.Prelude.{◌≤◌};
+ghost use Rattle.pcfs_tools.specs.Broken.{broken_of};
 ghost use Rattle.pcfs_tools.specs.Stated.{TellsModes};
 ghost use Rattle.pcfs_session.specs.Streams.{streams_of};
 
@@ -22,7 +23,8 @@ pub fn state_table<I: Source, O: Sink>(
     requires to { to ≤ 253402300799 }
     ensures { TellsModes from to
         (streams_of I.left I.faults O.held O.faults input.old output.old)
-        (streams_of I.left I.faults O.held O.faults input.new output.new) (O.broken output.new) result }
+        (streams_of I.left I.faults O.held O.faults input.new output.new)
+        (broken_of I.broken O.broken input.new output.new) result }
 {
     match answer_table(alloc, from, to, input) {
         Ok(end) => write_last_line(output, end.lines.as_slice(), end.status),

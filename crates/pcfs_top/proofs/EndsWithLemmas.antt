@@ -68,7 +68,7 @@ told_as : (words : List (String Global)) (secrets : Secrets) (rests : Rests) (be
 told_as words secrets rests before after status line result cause input (inl told) = subst (EndsWith secrets words rests before after) (sym told.0) (run.told status line cause input told.1 told.2)
 told_as words secrets rests before after status line result cause input (inr failed) = subst (EndsWith secrets words rests before after) (sym failed.0) (run.cut_short status line cause input failed.1 failed.2)
 
-untold_as : (words : List (String Global)) (secrets : Secrets) (rests : Rests) (before after : Ports) (result : ℕ) → AreBytesKept before.disks after.disks → IsInputKept before.streams after.streams →
+untold_as : (words : List (String Global)) (secrets : Secrets) (rests : Rests) (before after : Ports) (result : ℕ) → run.IsUndone words before.disks after.disks → IsInputKept before.streams after.streams →
     WroteNothing before.streams.held before.streams.write_faults result after.streams.held after.streams.write_faults → EndsWith secrets words rests before after result
 untold_as words secrets rests before after result kept input untold = subst (EndsWith secrets words rests before after) (sym untold.0) (run.out_of_memory kept input untold.1 untold.2)
 
@@ -262,12 +262,12 @@ module _ {D : Type 0} (clock : D → ℕ) (left_since : D → ℕ → List ℕ �
     EndsWith-unmade before after broken broken' result formats.Disk a' b' already same risen lost input tells =
         told_as words secrets (rests_of a b a' b') (record { streams = before; broken = broken; disks = disks_of a b }) (record { streams = after; broken = broken'; disks = disks_of a' b' }) 5 (codes "stopped") result (run.not_made is (risen refl) lost) input tells
     EndsWith-unmade before after broken broken' result formats.NoMemory a' b' already same risen lost input tells =
-        untold_as words secrets (rests_of a b a' b') (record { streams = before; broken = broken; disks = disks_of a b }) (record { streams = after; broken = broken'; disks = disks_of a' b' }) result (kept a' b' (same (λ e. absurd cc))) input tells
+        untold_as words secrets (rests_of a b a' b') (record { streams = before; broken = broken; disks = disks_of a b }) (record { streams = after; broken = broken'; disks = disks_of a' b' }) result (run.in_init is (kept a' b' (same (λ e. absurd cc)))) input tells
 
     -- memory ran out at first
     pub EndsWith-unbegun : (before after : Streams) (broken broken' : Broken) → IsInputKept before after → after.held ≡ before.held → after.write_faults ≡ before.write_faults → EndsWith secrets words (rests_of a b a b) (record { streams = before; broken = broken; disks = disks_of a b }) (record { streams = after; broken = broken'; disks = disks_of a b }) 9
     EndsWith-unbegun before after broken broken' input held writes =
-        untold_as words secrets (rests_of a b a b) (record { streams = before; broken = broken; disks = disks_of a b }) (record { streams = after; broken = broken'; disks = disks_of a b }) 9 (record { a_stays = refl; b_stays = refl }) input (refl, held, writes)
+        untold_as words secrets (rests_of a b a b) (record { streams = before; broken = broken; disks = disks_of a b }) (record { streams = after; broken = broken'; disks = disks_of a b }) 9 (run.untouched refl) input (refl, held, writes)
 
   -- ---- a store that is opened
 
@@ -304,16 +304,16 @@ module _ {D : Type 0} (clock : D → ℕ) (left_since : D → ℕ → List ℕ �
         told_as words secrets (rests_of a b a' b') (record { streams = before; broken = broken; disks = disks_of a b }) (record { streams = after; broken = broken'; disks = disks_of a' b' }) 3 (damaged_text number damage) result
         (run.damaged number damage over n.cause (same_bytes (opens.Damaged number damage) a' b' (λ e. absurd cc) n)) input tells
     EndsWith-unopened before after broken broken' result (opens.Damaged number damage) a' b' n input (inr tells) =
-        untold_as words secrets (rests_of a b a' b') (record { streams = before; broken = broken; disks = disks_of a b }) (record { streams = after; broken = broken'; disks = disks_of a' b' }) result (same_bytes (opens.Damaged number damage) a' b' (λ e. absurd cc) n) input tells
+        untold_as words secrets (rests_of a b a' b') (record { streams = before; broken = broken; disks = disks_of a b }) (record { streams = after; broken = broken'; disks = disks_of a' b' }) result (run.over_store over (same_bytes (opens.Damaged number damage) a' b' (λ e. absurd cc) n)) input tells
     EndsWith-unopened before after broken broken' result opens.Disk a' b' n input tells =
         told_as words secrets (rests_of a b a' b') (record { streams = before; broken = broken; disks = disks_of a b }) (record { streams = after; broken = broken'; disks = disks_of a' b' }) 5 (codes "stopped") result
         (run.not_opened over n.cause (λ rest. record { a_stays = n.first_handled.stays rest.0; b_stays = n.second_handled.stays rest.1 })) input tells
     EndsWith-unopened before after broken broken' result opens.NoMemory a' b' n input tells =
-        untold_as words secrets (rests_of a b a' b') (record { streams = before; broken = broken; disks = disks_of a b }) (record { streams = after; broken = broken'; disks = disks_of a' b' }) result (same_bytes opens.NoMemory a' b' (λ e. absurd cc) n) input tells
+        untold_as words secrets (rests_of a b a' b') (record { streams = before; broken = broken; disks = disks_of a b }) (record { streams = after; broken = broken'; disks = disks_of a' b' }) result (run.over_store over (same_bytes opens.NoMemory a' b' (λ e. absurd cc) n)) input tells
 
     pub EndsWith-unread : (before after : Streams) (broken broken' : Broken) → IsInputKept before after → after.held ≡ before.held → after.write_faults ≡ before.write_faults → EndsWith secrets words (rests_of a b a b) (record { streams = before; broken = broken; disks = disks_of a b }) (record { streams = after; broken = broken'; disks = disks_of a b }) 9
     EndsWith-unread before after broken broken' input held writes =
-        untold_as words secrets (rests_of a b a b) (record { streams = before; broken = broken; disks = disks_of a b }) (record { streams = after; broken = broken'; disks = disks_of a b }) 9 (record { a_stays = refl; b_stays = refl }) input (refl, held, writes)
+        untold_as words secrets (rests_of a b a b) (record { streams = before; broken = broken; disks = disks_of a b }) (record { streams = after; broken = broken'; disks = disks_of a b }) 9 (run.untouched refl) input (refl, held, writes)
 
     is_opened : (s : StoreView D) → IsStore s → opening.IsOpened clock left_since image faults a b secrets.seal_key secrets.ring s → IsOpened secrets s.generation s.opened (disks_of a b) (standing_over s None (first_asker script_pass))
     is_opened s store opened = record {
@@ -337,7 +337,7 @@ module _ {D : Type 0} (clock : D → ℕ) (left_since : D → ℕ → List ℕ �
         (subst (IsPinned clock left_since image) (sym a_is) opened.first_read.pinned, subst (IsPinned clock left_since image) (sym b_is) opened.second_read.pinned)) input tells
     EndsWith-audited pieces before after broken broken' result s a' b' asks store opened (unreported untold) input a_is b_is =
         untold_as words secrets (rests_of a b a' b') (record { streams = before; broken = broken; disks = disks_of a b }) (record { streams = after; broken = broken'; disks = disks_of a' b' }) result
-        (record { a_stays = ap image a_is ∙ opened.first_read.same; b_stays = ap image b_is ∙ opened.second_read.same }) input untold
+        (run.over_store over (record { a_stays = ap image a_is ∙ opened.first_read.same; b_stays = ap image b_is ∙ opened.second_read.same })) input untold
 
     -- an export leaves the disks as they were
     pub EndsWith-exported : (from : ℕ) (before after : Streams) (broken broken' : Broken) (result : ℕ) (s : StoreView D) (a' b' : D) → AsksFor words (Export from) → IsStore s → opening.IsOpened clock left_since image faults a b secrets.seal_key secrets.ring s →
@@ -453,7 +453,7 @@ module _ {D : Type 0} (clock : D → ℕ) (left_since : D → ℕ → List ℕ �
         (λ x y is_x is_y closed x' y' is_x' is_y'. made.halts (opened.ready x y is_x is_y closed) refl x' y' (may_stay (first_disk s') x' is_x') (may_stay (second_disk s') y' is_y'))) input tells
     ends before after broken broken' result checkpoints.NoMemory made input tells =
         untold_as words secrets (rests_of a b (first_disk s') (second_disk s')) (record { streams = before; broken = broken; disks = disks_of a b }) (record { streams = after; broken = broken'; disks = disks_of (first_disk s') (second_disk s') }) result
-        (kept_by (unmade_same s s' pass made.answer)) input tells
+        (run.over_store (of_checkpoint is) (kept_by (unmade_same s s' pass made.answer))) input tells
 
     pub EndsWith-checkpointed : (before after : Streams) (broken broken' : Broken) (result : ℕ) (reply : CheckpointReply) (a' b' : D) → Checkpoints clock left_since image faults s pass reply s' → IsInputKept before after →
         TellsCheckpoint reply before.held before.write_faults result after.held after.write_faults broken'.output → a' ≡ first_disk s' → b' ≡ second_disk s' →
@@ -514,7 +514,7 @@ module _ {D : Type 0} (clock : D → ℕ) (left_since : D → ℕ → List ℕ �
 
 pub EndsWith-unasked : (words : List (String Global)) (secrets : Secrets) (rests : Rests) (before after : Ports) → after.disks ≡ before.disks → IsInputKept before.streams after.streams → after.streams.held ≡ before.streams.held → after.streams.write_faults ≡ before.streams.write_faults →
     EndsWith secrets words rests before after 9
-EndsWith-unasked words secrets rests before after same input held writes = run.out_of_memory (record { a_stays = ap (λ (d : Disks). d.a) same; b_stays = ap (λ (d : Disks). d.b) same }) input held writes
+EndsWith-unasked words secrets rests before after same input held writes = run.out_of_memory (run.untouched same) input held writes
 
 -- ---- a large run
 
@@ -525,4 +525,4 @@ EndsWith-loaded words secrets rests before after rounds seed result is same inpu
     told_as words secrets rests before after 0 loaded.0 result (run.loaded rounds seed loaded.0 is loaded.1 same) input loaded.2
 EndsWith-loaded words secrets rests before after rounds seed result is same input (inr untold) =
     untold_as words secrets rests before after result
-    (record { a_stays = ap (λ (d : Disks). d.a) same; b_stays = ap (λ (d : Disks). d.b) same }) input untold
+    (run.untouched same) input untold

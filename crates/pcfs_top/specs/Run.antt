@@ -229,6 +229,13 @@ TellsUnmade formats.AlreadyStore held faults result held_after faults_after brok
 TellsUnmade formats.Disk held faults result held_after faults_after broken = Wrote 5 (codes "stopped") held faults result held_after faults_after broken
 TellsUnmade formats.NoMemory held faults result held_after faults_after broken = WroteNothing held faults result held_after faults_after
 
+-- Memory ran out, and nothing changed: the disks are as they were, also if a command over them was
+-- asked for; or one was, they were read for it, and the bytes are as they were.
+pub data IsUndone (words : List (String Global)) (before after : Disks) : Type 0 where
+  untouched : after ≡ before → IsUndone words before after
+  in_init : AsksFor words Init → AreBytesKept before after → IsUndone words before after
+  over_store : AreOfStore words → AreBytesKept before after → IsUndone words before after
+
 -- The status that a run ends with, and its cause. A script in memory ends as its lines say, and
 -- leaves the disks alone; its own disks are in memory, and fail only if memory runs out. A script
 -- over the areas begins where they stand, and so do messages that are taken by their store. An
@@ -237,8 +244,7 @@ TellsUnmade formats.NoMemory held faults result held_after faults_after broken =
 -- run writes its line, or the output failed, at its last call, and holds some first part of it; an
 -- audit, the lines of its report. Memory may run out before that, and then nothing changes.
 -- At an end by a fault of the output one call of it failed, and it was the last, and at each other
--- end none; so it is with the input of a script and of messages, and of an input that is not read no
--- call failed.
+-- end none; so it is with an input that is read, and of one that is not read no call failed.
 pub data EndsWith (secrets : Secrets) (words : List (String Global)) (rests : Rests) (before after : Ports) : ℕ → Type 0 where
   in_memory : (status : ℕ) → AsksFor words Script → after.disks ≡ before.disks →
       MemoryEnds secrets before.streams after.streams after.broken status →
@@ -273,16 +279,16 @@ pub data EndsWith (secrets : Secrets) (words : List (String Global)) (rests : Re
       HoldsSome before.streams.held after.streams.held (with_line_end line) →
       EndsWith secrets words rests before after 7
   inquired : (status : ℕ) → AsksFor words Check → after.disks ≡ before.disks →
-      TellsInquiry before.streams after.streams after.broken.output status →
+      TellsInquiry before.streams after.streams after.broken status →
       EndsWith secrets words rests before after status
   modes_told : (from to status : ℕ) → AsksFor words (Modes from to) → after.disks ≡ before.disks →
-      TellsModes from to before.streams after.streams after.broken.output status →
+      TellsModes from to before.streams after.streams after.broken status →
       EndsWith secrets words rests before after status
   signing_told : (height from status : ℕ) → AsksFor words (RootSign height from) →
       after.disks ≡ before.disks →
-      TellsSigning height from before.streams after.streams after.broken.output status →
+      TellsSigning height from before.streams after.streams after.broken status →
       EndsWith secrets words rests before after status
-  out_of_memory : AreBytesKept before.disks after.disks → IsInputKept before.streams after.streams →
-      after.streams.held ≡ before.streams.held →
+  out_of_memory : IsUndone words before.disks after.disks →
+      IsInputKept before.streams after.streams → after.streams.held ≡ before.streams.held →
       after.streams.write_faults ≡ before.streams.write_faults →
       EndsWith secrets words rests before after 9

@@ -467,20 +467,20 @@ pub fn run_asked<R: Threads + Wait + Sync, I: Source, O: Sink, D: Disk>(
 /// statements are accepted whose signature their ring accepts.
 ///
 /// Returns the disks and the status to end with: 0, all is done, and of `init` the last line is `ok`, of `checkpoint`
-/// `ok checkpoint`; 1, the words are
-/// others, and the last line is `usage`; 2, a line has more than 262,144 bytes: `bad 3`; 3, the newest area is damaged, and
-/// the last line is `damaged` with the number of the record and the cause; 4, neither area is open: `nostore`; 5, a disk
-/// failed: `stopped`; 6, the input failed: `readfault`; 7, the output failed, and may lack any of its end; 9, memory ran out,
-/// without a last line; 10, an area is open already: `exists`; 11, the report of the audit has a row; 12, a line of the
-/// inquiry or of `rootsign` is wrong: `line` with its number, `bad`, and the fault; 13, the input has 1 GiB or more: `toolong`;
-/// 14, the image of a checkpoint does not fit into an area, or there is no next generation: `full`; 15, a line of the table of
-/// modes is wrong: `line` with its number, and `mode 1` or `mode 2`, or its statements are more than 4,096: `mode 3`; 16, at a
-/// place of the input no message stands, or it ends within one: `frame` with the place; 17, the event of that number is in the
-/// base alone: `gone` with the base's count; 18, there
-/// is no leaf for a statement: `leaves` with their count. At 2, 5, 6, 13 and 16 the replies of a script to the lines before,
-/// and the lines for the messages before, come before that line, and at 12 and 18 what `rootsign` wrote of the lines before.
+/// `ok checkpoint`; 1, the words are others, and the last line is `usage`; 2, a line has more than 262,144 bytes: `bad 3`; 3,
+/// the newest area is damaged, and the last line is `damaged` with the number of the record and the cause; 4, neither area is
+/// open: `nostore`; 5, a disk failed: `stopped`; 6, the input failed: `readfault`; 7, the output failed, and may lack any of
+/// its end; 9, memory ran out, without a last line, but a script in memory may have `stopped` for its last reply then; 10, an
+/// area is open already: `exists`; 11, the report of the audit has a row; 12, a line of the inquiry or of `rootsign` is
+/// wrong: `line` with its number, `bad`, and the fault; 13, the input has 1 GiB or more: `toolong`; 14, the image of a
+/// checkpoint does not fit into an area, or there is no next generation: `full`; 15, a line of the table of modes is wrong:
+/// `line` with its number, and `mode 1` or `mode 2`, or its statements are more than 4,096: `mode 3`; 16, at a place of the
+/// input no message stands, or it ends within one: `frame` with the place; 17, the event of that number is in the base alone:
+/// `gone` with the base's count; 18, there is no leaf for a statement: `leaves` with their count. At 2, 5, 6, 13 and 16 the
+/// replies of a script to the lines before, and the lines for the messages before, come before that line, and at 12 and 18
+/// what `rootsign` wrote of the lines before.
 ///
-/// Nothing is written after a write that failed, and of a script and of messages nothing is read after a read that failed.
+/// Nothing is written after a write that failed, and nothing is read after a read that failed.
 pub fn run_alone<R: Threads + Wait + Sync, I: Source, O: Sink, D: Disk>(
     rt: &R,
     alloc: Global,

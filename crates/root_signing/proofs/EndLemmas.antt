@@ -1,12 +1,14 @@
 -- What lines, a text and an input come to, by the answers of the calls that look at them.
-use Rattle.std.proofs.Common.{◌≡◌, ◌≢◌, ℕ, List, [], ◌∷◌, ◌++◌, Ok, Err, Option, refl, sym, subst}
-use Rattle.std.specs.Prelude.{Result, IfOk}
+use Rattle.std.proofs.Common.{◌≡◌, ◌≢◌, ℕ, List, [], ◌∷◌, ◌++◌, Bool, Ok, Err, Option, refl, sym, subst}
+use Rattle.std.specs.Prelude.{Result, IfOk, OnErr}
 use Rattle.bl_syntax.specs.declared.lists.NoMemory.{NoMemory as OutOfMemory}
 use Rattle.line_faults.specs.LongLines.{HasLongLine}
 use Rattle.line_forms.specs.declared.fault.LineFault.{LineFault}
 use Rattle.line_forms.specs.declared.fault.LineFault.TheVariants.{BadWord, BadCount, BadText, NoMemory}
 use Rattle.line_text.specs.Lines.{lines_of}
 use Rattle.pcfs_ports.specs.Observable.{ReadsToEnd}
+use Rattle.pcfs_ports.specs.declared.streams.TakeFault.{TakeFault}
+use Rattle.pcfs_ports.specs.declared.streams.TakeFault.TheVariants.{Failed, TooLong}
 use Rattle.root_signing.specs.Reading.{IsUnreadSeed}
 use Rattle.root_signing.specs.Signed.{ComesTo, SigningEnds, SignsLines, answered, fault_line, has_seed, no_line, no_seed, root_line}
 use Rattle.root_signing.specs.SigningLines.{IsSeedFault, IsSeedLine}
@@ -51,8 +53,18 @@ ends_nothing r height from text none status_is lines_are =
     (ends_with r 12 (fault_line 1 (BadWord 0)) (ComesTo height from []) status_is lines_are no_line)
 
 -- the input was read to its end
-pub ends_answered : (r : Result SigningEnd OutOfMemory) (height from : ℕ) (left left_after : Option (List ℕ)) (faults faults_after : ℕ) (text bytes : List ℕ) → text ≡ bytes → ReadsToEnd left left_after bytes → (HasLongLine (lines_of bytes) → ⊥) →
-    IfOk r (λ (end : SigningEnd). ComesTo height from (lines_of text) end.status end.lines) → IfOk r (λ (end : SigningEnd). SigningEnds height from left left_after faults faults_after end.status end.lines)
-ends_answered (Ok end) height from left left_after faults faults_after text bytes same reads short ends =
-    answered bytes end.status end.lines reads short (subst (λ (b : List ℕ). ComesTo height from (lines_of b) end.status end.lines) same ends)
-ends_answered (Err refused) height from left left_after faults faults_after text bytes same reads short ends = tt
+pub ends_answered : (r : Result SigningEnd OutOfMemory) (height from : ℕ) (left left_after : Option (List ℕ)) (faults faults_after : ℕ) (broken : Bool) (text bytes : List ℕ) → text ≡ bytes → ReadsToEnd left left_after bytes → (HasLongLine (lines_of bytes) → ⊥) →
+    faults_after ≡ faults →
+    IfOk r (λ (end : SigningEnd). ComesTo height from (lines_of text) end.status end.lines) → IfOk r (λ (end : SigningEnd). SigningEnds height from left left_after faults faults_after broken end.status end.lines)
+ends_answered (Ok end) height from left left_after faults faults_after broken text bytes same reads short steady ends =
+    answered bytes end.status end.lines reads short (subst (λ (b : List ℕ). ComesTo height from (lines_of b) end.status end.lines) same ends) steady
+ends_answered (Err refused) height from left left_after faults faults_after broken text bytes same reads short steady ends = tt
+
+-- what holds anyhow holds if memory ran out
+pub on_err : (r : Result SigningEnd OutOfMemory) (P : Type 0) → P → OnErr r P
+on_err (Ok end) P p = tt
+on_err (Err refused) P p = p
+
+-- an input that is too long has not failed
+pub not_failed : (r : Result (List ℕ) TakeFault) → r ≡ Err TooLong → r ≢ Err Failed
+not_failed r long failed = cc

@@ -1,6 +1,6 @@
 -- What is written of an input that asks for signatures by the leaves of a tree of hashes, and the
 -- status (this project's own).
-use Rattle.std.specs.Prelude.{◌≡◌, ◌<◌, ℕ, ◌+◌, ◌^◌, List, [], ◌∷◌, ◌++◌, codes, Option}
+use Rattle.std.specs.Prelude.{◌≡◌, ◌<◌, ℕ, ◌+◌, ◌^◌, List, [], ◌∷◌, ◌++◌, codes, Bool, true, Option}
 use Rattle.std.specs.Fmt.{decimal}
 use Rattle.bl_syntax.specs.Statement.{StatementView}
 use Rattle.line_faults.specs.LongLines.{HasLongLine}
@@ -11,7 +11,7 @@ use Rattle.line_text.specs.HexWord.{hex_word}
 use Rattle.line_text.specs.Lines.{lines_of}
 use Rattle.merkle_sig.specs.HashTree.{root_of}
 use Rattle.merkle_sig.specs.Signature.{signature_of}
-use Rattle.pcfs_ports.specs.Faults.{HasRisen}
+use Rattle.pcfs_ports.specs.Faults.{raise}
 use Rattle.pcfs_ports.specs.Observable.{ReadsToEnd, TakesFirst}
 use Rattle.policy_statement.specs.Messages.{statement_message}
 use Rattle.root_signing.specs.SigningLines.{IsSeedFault, IsSeedLine, IsStatementFault, SaysStatement}
@@ -66,16 +66,17 @@ pub data ComesTo (height from : ℕ) : List (List ℕ) → ℕ → List ℕ → 
 
 -- The status that an input ends with whose statements are signed from a leaf on by a tree of this
 -- height, and what has to be written. A line that is too
--- long comes before all else, wherever it stands. `left` and `faults` are what the input has left
--- and the count of its faults.
-pub data SigningEnds (height from : ℕ) (left left_after : Option (List ℕ)) (faults faults_after : ℕ) : ℕ → List ℕ → Type 0 where
+-- long comes before all else, wherever it stands. At a fault of the input one call of it failed, and
+-- it was the last; at each other end none did. `left` and `faults` are what the input has left and
+-- the count of its faults, and `broken` says whether its last call failed.
+pub data SigningEnds (height from : ℕ) (left left_after : Option (List ℕ)) (faults faults_after : ℕ) (broken : Bool) : ℕ → List ℕ → Type 0 where
   answered : (bytes : List ℕ) (status : ℕ) (written : List ℕ) → ReadsToEnd left left_after bytes →
       (HasLongLine (lines_of bytes) → ⊥) →
-      ComesTo height from (lines_of bytes) status written →
-      SigningEnds height from left left_after faults faults_after status written
+      ComesTo height from (lines_of bytes) status written → faults_after ≡ faults →
+      SigningEnds height from left left_after faults faults_after broken status written
   long_line : (bytes : List ℕ) → ReadsToEnd left left_after bytes → HasLongLine (lines_of bytes) →
-      SigningEnds height from left left_after faults faults_after 2 (codes "bad 3\n")
-  read_fault : HasRisen faults faults_after →
-      SigningEnds height from left left_after faults faults_after 6 (codes "readfault\n")
-  too_long : TakesFirst 1073741824 left left_after →
-      SigningEnds height from left left_after faults faults_after 13 (codes "toolong\n")
+      faults_after ≡ faults → SigningEnds height from left left_after faults faults_after broken 2 (codes "bad 3\n")
+  read_fault : faults_after ≡ raise faults → broken ≡ true →
+      SigningEnds height from left left_after faults faults_after broken 6 (codes "readfault\n")
+  too_long : TakesFirst 1073741824 left left_after → faults_after ≡ faults →
+      SigningEnds height from left left_after faults faults_after broken 13 (codes "toolong\n")

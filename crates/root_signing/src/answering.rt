@@ -1,7 +1,7 @@
 //! What an input comes to whose statements are to be signed.
 #![tactic(auto, using(bl_syntax::proofs::BeginsWithLemmas::writing))]
 
-ghost use Rattle.std.specs.Prelude.{◌≡◌, ◌≢◌, ◌≤◌, ◌++◌, ◌∷◌, ◌^◌, [], ℕ, List, codes, IfOk, OnOk};
+ghost use Rattle.std.specs.Prelude.{◌≡◌, ◌≢◌, ◌≤◌, ◌++◌, ◌∷◌, ◌^◌, [], ℕ, List, codes, IfOk, OnOk, OnErr};
 ghost use Rattle.line_text.specs.HexWord.{hex_word};
 ghost use Rattle.line_text.specs.Lines.{lines_of};
 ghost use Rattle.root_signing.specs.Signed.{ComesTo, SigningEnds, SignsLines, fault_line, root_line};
@@ -135,7 +135,8 @@ fn text_end(alloc: Global, height: u8, from: u32, text: &[u8]) -> Result<Signing
 /// Reads the input to its end, and answers with the root of the tree of the seed in it and a line for each statement after it,
 /// which registers it by a leaf: by the leaf `from` first, and by each once. The first line that is wrong, and the first for
 /// which there is no leaf, ends it with a line of its own. Statuses: 2, a line is too long; 6, the input failed; 12, a line is
-/// wrong; 13, the input has 1 GiB or more; 18, there is no leaf. At 2, 6 and 13 nothing is signed.
+/// wrong; 13, the input has 1 GiB or more; 18, there is no leaf. At 2, 6 and 13 nothing is signed. After a read that failed
+/// nothing is read, and if memory runs out no read has failed.
 pub fn answer_signing<I: Source>(
     alloc: Global,
     height: u8,
@@ -144,12 +145,14 @@ pub fn answer_signing<I: Source>(
 ) -> Result<SigningEnd, NoMemory>
     requires low { height ≤ 8 }
     requires within { from ≤ 2 ^ height }
-    ensures { IfOk result (λ end. SigningEnds height from (I.left input.old) (I.left input.new) (I.faults input.old) (I.faults input.new)
-        end.status end.lines) }
+    ensures ends { IfOk result (λ end. SigningEnds height from (I.left input.old) (I.left input.new) (I.faults input.old) (I.faults input.new)
+        (I.broken input.new) end.status end.lines) }
+    ensures steady { OnErr result (I.faults input.new ≡ I.faults input.old) }
 {
+    let failed = unread_end(alloc, READ_FAULT, "readfault\n")?;
     let bytes = match read_to_end(alloc, input) {
         Ok(bytes) => bytes,
-        Err(TakeFault::Failed) => return unread_end(alloc, READ_FAULT, "readfault\n"),
+        Err(TakeFault::Failed) => return Ok(failed),
         Err(TakeFault::TooLong) => return unread_end(alloc, TOO_LONG, "toolong\n"),
         Err(TakeFault::NoMemory) => return Err(NoMemory),
     };

@@ -16,7 +16,7 @@ pub serve-requires-clause-few : goal.serve-requires-clause-few
 serve-requires-clause-few g c κs within = (fits c.args.words.now.items (Serve c.in-Some.port c.in-Some.count) (rw c.in-Some.ensures at c.in-Ok.ensures)).1
 
 pub returns-in-Err : goal.returns-in-Err
-returns-in-Err g c = serving.unread (record { a_stays = refl; b_stays = refl }) (record { waiting_stays = refl; faults_stay = refl; nonce_faults_stay = refl }) (record { left_stays = refl; faults_stay = refl }) refl refl
+returns-in-Err g c = serving.unread refl (record { waiting_stays = refl; faults_stay = refl; nonce_faults_stay = refl }) (record { left_stays = refl; faults_stay = refl }) refl refl
 
 pub returns-in-Some : goal.returns-in-Some
 returns-in-Some g c = serving.serves _ c.in-Some.port c.in-Some.count (rw c.in-Some.ensures at c.in-Ok.ensures) (record { left_stays = refl; faults_stay = refl }) (c.serve.ensures _ _ _)
