@@ -6,4 +6,6 @@ pub mod SaidLemmas
 pub mod SessionEndsLemmas
 pub mod SessionLemmas
 pub mod SourceLemmas
-pub mod SpokenLemmas
+pub mod HeardLemmas
+pub mod HeldLemmas
+pub mod TalkEndsLemmas

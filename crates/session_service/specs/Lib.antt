@@ -2,7 +2,8 @@ pub mod Sessions
 pub mod Connections
 pub mod Ends
 pub mod Laws
+pub mod LineTalking
 pub mod Said
-pub mod Spoken
+pub mod SaidLaws
 pub mod Written
 pub mod SessionEnds

@@ -1,16 +1,11 @@
 -- What an output holds of replies of which the last may be cut off. If the output does not tell
 -- what it holds, nothing is said of that (this project's own).
-use Rattle.std.specs.Prelude.{◌≡◌, ℕ, ◌≤◌, List, [], ◌∷◌, length, Option}
+use Rattle.std.specs.Prelude.{◌≡◌, ℕ, ◌≤◌, List, [], length, Option}
 use Rattle.pcfs_ports.specs.Observable.{HoldsSome}
 use Rattle.line_wire.specs.declared.reply.LineReply.{LineReply}
 use Rattle.line_wire.specs.ReplyText.{output_of}
 use Rattle.session_history.specs.Output.{session_output}
-
--- all of a list but its last element
-abbrev pub but_last : {A : Type 0} → List A → List A
-but_last [] = []
-but_last (x ∷ []) = []
-but_last (x ∷ (y ∷ ys)) = x ∷ but_last (y ∷ ys)
+use Rattle.session_loop.specs.Written.{but_last}
 
 -- beside what it held, the output holds all replies but the last, and of the last some first part
 pub record HoldsButLast (held held_after : Option (List ℕ)) (answers : List LineReply) : Type 0 where

@@ -9,10 +9,10 @@
 mod greeting;
 pub mod laws;
 mod lines;
-mod pieces;
 mod service;
 mod session;
 mod session_end;
+mod talk;
 
 pub use service::{SessionDoor, SessionService, SessionToken};
 pub use session::{serve_session, serve_session_with};

@@ -1,52 +1,26 @@
-//! Lines of a session that are answered, each with its reply written before the next.
+//! Lines that are answered, and their replies as they are spelled.
 
-ghost use Rattle.std.specs.Prelude.{◌≡◌, ◌≤◌, ◌∷◌, [], true, OnOk, OnErr, IsErrOf};
-ghost use Rattle.pcfs_ports.specs.Faults.{HasRisen, raise};
-ghost use Rattle.pcfs_ports.specs.Observable.{with_back, HoldsSome};
-ghost use Rattle.line_wire.specs.ReplyText.{output_of};
-ghost use Rattle.session_service.specs.Spoken.{IsSpoken, IsCutOff, SpeaksHeld, IsCutWithin};
+ghost use Rattle.std.specs.Prelude.{◌≡◌, ◌<◌, ◌∷◌, ℕ, List, [], length, OnOk};
+ghost use Rattle.line_wire.specs.declared.reply.LineReply.{LineReply};
+ghost use Rattle.line_framer.specs.Framing.{IsLine};
+ghost use Rattle.session_loop.specs.Heard.{HasHeard, HasHeardLast};
+ghost use Rattle.session_service.specs.LineTalking.{line_talking, reply_line, AreSaid, IsHeld, StandsAt};
+ghost use Rattle.session_service.specs.Said.{session_of};
 
-use bl_syntax::{Bytes, Principal};
+use bl_syntax::{Bytes, NoMemory, Principal};
 use line_framer::Framer;
-use line_wire::LineReply;
-use pcfs_ports::{Disk, Sink};
-use pcfs_session::{SendFault, send_all};
+use line_wire::write_reply;
+use pcfs_ports::Disk;
 use session_history::TurnClock;
 use session_lines::{Checker, answer_line};
+use session_loop::Heard;
 use shared_store::OpenedStore;
 use std::alloc::Global;
 use std::sync::Wait;
 use tree_lock::{Pass, TreeLock};
 
-/// Writes the line of a reply.
-pub fn write_reply<O: Sink>(
-    alloc: Global,
-    reply: &LineReply,
-    output: &mut O,
-) -> Result<(), SendFault>
-    ensures ok { OnOk result (O.held output.new ≡ with_back (O.held output.old) (output_of (reply.now ∷ []))) }
-    ensures err { OnErr result (HoldsSome (O.held output.old) (O.held output.new) (output_of (reply.now ∷ []))) }
-    ensures steady { OnOk result (O.faults output.new ≡ O.faults output.old) }
-    ensures steady_unsent { IsErrOf result SendFault.NoMemory →
-        (O.faults output.new ≡ O.faults output.old) }
-    ensures risen { IsErrOf result SendFault.Write →
-        HasRisen (O.faults output.old) (O.faults output.new) }
-    ensures never_falls { O.faults output.old ≤ O.faults output.new }
-    ensures by_one { IsErrOf result SendFault.Write →
-        O.faults output.new ≡ raise (O.faults output.old) }
-    ensures broken { IsErrOf result SendFault.Write → O.broken output.new ≡ true }
-{
-    let mut text = Bytes::new(alloc);
-    match send_all(alloc, &mut text, reply, output) {
-        Ok(()) => Ok(()),
-        Err(fault) => Err(fault),
-    }
-}
-
-/// Answers a line, and writes its reply.
-///
-/// `Write` comes only if the output's count of faults rose, and `NoMemory` if there was no memory for the text of the reply.
-pub fn speak<R: Wait, D: Disk, C: TurnClock, K: Checker, O: Sink>(
+// Answers a line, and spells the reply, if there is memory for that.
+fn speak<R: Wait, D: Disk, C: TurnClock, K: Checker>(
     rt: &R,
     alloc: Global,
     lock: &TreeLock<OpenedStore<D>>,
@@ -56,33 +30,21 @@ pub fn speak<R: Wait, D: Disk, C: TurnClock, K: Checker, O: Sink>(
     caller: &mut Option<Principal>,
     line: &[u8],
     checker: &mut K,
-    output: &mut O,
-) -> Result<(), SendFault>
-    requires { pass.old.lock ≡ lock.now }
-    ensures ok { OnOk result (IsSpoken D.faults (C.gives clock.now) nonce.now (line.now ∷ [])
-        caller.old pass.old pass.new caller.new (O.held output.old) (O.held output.new)) }
-    ensures cut { OnErr result (IsCutOff D.faults (C.gives clock.now) nonce.now (line.now ∷ [])
-        caller.old pass.old pass.new caller.new (O.held output.old) (O.held output.new)) }
-    ensures steady { OnOk result (O.faults output.new ≡ O.faults output.old) }
-    ensures steady_unsent { IsErrOf result SendFault.NoMemory →
-        (O.faults output.new ≡ O.faults output.old) }
-    ensures risen { IsErrOf result SendFault.Write →
-        HasRisen (O.faults output.old) (O.faults output.new) }
-    ensures never_falls { O.faults output.old ≤ O.faults output.new }
-    ensures by_one { IsErrOf result SendFault.Write →
-        O.faults output.new ≡ raise (O.faults output.old) }
-    ensures broken { IsErrOf result SendFault.Write → O.broken output.new ≡ true }
+    out: &mut Bytes,
+) -> Result<(), NoMemory>
+    requires lock { pass.old.lock ≡ lock.now }
+    requires empty { out.old ≡ [] }
+    ensures said { (reply : LineReply) ×
+        AreSaid D.faults (C.gives clock.now) (session_of nonce.now caller.old) pass.old pass.new (line.now ∷ []) (reply ∷ [])
+        (session_of nonce.now caller.new) × OnOk result (out.new ≡ reply_line line.now reply) }
     ensures same_lock { pass.new.lock ≡ lock.now }
 {
     let reply = answer_line(rt, alloc, lock, pass, clock, nonce, caller, line, checker);
-    match write_reply(alloc, &reply, output) {
-        Ok(()) => Ok(()),
-        Err(fault) => Err(fault),
-    }
+    write_reply(alloc, out, &reply)
 }
 
-/// Answers the lines that a framer holds with their ends, as `speak` does each, and takes them.
-pub fn speak_held<R: Wait, D: Disk, C: TurnClock, K: Checker, O: Sink>(
+/// Answers the next line, if its end has come, takes it, and spells the reply.
+pub(crate) fn hear<R: Wait, D: Disk, C: TurnClock, K: Checker>(
     rt: &R,
     alloc: Global,
     lock: &TreeLock<OpenedStore<D>>,
@@ -91,35 +53,66 @@ pub fn speak_held<R: Wait, D: Disk, C: TurnClock, K: Checker, O: Sink>(
     nonce: &[u8; 16],
     caller: &mut Option<Principal>,
     framer: &mut Framer,
+    is_long: bool,
     checker: &mut K,
-    output: &mut O,
-) -> Result<(), SendFault>
-    requires { pass.old.lock ≡ lock.now }
-    ensures ok { OnOk result (SpeaksHeld D.faults (C.gives clock.now) nonce.now framer.old.left
-        framer.new.left caller.old pass.old pass.new caller.new (O.held output.old)
-        (O.held output.new)) }
-    ensures long_stays { OnOk result (framer.new.is_long ≡ framer.old.is_long) }
-    ensures cut { OnErr result (IsCutWithin D.faults (C.gives clock.now) nonce.now framer.old.left
-        caller.old pass.old pass.new caller.new (O.held output.old) (O.held output.new)) }
-    ensures steady { OnOk result (O.faults output.new ≡ O.faults output.old) }
-    ensures steady_unsent { IsErrOf result SendFault.NoMemory →
-        (O.faults output.new ≡ O.faults output.old) }
-    ensures risen { IsErrOf result SendFault.Write →
-        HasRisen (O.faults output.old) (O.faults output.new) }
-    ensures never_falls { O.faults output.old ≤ O.faults output.new }
-    ensures by_one { IsErrOf result SendFault.Write →
-        O.faults output.new ≡ raise (O.faults output.old) }
-    ensures broken { IsErrOf result SendFault.Write → O.broken output.new ≡ true }
+    out: &mut Bytes,
+) -> Heard
+    requires lock { pass.old.lock ≡ lock.now }
+    requires empty { out.old ≡ [] }
+    ensures heard { (left : List ℕ) → IsHeld framer.old is_long left →
+        HasHeard (line_talking D.faults (C.gives clock.now)) (StandsAt nonce.now caller.new framer.new is_long)
+        (session_of nonce.now caller.old) tt left pass.old pass.new out.new result }
+    ensures fewer { result ≡ Heard.Answered → length framer.new.left < length framer.old.left }
     ensures same_lock { pass.new.lock ≡ lock.now }
 {
-    while let Some(line) = framer.next_line() {
-        match speak(
-            rt, alloc, lock, pass, clock, nonce, caller, line, checker, output,
-        ) {
-            Ok(()) => {}
-            Err(fault) => return Err(fault),
+    match framer.next_line() {
+        None => {
+            if is_long {
+                Heard::Bad
+            } else {
+                Heard::Open
+            }
         }
-        framer.take_line();
+        Some(line) => {
+            let spelled = speak(
+                rt, alloc, lock, pass, clock, nonce, caller, line, checker, out,
+            );
+            framer.take_line();
+            match spelled {
+                Ok(()) => Heard::Answered,
+                Err(_) => Heard::Unsent,
+            }
+        }
     }
-    Ok(())
+}
+
+/// Answers the last line, which has no end, if it is not empty, and spells the reply.
+pub(crate) fn hear_last<R: Wait, D: Disk, C: TurnClock, K: Checker>(
+    rt: &R,
+    alloc: Global,
+    lock: &TreeLock<OpenedStore<D>>,
+    pass: &mut Pass<OpenedStore<D>>,
+    clock: &C,
+    nonce: &[u8; 16],
+    caller: &mut Option<Principal>,
+    framer: &Framer,
+    checker: &mut K,
+    out: &mut Bytes,
+) -> Heard
+    requires lock { pass.old.lock ≡ lock.now }
+    requires empty { out.old ≡ [] }
+    ensures heard { IsLine framer.now.left →
+        HasHeardLast (line_talking D.faults (C.gives clock.now)) (session_of nonce.now caller.old) tt framer.now.left
+        pass.old pass.new out.new result }
+    ensures same_lock { pass.new.lock ≡ lock.now }
+{
+    match framer.last_line() {
+        None => Heard::Open,
+        Some(line) => match speak(
+            rt, alloc, lock, pass, clock, nonce, caller, line, checker, out,
+        ) {
+            Ok(()) => Heard::Answered,
+            Err(_) => Heard::Unsent,
+        },
+    }
 }

@@ -1,26 +1,40 @@
 //! A session: its greeting, and its lines as they come.
 
-ghost use Rattle.std.specs.Prelude.{◌≡◌, ◌<◌, None};
+ghost use Rattle.std.specs.Prelude.{◌≡◌};
 ghost use Rattle.session_service.specs.Ends.{NothingFailedBefore};
+ghost use Rattle.session_service.specs.LineTalking.{session_end};
 ghost use Rattle.session_service.specs.SessionEnds.{SessionEnds, GoesOnToEnd, GreetsFirst};
 ghost use Rattle.pcfs_session.specs.Streams.{streams_of};
 ghost use Rattle.pcfs_server.specs.Ends.{FailedLast};
 
 use crate::greeting::greet;
-use crate::pieces::{speak_last, speak_piece};
 use crate::session_end::{SessionEnd, unsent_end};
-use bl_syntax::Principal;
-use line_framer::Framer;
-use pcfs_ports::{Disk, INPUT_LIMIT, Sink, Source, new_piece, read_piece};
+use crate::talk::LineTalk;
+use pcfs_ports::{Disk, Sink, Source};
 use session_history::TurnClock;
 use session_lines::{Checker, PlainChecker};
+use session_loop::{TalkEnd, converse};
 use shared_store::OpenedStore;
 use std::alloc::Global;
 use std::sync::Wait;
 use tree_lock::{Pass, TreeLock};
 
-// Takes the input in pieces and answers its lines, after the greeting, and returns how the session ends.
-fn speak_pieces<R: Wait, I: Source, O: Sink, D: Disk, C: TurnClock, K: Checker>(
+// How a session ends whose talk ends so.
+fn session_end(end: TalkEnd) -> SessionEnd
+    ensures { result ≡ session_end end }
+{
+    match end {
+        TalkEnd::Done => SessionEnd::Done,
+        TalkEnd::Bad => SessionEnd::LineTooLong,
+        TalkEnd::ReadFault => SessionEnd::ReadFault,
+        TalkEnd::WriteFault => SessionEnd::WriteFault,
+        TalkEnd::NoMemory => SessionEnd::NoMemory,
+        TalkEnd::InputTooLong => SessionEnd::InputTooLong,
+    }
+}
+
+// Answers the lines of the input, after the greeting, and returns how the session ends.
+fn answer_lines<R: Wait, I: Source, O: Sink, D: Disk, C: TurnClock, K: Checker>(
     rt: &R,
     alloc: Global,
     lock: &TreeLock<OpenedStore<D>>,
@@ -44,51 +58,8 @@ fn speak_pieces<R: Wait, I: Source, O: Sink, D: Disk, C: TurnClock, K: Checker>(
         FailedLast (O.faults output.old) (O.faults output.new) (O.broken output.new) }
     ensures same_lock { pass.new.lock ≡ lock.now }
 {
-    let mut piece = match new_piece(alloc) {
-        Ok(piece) => piece,
-        Err(_) => return SessionEnd::NoMemory,
-    };
-    let mut framer = Framer::new(alloc);
-    let mut caller: Option<Principal> = None;
-    let mut taken: usize = 0;
-    while taken < INPUT_LIMIT {
-        let count = match read_piece(input, &mut piece, INPUT_LIMIT - taken) {
-            Ok(count) => count,
-            Err(_) => return SessionEnd::ReadFault,
-        };
-        if count == 0 {
-            return speak_last(
-                rt,
-                alloc,
-                lock,
-                pass,
-                clock,
-                nonce,
-                &mut caller,
-                &framer,
-                checker,
-                output,
-            );
-        }
-        match speak_piece(
-            rt,
-            alloc,
-            lock,
-            pass,
-            clock,
-            nonce,
-            &mut caller,
-            &mut framer,
-            &piece[..count],
-            checker,
-            output,
-        ) {
-            Ok(()) => {}
-            Err(end) => return end,
-        }
-        taken += count;
-    }
-    SessionEnd::InputTooLong
+    let mut talk = LineTalk::new(alloc, *nonce, checker);
+    session_end(converse(rt, alloc, lock, pass, input, output, clock, &mut talk))
 }
 
 /// Holds a session over a shared store, with this nonce, under this pass; a proof is checked by this checker, outside the
@@ -127,7 +98,7 @@ pub fn serve_session_with<R: Wait, I: Source, O: Sink, D: Disk, C: TurnClock, K:
     ensures same_lock { pass.new.lock ≡ lock.now }
 {
     match greet(alloc, &nonce, output) {
-        Ok(()) => speak_pieces(rt, alloc, lock, pass, input, output, clock, &nonce, checker),
+        Ok(()) => answer_lines(rt, alloc, lock, pass, input, output, clock, &nonce, checker),
         Err(fault) => unsent_end(fault),
     }
 }

@@ -1,7 +1,7 @@
 -- The line of the greeting is written, or some first part of it.
 use Rattle.std.proofs.Common.{◌∙◌, ap, refl}
 use Rattle.pcfs_ports.specs.Observable.{with_back}
-use Rattle.session_service.proofs.SpokenLemmas.{nothing_out}
+use Rattle.session_loop.proofs.PortLemmas.{nothing_out}
 use Rattle.session_service.proofs.greeting.greet.Goals as goal
 
 pub returns-in-Err-clause-err : goal.returns-in-Err-clause-err
