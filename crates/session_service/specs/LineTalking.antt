@@ -1,6 +1,7 @@
 -- A session as a talk: its lines, each answered by one reply (this project's own).
 use Rattle.std.proofs.Common.{◌≡◌, ◌∙◌, ◌≤◌, ◌<◌, ℕ, Bool, true, false, List, [], ◌∷◌, ◌++◌, length, Option, refl, ap, arith, append_assoc, length-append}
 use Rattle.std.specs.Prelude.{ℤ}
+use Rattle.bl_syntax.specs.declared.limits.TheConstants.{LONGEST_LINE}
 use Rattle.line_text.specs.Lines.{lines_of}
 use Rattle.line_framer.specs.Framing.{FramerState, ended, IsFirst, IsLine}
 use Rattle.line_framer.specs.Feeding.{AreShort}
@@ -26,7 +27,7 @@ use Rattle.session_service.specs.SaidLaws.{HasSaid-none, HasSaid-then}
 -- the bytes begin with this line, which is not too long, and its end, and these stand after it
 pub record IsNextLine (left line rest : List ℕ) : Type 0 where
   pub first : IsFirst left line rest
-  pub few : length line ≤ 262144
+  pub few : length line ≤ LONGEST_LINE
 
 -- nothing is agreed on; what is left at the end is a line, unless it is empty
 abbrev pub line_cutting : Cutting
@@ -39,7 +40,7 @@ line_cutting = record {
   IsBad = λ mark left. HasLong left [];
   IsLast = λ mark left lines. lines ≡ lines_of left;
   IsBadEnd = λ mark left. ⊥;
-  most = 262144;
+  most = LONGEST_LINE;
 }
 
 pub line_cutting_laws : CuttingLaws line_cutting
