@@ -43,8 +43,8 @@ pub data Asks (s : Connection) (m : RequestView) : TurnRequest → Type 0 where
       s.caller ≡ Some who → fitting s.purse who directory perms.Execute ≡ Some q →
       Asks s m (look_of who directory name q)
 
--- One of these messages, and the state of the connection after those before it, which are placed in a
--- history from this state on.
+-- One of these messages, and a state of the connection in which those before it are placed in a history
+-- from this state on.
 pub record OneOfMessages (gives : List StoreEntry → ℤ → Type 0) (p : StorePass) (history : List StoreEntry)
     (start : Connection) (from : ℕ) (messages : List MessageView) : Type 0 where
   pub earlier : List MessageView
@@ -57,8 +57,8 @@ pub record OneOfMessages (gives : List StoreEntry → ℤ → Type 0) (p : Store
   pub added : List StoreEntry
   pub so_far : MessagesPlaced gives p history start from earlier told state at added
 
--- One of these messages asks for the entry: in the state of the connection after the messages before
--- it, what it asks in a turn of the pass, which finds the entries that the history has before this
+-- One of these messages asks for the entry: in a state in which the messages before it are placed,
+-- what it asks in a turn of the pass, which finds the entries that the history has before this
 -- one, has an answer that adds the entry, or of a mark what was being added when a disk failed, at a
 -- moment that the clock gives over the entries that stand before it.
 pub record IsAskedByMessage (gives : List StoreEntry → ℤ → Type 0) (p : StorePass) (history : List StoreEntry)
@@ -88,8 +88,8 @@ EntriesAreAskedFor gives = (p : StorePass) (history : List StoreEntry) (start : 
 
 -- ---- by whom
 
--- One of these messages logged this name in: in the state of the connection after the messages before
--- it, it asks for that over the connection's nonce, by a signature that it brings and the ring
+-- One of these messages logged this name in: in a state in which the messages before it are placed it
+-- asks for that over the connection's nonce, by a signature that it brings and the ring
 -- accepts; and it is placed after them, and then that name is logged in.
 pub record HasLoggedIn (gives : List StoreEntry → ℤ → Type 0) (p : StorePass) (history : List StoreEntry)
     (nonce : List ℕ) (from : ℕ) (messages : List MessageView) (who : List ℕ) : Type 0 where
