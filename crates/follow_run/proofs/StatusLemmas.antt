@@ -8,6 +8,7 @@ use Rattle.pcfs_session.specs.InterpreterView.{InterpreterView}
 use Rattle.pcfs_session.specs.ScriptContext.{first_asker}
 use Rattle.pcfs_session.specs.ScriptRun.{ScriptState, script_pass}
 use Rattle.pcfs_session.specs.Streams.{Streams}
+use Rattle.pcfs_session.proofs.OutboxLemmas.{with_back-nil}
 use Rattle.pcfs_tools.specs.Broken.{Broken}
 use Rattle.pcfs_tools.specs.LastLine.{IsWritten}
 use Rattle.follow_run.specs.AnswerText.{HoldsButLast}
