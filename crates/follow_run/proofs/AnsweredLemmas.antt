@@ -3,7 +3,7 @@ use Rattle.std.proofs.Common.{◌≡◌, inl, inr, ℕ, ◌+◌, ◌≤◌, take
 use Rattle.std.specs.Prelude.{IfErr}
 use Rattle.std.proofs.Math.Seq.{take-append-add}
 use Rattle.std.specs.List.{AllByRecursion}
-use Rattle.pcfs_ports.specs.Observable.{with_back, HoldsSome}
+use Rattle.pcfs_ports.specs.Observable.{with_back}
 use Rattle.pcfs_ports.proofs.TakesLemmas.{with_back-with_back}
 use Rattle.event_messages.specs.Messages.{Message, IsMessage, messages_spelling}
 use Rattle.event_messages.specs.Reader.{ReaderState, after_message, BeginsNoMessage, MayGoOn}
@@ -11,7 +11,7 @@ use Rattle.follower.specs.declared.taking.Taken.{Taken}
 use Rattle.pcfs_store.specs.Entries.{StoreEntry}
 use Rattle.pcfs_store.specs.StoreView.{StoreView}
 use Rattle.pcfs_session.specs.ScriptRun.{ScriptState}
-use Rattle.pcfs_session.proofs.OutboxLemmas.{with_back-nil, GoesOut-all, GoesOut-some}
+use Rattle.pcfs_session.proofs.OutboxLemmas.{with_back-nil}
 use Rattle.pcfs_session.proofs.StoredLemmas.{StoreGoesOn-on, StoreGoesOn-same, runs_for}
 use Rattle.follow_run.specs.AnswerText.{answer_line, answer_lines, but_last, HoldsButLast}
 use Rattle.follow_run.specs.FollowRun.{FollowRun}
@@ -50,9 +50,6 @@ AreFirst-one bytes rest message first = record { whole = (first.is_message, tt);
 -- after bytes that are out
 pub out_after : (held between held_after : Option (List ℕ)) (first more : List ℕ) → between ≡ with_back held first → held_after ≡ with_back between more → held_after ≡ with_back held (first ++ more)
 out_after held between held_after first more out next = next ∙ ap (λ (t : Option (List ℕ)). with_back t more) out ∙ with_back-with_back held first more
-
-pub some_after : (held between held_after : Option (List ℕ)) (first more : List ℕ) → between ≡ with_back held first → HoldsSome between held_after more → HoldsSome held held_after (first ++ more)
-some_after held between held_after first more out some = GoesOut-some held between held_after first [] more (GoesOut-all held between first [] out refl) some
 
 -- the same bytes in front of fewer and of more
 longer : (front few many more : List ℕ) → length few ≤ length many + length more → length (front ++ few) ≤ length (front ++ many) + length more

@@ -17,7 +17,7 @@ use Rattle.pcfs_store.specs.StoreView.{StoreView, first_disk, second_disk}
 use Rattle.pcfs_session.specs.Stored.{StoreGoesOn}
 use Rattle.pcfs_session.proofs.OutboxLemmas.{with_back-nil}
 use Rattle.pcfs_session.proofs.StoredLemmas.{none_some, running_for, StoreGoesOn-same}
-use Rattle.follow_run.specs.AnswerText.{answer_line, answer_lines, HoldsButLast}
+use Rattle.follow_run.specs.AnswerText.{answer_line, HoldsButLast}
 use Rattle.follow_run.specs.FollowRun.{IsNextIn, TakesIn}
 use Rattle.follow_run.specs.FollowRun as follows
 use Rattle.follow_run.specs.Followed.{standing_at, IsOutAt, AreOutAt, IsMetAt, WereTaken, AreAnswered, HaltsAt, HaltsBy}
