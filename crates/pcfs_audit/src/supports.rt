@@ -131,8 +131,8 @@ pub fn base_supports(alloc: Global, dossier: &Dossier) -> Result<Supports, NoMem
     ensures place { IfOk result (λ supports. supports.place ≡ 0) }
 {
     let grants = dossier.papers.grants.as_slice();
-    let rows = rows_without_support(alloc, grants.len())?;
-    let rows = with_base(alloc, rows, dossier)?;
+    let empty = rows_without_support(alloc, grants.len())?;
+    let rows = with_base(alloc, empty, dossier)?;
     Ok(Supports { rows, place: 0 })
 }
 
