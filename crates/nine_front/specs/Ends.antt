@@ -18,7 +18,8 @@ use Rattle.nine_front.specs.Taken.{AreTaken, AreAllTaken, IsCutAtBad, IsReadWhol
 module _ {D : Type 0} (faults : D → ℕ) (gives : List StoreEntry → ℤ → Type 0) (nonce : List ℕ) where
   -- Which messages a connection answers that ends so: all of the input; those before a bad one, or
   -- before one that the end of the input cuts off; or all that were taken whole.
-  pub data NineReplies (old new : PassView (LockEntry D)) (before after : Streams) : NineEnd → List MessageView → List ReplyView → Type 0 where
+  pub data NineReplies (old new : PassView (LockEntry D)) (before after : Streams) : NineEnd →
+      List MessageView → List ReplyView → Type 0 where
     done : (messages : List MessageView) (replies : List ReplyView) →
         IsReadWhole before.left after.left messages →
         Speaks faults gives nonce old new messages replies →
@@ -46,7 +47,8 @@ module _ {D : Type 0} (faults : D → ℕ) (gives : List StoreEntry → ℤ → 
   -- memory for a reply's bytes or for a piece of the input: then all replies but the last to the
   -- messages that were answered, which are the first of those taken, and of the last some first
   -- part.
-  pub data NineEnds (old new : PassView (LockEntry D)) (before : Streams) : NineEnd → Streams → Type 0 where
+  pub data NineEnds (old new : PassView (LockEntry D)) (before : Streams) : NineEnd → Streams →
+      Type 0 where
     written : (how : NineEnd) (after : Streams) (messages : List MessageView) (replies : List ReplyView) →
         NineReplies old new before after how messages replies →
         after.held ≡ with_back before.held (output_of messages replies) →

@@ -86,13 +86,16 @@ EntriesAreFew gives = (p : StorePass) (history : List StoreEntry) (start : Conne
     (messages : List MessageView) (replies : List ReplyView) (end : Connection) (to : ℕ)
     (given : List StoreEntry) →
     (all : MessagesPlaced gives p history start from messages replies end to given) →
-    (length given ≤ length (messages_turns all)) × (length (messages_turns all) ≤ most_turns_of messages)
+    (length given ≤ length (messages_turns all)) ×
+    (length (messages_turns all) ≤ most_turns_of messages)
 
 -- ---- connections
 
 -- A connection in what its pass has seen at the end: this is the history of a store that was opened
--- so, and the replies are placed in it, after all that the pass had seen at first and, if turns were
--- taken, up to its end; the pass's own entries grew by those that the replies were given, and it took
+-- so, and the replies are placed in it, after all that the pass had seen at first and, if turns
+-- were
+-- taken, up to its end; the pass's own entries grew by those that the replies were given, and it
+-- took
 -- as many turns as they have.
 pub record IsPlacedConnection {D : Type 0} (faults : D → ℕ) (gives : List StoreEntry → ℤ → Type 0) (nonce : List ℕ)
     (opening : StoreView D) (old new : PassView (LockEntry D)) (messages : List MessageView)
@@ -123,10 +126,12 @@ TurnsArePlaced D faults gives = (nonce : List ℕ) (old new : PassView (LockEntr
     (s : Speaks faults gives nonce old new messages replies) → s.count ≢ 0 →
     (opening : StoreView D) × IsPlacedConnection faults gives nonce opening old new messages replies
 
--- A connection of a pass that was made after another had left. In each history that begins with what
+-- A connection of a pass that was made after another had left. In each history that begins with
+-- what
 -- the connection's pass has seen at the end, the entries come first that the other had seen when
 -- something was told under it, and the replies are placed after them.
-abbrev pub LaterConnectionsArePlacedAfter : (D : Type 0) → (D → ℕ) → (List StoreEntry → ℤ → Type 0) → Type 0
+abbrev pub LaterConnectionsArePlacedAfter : (D : Type 0) → (D → ℕ) →
+    (List StoreEntry → ℤ → Type 0) → Type 0
 LaterConnectionsArePlacedAfter D faults gives = (nonce : List ℕ) (opening : StoreView D)
     (told old new : PassView (LockEntry D)) (messages : List MessageView) (replies : List ReplyView) →
     (h : HasHistory opening told) → IsMadeAfter told old →
@@ -171,9 +176,11 @@ MessagesHaveOneEnd gives = (p : StorePass) (history : List StoreEntry) (from : �
 
 -- a reply that is neither that memory ran out nor that the store is stopped
 abbrev pub IsCalm : ReplyView → Type 0
-IsCalm reply = (reply ≢ rerror (reply_text lines.NoMemory)) × (reply ≢ rerror (reply_text lines.Stopped))
+IsCalm reply = (reply ≢ rerror (reply_text lines.NoMemory)) ×
+    (reply ≢ rerror (reply_text lines.Stopped))
 
--- a reply to the request and entries which place it after those before: memory did not run out before
+-- a reply to the request and entries which place it after those before: memory did not run out
+-- before
 -- one of its turns, and none was disturbed, also of a walk that replies what it had found
 pub record HasMessageEnd (gives : List StoreEntry → ℤ → Type 0) (p : StorePass) (before : List StoreEntry) (s : Connection) (m : RequestView) : Type 0 where
   pub reply : ReplyView
@@ -185,10 +192,12 @@ pub record HasMessageEnd (gives : List StoreEntry → ℤ → Type 0) (p : Store
   pub undisturbed : AreUndisturbed (message_turns placed)
 
 -- At a store that is not stopped each request has an end that is not disturbed, if the clock gives
--- some moment after whatever entries, whoever is logged in has a principal's name, and no more bytes
+-- some moment after whatever entries, whoever is logged in has a principal's name, and no more
+-- bytes
 -- are written than fit a message.
 abbrev pub MessagesHaveAnEnd : (List StoreEntry → ℤ → Type 0) → Type 0
 MessagesHaveAnEnd gives = (p : StorePass) (s : Connection) (m : RequestView) (asked : Option Control)
     (before : List StoreEntry) → ((found : List StoreEntry) → (clock : ℤ) × gives found clock) →
-    IsAskedBy s m asked → IsNamed s.caller → length (bytes_of m) ≤ MOST_SIZE → has_stop before ≡ false →
+    IsAskedBy s m asked → IsNamed s.caller → length (bytes_of m) ≤ MOST_SIZE →
+    has_stop before ≡ false →
     HasMessageEnd gives p before s m

@@ -1,4 +1,5 @@
--- A connection as a talk: its messages, each answered by one reply (this project's own; the sizes are
+-- A connection as a talk: its messages, each answered by one reply (this project's own; the sizes
+-- are
 -- those of 9P2000).
 use Rattle.std.proofs.Common.{◌≡◌, ◌≤◌, ℕ, List, [], length, arith}
 use Rattle.std.specs.Prelude.{ℤ}
@@ -24,7 +25,8 @@ use Rattle.nine_front.specs.Taken.{reply_bytes}
 
 -- ---- how bytes are cut
 
--- the bytes begin with this message, after which a message may be so large, and these stand after it
+-- the bytes begin with this message, after which a message may be so large, and these stand after
+-- it
 pub record IsNextMessage (agreed : ℕ) (left : List ℕ) (m : MessageView) (after : ℕ) (rest : List ℕ) : Type 0 where
   pub next : IsNext agreed left m rest
   pub agrees : after ≡ agreed_after agreed m.request
@@ -52,7 +54,8 @@ nine_cutting = record {
   most = MOST_SIZE;
 }
 
-open_few : (agreed : ℕ) (left : List ℕ) → agreed ≤ MOST_SIZE → IsOpen agreed left → length left ≤ MOST_SIZE
+open_few : (agreed : ℕ) (left : List ℕ) → agreed ≤ MOST_SIZE → IsOpen agreed left →
+    length left ≤ MOST_SIZE
 open_few agreed left few (without_size short) = omega (arith, short)
 open_few agreed left few (within_message there least most short) = omega (arith, most, short)
 
@@ -86,7 +89,8 @@ module _ {D : Type 0} (faults : D → ℕ) (gives : List StoreEntry → ℤ → 
     each = λ start end old new messages replies said. said.each;
   }
 
--- a connection and a framer are in this state, in which a message may be so large, and these bytes are left
+-- a connection and a framer are in this state, in which a message may be so large, and these bytes
+-- are left
 pub record StandsAt (connection : Connection) (framer : FramerState) (state : Connection) (agreed : ℕ) (left : List ℕ) : Type 0 where
   pub connection_is : connection ≡ state
   pub framer_is : framer ≡ record { left = left; agreed = agreed }

@@ -1,4 +1,5 @@
--- The laws of messages that are said, for the place of a connection among the talks: they are answered
+-- The laws of messages that are said, for the place of a connection among the talks: they are
+-- answered
 -- one after the other.
 use Rattle.std.proofs.Common.{◌≡◌, ◌≢◌, ◌∙◌, ◌+◌, ◌⊎◌, ⊎_elim, inl, inr, ℕ, zero, suc, List, [], ◌∷◌, ◌++◌, length, refl, sym, ap, subst, arith, append_assoc, append-nil, length-append}
 use Rattle.std.specs.Prelude.{ℤ}
@@ -27,7 +28,8 @@ use Rattle.nine_front.specs.Said.{IsStopped, SaysStopped, IsPlacedFrom, HasAnswe
 
 module _ (gives : List StoreEntry → ℤ → Type 0) (p : StorePass) (history : List StoreEntry) (start : Connection) (from : ℕ) where
   -- these messages, in so many turns
-  abbrev pub ArePlaced : List MessageView → List ReplyView → Connection → ℕ → List StoreEntry → ℕ → Type 0
+  abbrev pub ArePlaced : List MessageView → List ReplyView → Connection → ℕ → List StoreEntry → ℕ →
+      Type 0
   ArePlaced messages replies end to given count = (all : MessagesPlaced gives p history start from messages replies end to given) ×
       (length (messages_turns all) ≡ count)
 
@@ -65,7 +67,8 @@ only_stopped : (reply : ReplyView) → SaysStopped (reply ∷ []) → IsStopped 
 only_stopped reply (inl is) = is
 only_stopped reply (inr none) = absurd none
 
-either_stopped : (replies more : List ReplyView) → SaysStopped (replies ++ more) → SaysStopped replies ⊎ SaysStopped more
+either_stopped : (replies more : List ReplyView) → SaysStopped (replies ++ more) →
+    SaysStopped replies ⊎ SaysStopped more
 either_stopped [] more says = inr says
 either_stopped (reply ∷ replies) more (inl is) = inl (inl is)
 either_stopped (reply ∷ replies) more (inr says) = ⊎_elim (λ (first : SaysStopped replies). inl (inr first)) (λ (other : SaysStopped more). inr other)
@@ -79,7 +82,8 @@ module _ {D : Type 0} (faults : D → ℕ) (gives : List StoreEntry → ℤ → 
   -- the same messages, said otherwise
   as_answered : (start : Connection) (old : PassView (LockEntry D)) (messages also : List MessageView) (replies others : List ReplyView) (end : Connection)
       (new : PassView (LockEntry D)) → messages ≡ also → replies ≡ others →
-      AreAnswered faults gives start old messages replies end new → AreAnswered faults gives start old also others end new
+      AreAnswered faults gives start old messages replies end new →
+      AreAnswered faults gives start old also others end new
   as_answered start old messages also replies others end new one two all =
       subst (λ (l : List MessageView). AreAnswered faults gives start old l others end new) one
       (subst (λ (a : List ReplyView). AreAnswered faults gives start old messages a end new) two all)
@@ -87,7 +91,8 @@ module _ {D : Type 0} (faults : D → ℕ) (gives : List StoreEntry → ℤ → 
   -- more messages after messages
   AreAnswered-then : (start : Connection) (old : PassView (LockEntry D)) (messages : List MessageView) (replies : List ReplyView) (mid : Connection)
       (between : PassView (LockEntry D)) (others : List MessageView) (more : List ReplyView) (end : Connection) (new : PassView (LockEntry D)) →
-      AreAnswered faults gives start old messages replies mid between → AreAnswered faults gives mid between others more end new →
+      AreAnswered faults gives start old messages replies mid between →
+      AreAnswered faults gives mid between others more end new →
       AreAnswered faults gives start old (messages ++ others) (replies ++ more) end new
   AreAnswered-then start old messages replies mid between _ _ _ _ first none_yet =
       as_answered start old messages (messages ++ []) replies (replies ++ []) mid between (sym (append-nil messages)) (sym (append-nil replies)) first
@@ -101,21 +106,25 @@ module _ {D : Type 0} (faults : D → ℕ) (gives : List StoreEntry → ℤ → 
   -- ---- the last turn
 
   -- where the turns of both came, if there are any
-  came_then : (further count at to seen seen_after : ℕ) → (count ≢ 0 → at ≡ seen) → (further ≢ 0 → to ≡ seen_after) → (further ≡ 0 → to ≡ at) →
+  came_then : (further count at to seen seen_after : ℕ) → (count ≢ 0 → at ≡ seen) →
+      (further ≢ 0 → to ≡ seen_after) → (further ≡ 0 → to ≡ at) →
       (further ≡ 0 → seen_after ≡ seen) → count + further ≢ 0 → to ≡ seen_after
   came_then zero count at to seen seen_after first later still same some = still refl ∙ first (λ none. some (omega (arith, none))) ∙ sym (same refl)
   came_then (suc n) count at to seen seen_after first later still same some = later (λ none. absurd (omega (arith, none)))
 
   -- what the pass has seen then
-  known_then : (further count : ℕ) (between new : PassView (LockEntry D)) → (count ≢ 0 → (opening : StoreView D) × HasHistory opening between) →
+  known_then : (further count : ℕ) (between new : PassView (LockEntry D)) →
+      (count ≢ 0 → (opening : StoreView D) × HasHistory opening between) →
       (further ≢ 0 → (opening : StoreView D) × HasHistory opening new) →
-      ((opening : StoreView D) → HasHistory opening between → HasHistory opening new) → count + further ≢ 0 → (opening : StoreView D) × HasHistory opening new
+      ((opening : StoreView D) → HasHistory opening between → HasHistory opening new) →
+      count + further ≢ 0 → (opening : StoreView D) × HasHistory opening new
   known_then zero count between new first later on some = let seen = first (λ none. some (omega (arith, none))) in (seen.0, on seen.0 seen.1)
   known_then (suc n) count between new first later on some = later (λ none. absurd (omega (arith, none)))
 
   -- ---- one after the other
 
-  pub HasSaid-none : (s : Connection) (pass : PassView (LockEntry D)) → HasSaid faults gives s pass pass [] [] s
+  pub HasSaid-none : (s : Connection) (pass : PassView (LockEntry D)) →
+      HasSaid faults gives s pass pass [] [] s
   HasSaid-none s pass =
       record {
         given = [];
@@ -137,7 +146,8 @@ module _ {D : Type 0} (faults : D → ℕ) (gives : List StoreEntry → ℤ → 
       }
 
   said_message : (s : Connection) (m : MessageView) (old new : PassView (LockEntry D)) (after : Connection) (reply : ReplyView) (given : List StoreEntry)
-      (count from : ℕ) → IsPlacedFrom faults gives s m.request old new reply after given count from →
+      (count from : ℕ) →
+      IsPlacedFrom faults gives s m.request old new reply after given count from →
       AreSaidFrom faults gives s old new (m ∷ []) (reply ∷ []) after given count from
   said_message s m old new after reply given count from at = record {
     to = at.to;
@@ -150,7 +160,8 @@ module _ {D : Type 0} (faults : D → ℕ) (gives : List StoreEntry → ℤ → 
   }
 
   pub HasSaid-message : (s : Connection) (m : MessageView) (old new : PassView (LockEntry D)) (after : Connection) (reply : ReplyView) →
-      HasAnswered faults gives s m.request old new reply after → HasSaid faults gives s old new (m ∷ []) (reply ∷ []) after
+      HasAnswered faults gives s m.request old new reply after →
+      HasSaid faults gives s old new (m ∷ []) (reply ∷ []) after
   HasSaid-message s m old new after reply a =
       record {
         given = a.given;
@@ -166,8 +177,10 @@ module _ {D : Type 0} (faults : D → ℕ) (gives : List StoreEntry → ℤ → 
       }
 
   module _ (start mid end : Connection) (old between new : PassView (LockEntry D)) (messages others : List MessageView) (replies more : List ReplyView) where
-    said_then : (given added : List StoreEntry) (count further from : ℕ) → between.number ≡ old.number → IsPrefix between.seen new.seen →
-        (further ≡ 0 → new ≡ between) → (a : AreSaidFrom faults gives start old between messages replies mid given count from) →
+    said_then : (given added : List StoreEntry) (count further from : ℕ) →
+        between.number ≡ old.number → IsPrefix between.seen new.seen →
+        (further ≡ 0 → new ≡ between) →
+        (a : AreSaidFrom faults gives start old between messages replies mid given count from) →
         AreSaidFrom faults gives mid between new others more end added further a.to →
         AreSaidFrom faults gives start old new (messages ++ others) (replies ++ more) end (given ++ added) (count + further) from
     said_then given added count further from same seen stands a b = record {
@@ -186,7 +199,8 @@ module _ {D : Type 0} (faults : D → ℕ) (gives : List StoreEntry → ℤ → 
           (all.0, omega (arith, all.1, later.1));
     }
 
-    pub HasSaid-then : HasSaid faults gives start old between messages replies mid → HasSaid faults gives mid between new others more end →
+    pub HasSaid-then : HasSaid faults gives start old between messages replies mid →
+        HasSaid faults gives mid between new others more end →
         HasSaid faults gives start old new (messages ++ others) (replies ++ more) end
     HasSaid-then one other = record {
       given = one.given ++ other.given;
@@ -205,7 +219,8 @@ module _ {D : Type 0} (faults : D → ℕ) (gives : List StoreEntry → ℤ → 
 
   -- a connection that begins under the pass
   pub Speaks-said : (nonce : List ℕ) (end : Connection) (old new : PassView (LockEntry D)) (messages : List MessageView) (replies : List ReplyView) →
-      HasSaid faults gives (begun_with nonce) old new messages replies end → Speaks faults gives nonce old new messages replies
+      HasSaid faults gives (begun_with nonce) old new messages replies end →
+      Speaks faults gives nonce old new messages replies
   Speaks-said nonce end old new messages replies said =
       let all = said.placed (entries_seen old) (omega arith) in
       record {

@@ -36,7 +36,8 @@ IsShortTerm (terms.Bound n) = Unit {0}
 
 abbrev pub IsShortState : StatePred → Type 0
 IsShortState (state_preds.Owner file owner) = IsShortTerm file × IsShortTerm owner
-IsShortState (state_preds.HasXattr file name value) = IsShortTerm file × (IsShortTerm name × IsShortTerm value)
+IsShortState (state_preds.HasXattr file name value) = IsShortTerm file ×
+    (IsShortTerm name × IsShortTerm value)
 IsShortState (state_preds.InDir file directory) = IsShortTerm file × IsShortTerm directory
 
 abbrev pub IsShortCause : DenialCause → Type 0

@@ -29,7 +29,8 @@ pub record AreAllTaken (left left_after : Option (List ℕ)) (messages : List Me
   pub is_open : IsOpen agreed rest
   pub limit : length bytes ≤ 1073741824
 
--- these messages were taken, and what comes after them is no message, whatever else comes; of that no
+-- these messages were taken, and what comes after them is no message, whatever else comes; of that
+-- no
 -- more was taken than a message and a piece
 pub record IsCutAtBad (left left_after : Option (List ℕ)) (messages : List MessageView) : Type 0 where
   pub bytes : List ℕ
@@ -71,5 +72,6 @@ abbrev pub output_of : List MessageView → List ReplyView → List ℕ
 output_of = talks.output_of reply_bytes
 
 -- beside what it held, the output holds all replies but the last, and of the last some first part
-abbrev pub HoldsButLast : Option (List ℕ) → Option (List ℕ) → List MessageView → List ReplyView → Type 0
+abbrev pub HoldsButLast : Option (List ℕ) → Option (List ℕ) → List MessageView → List ReplyView →
+    Type 0
 HoldsButLast = talks.HoldsButLast reply_bytes

@@ -29,16 +29,22 @@ use Rattle.nine_front.specs.Placed.{WalksPlaced}
 use Rattle.nine_front.specs.Turns.{walk_turns}
 
 -- a walk came to the end of what the pass has seen then, or it took no turn
-abbrev pub IsLatest : {D : Type 0} → PassView (LockEntry D) → PassView (LockEntry D) → ℕ → ℕ → ℕ → Type 0
-IsLatest old new count from to = (to ≡ entries_seen new) ⊎ ((count ≡ 0) × ((new ≡ old) × (to ≡ from)))
+abbrev pub IsLatest : {D : Type 0} → PassView (LockEntry D) → PassView (LockEntry D) → ℕ → ℕ → ℕ →
+    Type 0
+IsLatest old new count from to = (to ≡ entries_seen new) ⊎
+    ((count ≡ 0) × ((new ≡ old) × (to ≡ from)))
 
 module _ {D : Type 0} (gives : List StoreEntry → ℤ → Type 0) where
   -- the pass took a turn, or there was no memory for what it was to ask
-  abbrev pub MayHaveAsked : TurnRequest → PassView (LockEntry D) → PassView (LockEntry D) → TurnReply → Type 0
-  MayHaveAsked request old new reply = HasAsked gives request old new reply ⊎ ((new ≡ old) × (reply ≡ turn_replies.NoMemory))
+  abbrev pub MayHaveAsked : TurnRequest → PassView (LockEntry D) → PassView (LockEntry D) →
+      TurnReply → Type 0
+  MayHaveAsked request old new reply = HasAsked gives request old new reply ⊎
+      ((new ≡ old) × (reply ≡ turn_replies.NoMemory))
 
-  abbrev pub MayHaveLooked : TurnRequest → PassView (LockEntry D) → PassView (LockEntry D) → TurnReply → Bool → Type 0
-  MayHaveLooked request old new reply kind = HasLooked gives request old new reply kind ⊎ ((new ≡ old) × (reply ≡ turn_replies.NoMemory))
+  abbrev pub MayHaveLooked : TurnRequest → PassView (LockEntry D) → PassView (LockEntry D) →
+      TurnReply → Bool → Type 0
+  MayHaveLooked request old new reply kind = HasLooked gives request old new reply kind ⊎
+      ((new ≡ old) × (reply ≡ turn_replies.NoMemory))
 
   -- the turn for a name of a walk named this node, and said whether it is a directory
   pub record HasFound (purse : List Procap) (who : List ℕ) (old new : PassView (LockEntry D))
@@ -49,7 +55,8 @@ module _ {D : Type 0} (gives : List StoreEntry → ℤ → Type 0) where
     pub looked : HasLooked gives (look_of who node name procap) old new replied kind
     pub named : node_named replied ≡ Some child
 
-  -- where a walk is placed in each history that begins with what the pass has seen, with so many turns
+  -- where a walk is placed in each history that begins with what the pass has seen, with so many
+  -- turns
   pub record IsWalkedFrom (purse : List Procap) (who : List ℕ) (old new : PassView (LockEntry D))
       (node : NodeId) (names : List (List ℕ)) (found : List FidFile) (end : Option (List ℕ))
       (given : List StoreEntry) (count from : ℕ) : Type 0 where

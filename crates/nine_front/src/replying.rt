@@ -171,7 +171,8 @@ fn tree_reply(count: u32, replied: TreeReply) -> NineReply
 // The reply to an operation, which is one on the tree.
 fn operation_reply(count: u32, replied: OpReply) -> NineReply
     requires { IsShortOperation MOST_SIZE replied }
-    ensures says { (nonce : List ℕ) → reply_view_of nonce result ≡ operation_reply_view count replied }
+    ensures says { (nonce : List ℕ) →
+        reply_view_of nonce result ≡ operation_reply_view count replied }
     ensures writable { (nonce : List ℕ) → IsWritableReply (reply_view_of nonce result) }
 {
     match replied {

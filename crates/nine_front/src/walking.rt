@@ -120,7 +120,8 @@ pub(crate) fn walk_names<R: Wait, D: Disk, C: TurnClock>(
     requires few { length found.old + length names.now ≤ 16 }
     ensures walked { (files : List File) × (found.new ≡ found.old ++ files)
         × HasWalked (C.gives clock.now) connection.now.purse who pass.old pass.new node names.now files (walk_end result) }
-    ensures stopped { walk_end result ≡ Some (reply_text lines.Stopped) → HasSeenFault D.faults pass.new }
+    ensures stopped { walk_end result ≡ Some (reply_text lines.Stopped) →
+        HasSeenFault D.faults pass.new }
     ensures writable { IfSome result (λ error. IsText (walk_error_text error)) }
     ensures few { length found.new ≤ 16 }
     ensures same_lock { pass.new.lock ≡ lock.now }

@@ -5,7 +5,8 @@ use Rattle.pcfs_ports.specs.Observable.{with_front, ReadsToEnd}
 use Rattle.session_loop.specs.Cutting.{Cutting, Cuts}
 
 module _ (c : Cutting) where
-  -- these items were taken, and then some rest, of no more bytes than less than an item and a piece;
+  -- these items were taken, and then some rest, of no more bytes than less than an item and a
+  -- piece;
   -- in all no more than the limit of an input
   pub record AreTaken (left left_after : Option (List ℕ)) (items : List c.Item) : Type 0 where
     pub bytes : List ℕ

@@ -39,7 +39,8 @@ module _ {P : Type 0} (t : Talking P) where
 
       -- Which items a talk answers that ends so: all of the input; those before what is no item, or
       -- before what the end of the input leaves none; or all that were taken whole.
-      pub data TalkReplies (items : List t.cutting.Item) (replies : List t.Reply) : TalkEnd → Type 0 where
+      pub data TalkReplies (items : List t.cutting.Item) (replies : List t.Reply) : TalkEnd →
+          Type 0 where
         done : IsReadWhole t.cutting before.left after.left items → Speaks items replies →
             TalkReplies items replies ends.Done
         at_bad : IsCutAtBad t.cutting before.left after.left items → Speaks items replies →
@@ -68,4 +69,5 @@ module _ {P : Type 0} (t : Talking P) where
         cut_at_bad : (fault : Unsent) (items : List t.cutting.Item) (replies : List t.Reply) →
             (fault ≡ Write → HasRisen before.write_faults after.write_faults) →
             TalkReplies items replies ends.Bad →
-            HoldsReplies t.text t.bad_text before.held after.held items replies → TalkEnds (unsent_end fault)
+            HoldsReplies t.text t.bad_text before.held after.held items replies →
+            TalkEnds (unsent_end fault)

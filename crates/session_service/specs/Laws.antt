@@ -109,7 +109,8 @@ SessionsArePlaced D faults gives = (nonce : List ℕ) (opening : StoreView D)
 -- A session of a pass that was made after another had left. In each history that begins with what
 -- the session's pass has seen at the end, the entries come first that the other had seen when
 -- something was told under it, and the replies are placed after them.
-abbrev pub LaterSessionsArePlacedAfter : (D : Type 0) → (D → ℕ) → (List StoreEntry → ℤ → Type 0) → Type 0
+abbrev pub LaterSessionsArePlacedAfter : (D : Type 0) → (D → ℕ) → (List StoreEntry → ℤ → Type 0) →
+    Type 0
 LaterSessionsArePlacedAfter D faults gives = (nonce : List ℕ) (opening : StoreView D)
     (told old new : PassView (LockEntry D)) (lines : List (List ℕ)) (answers : List LineReply) →
     (h : HasHistory opening told) → IsMadeAfter told old →

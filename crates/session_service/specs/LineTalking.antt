@@ -90,7 +90,8 @@ module _ {D : Type 0} (faults : D → ℕ) (gives : List StoreEntry → ℤ → 
 
 -- ---- where a session is
 
--- a framer holds what is left: all of it, of which no line is too long; or the lines before one that is
+-- a framer holds what is left: all of it, of which no line is too long; or the lines before one
+-- that is
 pub data IsHeld (framer : FramerState) (is_long : Bool) (left : List ℕ) : Type 0 where
   short : is_long ≡ false → AreShort left → framer ≡ record { left = left; is_long = false } →
       IsHeld framer is_long left

@@ -54,7 +54,8 @@ pub record MaySay {I : Type 0} (left : I → Option (List ℕ))
   pub accepted : IsInputOf inputs number (left input)
   pub first : AreFirstLines (left input) lines
 
--- The clock gives these moments over these entries. Lines are said by inputs of one type, of which `left` is what they
+-- The clock gives these moments over these entries. Lines are said by inputs of one type, of which
+-- `left` is what they
 -- tell: those of the connection of a number are the first lines of its input as it was accepted,
 -- under the nonce of that number. If the listener does
 -- not tell its connections, they are those of any input, at any moment of it; and if it is not told
