@@ -26,7 +26,7 @@ of_word name word given result is said = subst (Asked given result) (sym is) sai
 pub returns-then-eq : goal.returns-then-eq
 returns-then-eq c =
     of_word c.args.name.now (codes "script") (rows_of (found_of c.args.given.now)) c.script_task.result
-        (is_word c.args.name.now (codes "script") c.eq.result c.eq.ensures c.if-eq.true) c.script_task.ensures
+    (is_word c.args.name.now (codes "script") c.eq.result c.eq.ensures c.if-eq.true) c.script_task.ensures
 
 pub returns-then-eq-2 : goal.returns-then-eq-2
 returns-then-eq-2 c = is_word c.args.name.now (codes "init") c.eq-2.result c.eq-2.ensures c.if-eq-2.true
@@ -37,12 +37,12 @@ returns-then-eq-3 c = is_word c.args.name.now (codes "checkpoint") c.eq-3.result
 pub returns-then-eq-4 : goal.returns-then-eq-4
 returns-then-eq-4 c =
     of_word c.args.name.now (codes "audit") (rows_of (found_of c.args.given.now)) c.audit_task.result
-        (is_word c.args.name.now (codes "audit") c.eq-4.result c.eq-4.ensures c.if-eq-4.true) c.audit_task.ensures
+    (is_word c.args.name.now (codes "audit") c.eq-4.result c.eq-4.ensures c.if-eq-4.true) c.audit_task.ensures
 
 pub returns-then-eq-5 : goal.returns-then-eq-5
 returns-then-eq-5 c =
     of_word c.args.name.now (codes "export") (rows_of (found_of c.args.given.now)) c.export_task.result
-        (is_word c.args.name.now (codes "export") c.eq-5.result c.eq-5.ensures c.if-eq-5.true) c.export_task.ensures
+    (is_word c.args.name.now (codes "export") c.eq-5.result c.eq-5.ensures c.if-eq-5.true) c.export_task.ensures
 
 pub returns-then-eq-6 : goal.returns-then-eq-6
 returns-then-eq-6 c = is_word c.args.name.now (codes "follow") c.eq-6.result c.eq-6.ensures c.if-eq-6.true
@@ -53,27 +53,27 @@ returns-then-eq-7 c = is_word c.args.name.now (codes "check") c.eq-7.result c.eq
 pub returns-then-eq-8 : goal.returns-then-eq-8
 returns-then-eq-8 c =
     of_word c.args.name.now (codes "load") (rows_of (found_of c.args.given.now)) c.load_task.result
-        (is_word c.args.name.now (codes "load") c.eq-8.result c.eq-8.ensures c.if-eq-8.true) c.load_task.ensures
+    (is_word c.args.name.now (codes "load") c.eq-8.result c.eq-8.ensures c.if-eq-8.true) c.load_task.ensures
 
 pub returns-then-eq-9 : goal.returns-then-eq-9
 returns-then-eq-9 c =
     of_word c.args.name.now (codes "modes") (rows_of (found_of c.args.given.now)) c.modes_task.result
-        (is_word c.args.name.now (codes "modes") c.eq-9.result c.eq-9.ensures c.if-eq-9.true) c.modes_task.ensures
+    (is_word c.args.name.now (codes "modes") c.eq-9.result c.eq-9.ensures c.if-eq-9.true) c.modes_task.ensures
 
 pub returns-then-eq-10 : goal.returns-then-eq-10
 returns-then-eq-10 c =
     of_word c.args.name.now (codes "rootsign") (rows_of (found_of c.args.given.now)) c.rootsign_task.result
-        (is_word c.args.name.now (codes "rootsign") c.eq-10.result c.eq-10.ensures c.if-eq-10.true) c.rootsign_task.ensures
+    (is_word c.args.name.now (codes "rootsign") c.eq-10.result c.eq-10.ensures c.if-eq-10.true) c.rootsign_task.ensures
 
 pub returns-then-eq-11 : goal.returns-then-eq-11
 returns-then-eq-11 c =
     of_word c.args.name.now (codes "serve") (rows_of (found_of c.args.given.now)) c.serve_task.result
-        (is_word c.args.name.now (codes "serve") c.eq-11.result c.eq-11.ensures c.if-eq-11.true) c.serve_task.ensures
+    (is_word c.args.name.now (codes "serve") c.eq-11.result c.eq-11.ensures c.if-eq-11.true) c.serve_task.ensures
 
 pub returns-then-eq-12 : goal.returns-then-eq-12
 returns-then-eq-12 c =
     of_word c.args.name.now (codes "serve9") (rows_of (found_of c.args.given.now)) c.serve9_task.result
-        (is_word c.args.name.now (codes "serve9") c.eq-12.result c.eq-12.ensures c.if-eq-12.true) c.serve9_task.ensures
+    (is_word c.args.name.now (codes "serve9") c.eq-12.result c.eq-12.ensures c.if-eq-12.true) c.serve9_task.ensures
 
 pub returns : goal.returns
 returns c = no_command (rows_of (found_of c.args.given.now)) c.args.name.now
