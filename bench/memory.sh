@@ -1,9 +1,10 @@
 #!/usr/bin/env bash
-# Measures the memory that a store takes for an event, and for being opened: N and 2N reads, and N and 2N issues, run by
-# `pcfs script --stored` over a store in a folder, in memory where the system has /dev/shm; the store with 2N reads is
-# opened again. What an event takes is the difference of the greatest memory of the two runs; beside it stands what it
-# takes of the area. Aims: 160 bytes a read, 200 an issue, an opening within 4 times the area. It makes its own input, ends
-# by itself and decides no test.
+# Measures the memory that a store takes for an event, and for being opened: five numbers of reads, and of issues, run by
+# `pcfs script --stored` over a store in a folder, in memory where the system has /dev/shm; the store with the most reads is
+# opened again. What an event takes is the median of the differences of the greatest memory of two of the runs; beside it stands
+# what it takes of the area, and how far a run is from that line at most: where that is much, the system took pages back, and the
+# figure tells nothing. Aims: 160 bytes a read, 200 an issue, an opening within 4 times the area. It makes its own input, ends by
+# itself and decides no test.
 set -euo pipefail
 top=$(cd "$(dirname "$0")/.." && pwd)
 rooms=(${TMPDIR:+"$TMPDIR"} /dev/shm /tmp)

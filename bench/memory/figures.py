@@ -2,6 +2,8 @@
 import os
 import subprocess
 import sys
+from itertools import combinations
+from statistics import median
 
 program, work = sys.argv[1:]
 PROOF = "saysR(claim(0,init(1)))"
@@ -39,8 +41,26 @@ def stored(line, count):
     return memory, os.path.getsize(f"{work}/pcfs.a")
 
 
-for name, line, count in (("an issue", ISSUE, 8_000), ("a read", READ, 100_000)):
-    (once, small), (twice, large) = stored(line, count), stored(line, 2 * count)
-    print(f"{name}: {(twice - once) / count:,.1f} bytes of memory, {(large - small) / count:,.1f} of the area")
+def line_through(points):
+    """The slope of the line through these points, the median of those between two of them, and how far a point is from it at most."""
+    slope = median((y - v) / (x - u) for (u, v), (x, y) in combinations(points, 2))
+    base = median(y - slope * x for x, y in points)
+    return slope, max(abs(y - base - slope * x) for x, y in points)
+
+
+def measured(name, line, counts):
+    """Prints what one more takes, and how well the line fits; the bytes of the last area."""
+    taken = [(count, *stored(line, count)) for count in counts]
+    memory, beside = line_through([(count, memory) for count, memory, _ in taken])
+    area, _ = line_through([(count, area) for count, _, area in taken])
+    share = 100 * beside / (memory * (counts[-1] - counts[0])) if memory > 0 else float("inf")
+    print(f"{name}: {memory:,.1f} bytes of memory, {area:,.1f} of the area; of {len(counts)} sizes from {counts[0]:,} to {counts[-1]:,} the farthest is {beside / 1e6:.2f} MB off the line, {share:.1f} % of its rise")
+    return taken[-1][2]
+
+
+SIZES = 5
+measured("an issue", ISSUE, [3_200 * size for size in range(1, SIZES + 1)])
+counts = [40_000 * size for size in range(1, SIZES + 1)]
+large = measured("a read", READ, counts)
 opened = run("script", "--stored", text="at 100\n")
-print(f"an opening of {2 * count:,} reads: {opened / 1e6:,.1f} MB, {opened / large:.1f} times the area")
+print(f"an opening of {counts[-1]:,} reads: {opened / 1e6:,.1f} MB, {opened / large:.1f} times the area")

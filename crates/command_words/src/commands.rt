@@ -1,9 +1,9 @@
 //! The commands of the program, for `clap`.
 
 ghost use Rattle.std.specs.Prelude.{◌≡◌, IfOk, false};
-ghost use Rattle.clap.specs.Words.{AddsSubcommand, app_of, rule_of, with_subcommand};
+ghost use Rattle.clap.specs.Words.{AddsSubcommand, app_of, new_app, rule_of, with_rule, with_subcommand};
 ghost use Rattle.clap.specs.declared.builder.command.Command.{Command};
-ghost use Rattle.command_words.specs.Commands.{audit_app, export_app, flag_rule, load_app, modes_app, no_commands, option_rule, program, rootsign_app, script_app, serve9_app, serve_app, stored_commands, word_rule};
+ghost use Rattle.command_words.specs.Commands.{audit_app, export_app, flag_rule, no_commands, option_rule, program, script_app, stored_commands, word_rule};
 
 use clap::{Arg, ArgAction, Command};
 use std::alloc::{AllocError, Global};
@@ -53,43 +53,18 @@ fn export_command<'a>(alloc: Global) -> Result<Command<'a>, AllocError>
     Ok(command)
 }
 
-fn load_command<'a>(alloc: Global) -> Result<Command<'a>, AllocError>
-    ensures { IfOk result (λ c. (old new : Command) → AddsSubcommand old c new → app_of new ≡ with_subcommand (app_of old) load_app.top) }
+// The command of this name with two words.
+fn two_word_command<'a>(
+    alloc: Global,
+    name: &'a str,
+    first: &'a str,
+    second: &'a str,
+) -> Result<Command<'a>, AllocError>
+    ensures { IfOk result (λ c. (old new : Command) → AddsSubcommand old c new → app_of new ≡ with_subcommand (app_of old)
+        (with_rule (with_rule (new_app name.entry.now) (word_rule first.entry.now)) (word_rule second.entry.now)).top) }
 {
-    let first = Command::new(alloc, "load").arg(word(alloc, "rounds"))?;
-    let command = first.arg(word(alloc, "seed"))?;
-    Ok(command)
-}
-
-fn modes_command<'a>(alloc: Global) -> Result<Command<'a>, AllocError>
-    ensures { IfOk result (λ c. (old new : Command) → AddsSubcommand old c new → app_of new ≡ with_subcommand (app_of old) modes_app.top) }
-{
-    let first = Command::new(alloc, "modes").arg(word(alloc, "from"))?;
-    let command = first.arg(word(alloc, "to"))?;
-    Ok(command)
-}
-
-fn rootsign_command<'a>(alloc: Global) -> Result<Command<'a>, AllocError>
-    ensures { IfOk result (λ c. (old new : Command) → AddsSubcommand old c new → app_of new ≡ with_subcommand (app_of old) rootsign_app.top) }
-{
-    let first = Command::new(alloc, "rootsign").arg(word(alloc, "height"))?;
-    let command = first.arg(word(alloc, "from"))?;
-    Ok(command)
-}
-
-fn serve_command<'a>(alloc: Global) -> Result<Command<'a>, AllocError>
-    ensures { IfOk result (λ c. (old new : Command) → AddsSubcommand old c new → app_of new ≡ with_subcommand (app_of old) serve_app.top) }
-{
-    let first = Command::new(alloc, "serve").arg(word(alloc, "port"))?;
-    let command = first.arg(word(alloc, "count"))?;
-    Ok(command)
-}
-
-fn serve9_command<'a>(alloc: Global) -> Result<Command<'a>, AllocError>
-    ensures { IfOk result (λ c. (old new : Command) → AddsSubcommand old c new → app_of new ≡ with_subcommand (app_of old) serve9_app.top) }
-{
-    let first = Command::new(alloc, "serve9").arg(word(alloc, "port"))?;
-    let command = first.arg(word(alloc, "count"))?;
+    let with_first = Command::new(alloc, name).arg(word(alloc, first))?;
+    let command = with_first.arg(word(alloc, second))?;
     Ok(command)
 }
 
@@ -107,12 +82,12 @@ fn stored_commands<'a>(alloc: Global) -> Result<Command<'a>, AllocError>
     ensures { IfOk result (λ c. app_of c ≡ stored_commands) }
 {
     let script = script_command(alloc)?;
-    let audit = audit_command(alloc)?;
-    let export = export_command(alloc)?;
     let with_script = no_commands(alloc).subcommand(script)?;
     let with_init = with_script.subcommand(Command::new(alloc, "init"))?;
+    let audit = audit_command(alloc)?;
     let with_audit = with_init.subcommand(audit)?;
     let with_checkpoint = with_audit.subcommand(Command::new(alloc, "checkpoint"))?;
+    let export = export_command(alloc)?;
     let with_export = with_checkpoint.subcommand(export)?;
     let command = with_export.subcommand(Command::new(alloc, "follow"))?;
     Ok(command)
@@ -122,17 +97,17 @@ fn stored_commands<'a>(alloc: Global) -> Result<Command<'a>, AllocError>
 pub fn program<'a>(alloc: Global) -> Result<Command<'a>, AllocError>
     ensures { IfOk result (λ c. app_of c ≡ program) }
 {
-    let load = load_command(alloc)?;
-    let modes = modes_command(alloc)?;
-    let rootsign = rootsign_command(alloc)?;
-    let serve = serve_command(alloc)?;
-    let serve9 = serve9_command(alloc)?;
     let stored = stored_commands(alloc)?;
     let with_check = stored.subcommand(Command::new(alloc, "check"))?;
+    let load = two_word_command(alloc, "load", "rounds", "seed")?;
     let with_load = with_check.subcommand(load)?;
+    let modes = two_word_command(alloc, "modes", "from", "to")?;
     let with_modes = with_load.subcommand(modes)?;
+    let rootsign = two_word_command(alloc, "rootsign", "height", "from")?;
     let with_rootsign = with_modes.subcommand(rootsign)?;
+    let serve = two_word_command(alloc, "serve", "port", "count")?;
     let with_serve = with_rootsign.subcommand(serve)?;
+    let serve9 = two_word_command(alloc, "serve9", "port", "count")?;
     let command = with_serve.subcommand(serve9)?;
     Ok(command)
 }
