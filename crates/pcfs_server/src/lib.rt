@@ -1,4 +1,5 @@
-//! Serving: each connection of a listener is attended by a service, at most once, in a thread of its own, at most so many at a time.
+//! Serving: each connection of a listener is attended by a service, at most once; by the order of the code in a thread of its
+//! own, and at most so many at a time.
 //!
 //! `serve_conns` returns how it ended and how many connections were attended: what the service's own count rose by. Each
 //! token that the service admitted was attended at most once and has left; and it was attended with the connection of its

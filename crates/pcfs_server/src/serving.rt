@@ -243,10 +243,11 @@ where
     );
 }
 
-/// Listens on `port`, and attends `count` of its connections, each once, at most `most` at a time.
+/// Listens on `port`, and attends `count` of its connections, each once.
 ///
-/// Each connection is attended in a thread of its own. Where none can be started, or `most` is 1, the caller attends it
-/// itself. While as many as `most` are at hand, the next connection is accepted only after one has ended. Before it returns
+/// By the order of the code each connection is attended in a thread of its own, at most `most` at a time: where none can be
+/// started, or `most` is 1, the caller attends it itself, and while as many as `most` are at hand, the next connection is
+/// accepted only after one has ended. Before it returns
 /// it waits until all have ended, so each token has left: as many are out as before, and the number in the end is what the
 /// door's count of tokens that were attended and left rose by.
 ///
@@ -256,9 +257,9 @@ where
 ///
 /// `Done` comes only if `count` were attended or the listener is over and gave all that it tells; at every other end fewer were. `NetFault` comes only if the listener's count of
 /// faults or the door's rose: exactly one call failed, of one of the two, and nothing more was asked of that one. At each
-/// other end no call of either failed. `NoMemory` may come at any time before that. Memory that is refused for a thread is no end:
-/// the caller then attends the connection itself. A connection that was accepted and not admitted is dropped. With a
-/// `count` of 0 it does not listen.
+/// other end no call of either failed. `NoMemory` may come at any time before that. By the order of the code memory that is
+/// refused for a thread is no end, as the caller then attends the connection itself; a connection that was accepted and not
+/// admitted is dropped; and with a `count` of 0 it does not listen.
 pub fn serve_conns<R: Threads + Wait + Sync, L: Listener, H: Service<L::In, L::Out> + Sync>(
     rt: &R,
     alloc: Global,
