@@ -66,13 +66,7 @@ pub(crate) fn hear<R: Wait, D: Disk, C: TurnClock, K: Checker>(
     ensures same_lock { pass.new.lock ≡ lock.now }
 {
     match framer.next_line() {
-        None => {
-            if is_long {
-                Heard::Bad
-            } else {
-                Heard::Open
-            }
-        }
+        None => { if is_long { Heard::Bad } else { Heard::Open } }
         Some(line) => {
             let spelled = speak(
                 rt, alloc, lock, pass, clock, nonce, caller, line, checker, out,

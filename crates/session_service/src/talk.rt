@@ -43,7 +43,8 @@ impl<'a, K> LineTalk<'a, K> {
     }
 }
 
-impl<'a, D: Disk, C: TurnClock, K: Checker> Talk<TreeLock<OpenedStore<D>>, Pass<OpenedStore<D>>, C> for LineTalk<'a, K> {
+impl<'a, D: Disk, C: TurnClock, K: Checker> Talk<TreeLock<OpenedStore<D>>, Pass<OpenedStore<D>>, C>
+    for LineTalk<'a, K> {
     ghost talking = { λ clock. line_talking D.faults (C.gives clock) };
 
     ghost stands = { λ clock talk. StandsAt talk.nonce talk.caller talk.framer talk.is_long };
