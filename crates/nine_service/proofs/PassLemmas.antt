@@ -1,6 +1,5 @@
 -- The entries of a pass under which a connection ended are those of its messages.
-use Rattle.std.proofs.Common.{◌≡◌, ◌∙◌, ℕ, List, [], ◌++◌, Option, Some, None, sym, ap, subst, append-nil}
-use Rattle.std.specs.Prelude.{ℤ}
+use Rattle.std.proofs.Common.{◌≡◌, ◌∙◌, ℕ, List, [], ◌++◌, Option, Some, None, sym, ap, subst}
 use mathlib.Core.List.{IsPrefix}
 use Rattle.pcfs_ports.specs.Observable.{with_front, ReadsToEnd}
 use Rattle.tree_lock.specs.Seen.{PassView}
