@@ -1,20 +1,18 @@
 -- A line that came next, or last, is answered.
-use Rattle.std.proofs.Common.{◌≡◌, ◌∙◌, ◌≤◌, ℕ, Bool, true, false, List, [], ◌∷◌, ◌++◌, length, Option, refl, sym, ap, subst}
+use Rattle.std.proofs.Common.{◌≡◌, ◌∙◌, ◌≤◌, ℕ, Bool, List, [], ◌∷◌, length, Option, refl, sym, ap, subst}
 use Rattle.std.specs.Prelude.{ℤ}
 use Rattle.line_text.specs.Lines.{lines_of}
 use Rattle.line_text.specs.Words.{HasNo}
 use Rattle.line_framer.specs.Framing.{FramerState, IsLine}
-use Rattle.line_framer.specs.Scanning.{HasLong}
 use Rattle.line_framer.proofs.FramingLemmas.{last_line}
 use Rattle.line_wire.specs.declared.reply.LineReply.{LineReply}
 use Rattle.line_wire.specs.declared.reply.LineReply.TheVariants.{Stopped}
 use Rattle.tree_lock.specs.Seen.{PassView}
-use Rattle.pcfs_session.proofs.TakenLemmas.{none_left}
 use Rattle.pcfs_store.specs.Entries.{StoreEntry}
 use Rattle.session_history.specs.SessionState.{SessionState}
 use Rattle.session_lines.specs.Replied.{HasReplied}
 use Rattle.session_loop.specs.declared.heard.Heard.TheVariants as heards
-use Rattle.session_loop.specs.Heard.{HasHeard, IsAnswered, HasHeardLast, IsLastAnswered, HasNoLast}
+use Rattle.session_loop.specs.Heard.{HasHeard, IsAnswered, HasHeardLast, IsLastAnswered}
 use Rattle.shared_store.specs.declared.entry.LockEntry.{LockEntry}
 use Rattle.shared_store.specs.Asking.{HasSeenFault}
 use Rattle.session_service.specs.LineTalking.{line_talking, reply_line, AreSaid, IsHeld, short, long, StandsAt}

@@ -1,10 +1,10 @@
 -- What a framer holds of what is left.
-use Rattle.std.proofs.Common.{◌≡◌, ◌∙◌, ◌≤◌, ◌<◌, ℕ, Bool, true, false, List, [], ◌∷◌, ◌++◌, length, refl, sym, ap, subst, arith, append_assoc, length-append}
+use Rattle.std.proofs.Common.{◌≡◌, ◌∙◌, ◌≤◌, ℕ, Bool, true, false, List, [], ◌∷◌, ◌++◌, length, refl, sym, ap, subst, arith, append_assoc, length-append}
 use Rattle.std.specs.List.{AllByRecursion}
 use Rattle.line_text.specs.Lines.{lines_of}
 use Rattle.line_text.specs.Words.{HasNo}
 use Rattle.line_framer.specs.Framing.{FramerState, ended, IsFirst, IsLine}
-use Rattle.line_framer.specs.Feeding.{AreShort, IsFed, IsTooLong, already, with_piece}
+use Rattle.line_framer.specs.Feeding.{AreShort, IsTooLong, already, with_piece}
 use Rattle.line_framer.specs.Scanning.{HasLong}
 use Rattle.line_framer.proofs.FramingLemmas.{has_end, first_line, one_first, same_rest}
 use Rattle.pcfs_session.proofs.TakenLemmas.{AreFirst-none, AreShort-open, few_left, IsBefore-long}

@@ -1,5 +1,5 @@
 -- Where the lines of a session are placed.
-use Rattle.std.proofs.Common.{◌≡◌, ◌⊎◌, ⊎_elim, inl, inr, ℕ, ◌+◌, ◌*◌, ◌≤◌, List, [], ◌∷◌, ◌++◌, length, length-append, Option, None, sym, subst, arith, append_assoc, append-nil}
+use Rattle.std.proofs.Common.{◌≡◌, ℕ, ◌≤◌, List, length, sym, subst, arith}
 use Rattle.std.specs.Prelude.{ℤ}
 use mathlib.Core.List.{IsPrefix}
 use Rattle.tree_lock.specs.Seen.{PassView}
@@ -14,7 +14,7 @@ use Rattle.session_history.specs.Placed.{LinesPlaced}
 use Rattle.shared_store.specs.declared.entry.LockEntry.{LockEntry}
 use Rattle.shared_store.specs.LockHistory.{lock_history, bare}
 use Rattle.shared_store.specs.Turning.{pass_at}
-use Rattle.shared_store.specs.Asking.{entries_seen, HasHistory, InEachHistory, HasSeenFault}
+use Rattle.shared_store.specs.Asking.{entries_seen, HasHistory, InEachHistory}
 use Rattle.shared_store.proofs.HistoryLemmas.{opened_alike, entries_after}
 use Rattle.session_lines.proofs.ToldLemmas.{told_few}
 use Rattle.session_service.specs.Said.{HasSaid}

@@ -2,7 +2,7 @@
 use Rattle.std.proofs.Common.{◌≡◌, ◌∙◌, ◌≤◌, ℕ, List, [], ◌∷◌, ◌++◌, length, take, Option, refl, sym, ap, subst, arith, append_assoc, append-nil}
 use Rattle.std.specs.Prelude.{ℤ}
 use Rattle.pcfs_ports.specs.Faults.{HasRisen}
-use Rattle.pcfs_ports.specs.Observable.{with_back, ReadsToEnd, HoldsSome}
+use Rattle.pcfs_ports.specs.Observable.{with_back, ReadsToEnd}
 use Rattle.line_text.specs.Lines.{lines_of}
 use Rattle.line_framer.specs.Framing.{ended, IsLine}
 use Rattle.line_framer.specs.Feeding.{AreShort}

@@ -1,5 +1,5 @@
 -- A session as a talk: its lines, each answered by one reply (this project's own).
-use Rattle.std.proofs.Common.{◌≡◌, ◌∙◌, ◌≤◌, ◌<◌, ℕ, Bool, true, false, List, [], ◌∷◌, ◌++◌, length, Option, refl, ap, arith, append_assoc, length-append}
+use Rattle.std.proofs.Common.{◌≡◌, ◌∙◌, ◌≤◌, ℕ, Bool, true, false, List, [], ◌∷◌, ◌++◌, length, Option, refl, ap, arith, append_assoc, length-append}
 use Rattle.std.specs.Prelude.{ℤ}
 use Rattle.bl_syntax.specs.declared.limits.TheConstants.{LONGEST_LINE}
 use Rattle.line_text.specs.Lines.{lines_of}

@@ -1,7 +1,6 @@
--- The laws of lines that are said, for the place of a session among the talks: they are answered
--- one
+-- The laws of lines that are said, for the place of a session among the talks: they are answered one
 -- after the other.
-use Rattle.std.proofs.Common.{◌≡◌, ◌⊎◌, ⊎_elim, inl, inr, ℕ, ◌+◌, ◌*◌, ◌≤◌, List, [], ◌∷◌, ◌++◌, length, length-append, sym, subst, arith, append_assoc, append-nil}
+use Rattle.std.proofs.Common.{◌≡◌, ◌⊎◌, ⊎_elim, inl, inr, ℕ, ◌+◌, ◌*◌, List, [], ◌∷◌, ◌++◌, length, length-append, sym, subst, arith, append_assoc, append-nil}
 use Rattle.std.specs.Prelude.{ℤ}
 use mathlib.Core.List.{IsPrefix}
 use Rattle.tree_lock.specs.Seen.{PassView}
@@ -27,25 +26,29 @@ use Rattle.session_service.specs.Said.{SaysStopped, turns_of, AreSaidFrom, HasSa
 
 module _ (gives : List StoreEntry → ℤ → Type 0) (p : StorePass) (history : List StoreEntry) (start : SessionState) (from : ℕ) where
   -- the same lines, said otherwise
-  as_lines : (lines also : List (List ℕ)) (answers replies : List LineReply) (end : SessionState) (to : ℕ) (given added : List StoreEntry) →
-      lines ≡ also → answers ≡ replies → given ≡ added →
-      LinesPlaced gives p history start from lines answers end to given →
-      LinesPlaced gives p history start from also replies end to added
+  as_lines : (lines also : List (List ℕ)) (answers replies : List LineReply) (end : SessionState) (to : ℕ) (given added : List StoreEntry) → lines ≡ also →
+      answers ≡ replies → given ≡ added →
+      LinesPlaced gives p history start from lines answers end to given → LinesPlaced gives p history start from also replies end to added
   as_lines lines also answers replies end to given added one two three placed =
       subst (λ (l : List (List ℕ)). LinesPlaced gives p history start from l replies end to added) one
       (subst (λ (a : List LineReply). LinesPlaced gives p history start from lines a end to added) two
       (subst (λ (g : List StoreEntry). LinesPlaced gives p history start from lines answers end to g) three placed))
 
   -- more lines after lines
-  pub LinesPlaced-then : (lines : List (List ℕ)) (answers : List LineReply) (mid : SessionState) (at : ℕ) (given : List StoreEntry) (others : List (List ℕ)) (more : List LineReply) (end : SessionState) (to : ℕ) (added : List StoreEntry) → LinesPlaced gives p history start from lines answers mid at given →
+  pub LinesPlaced-then : (lines : List (List ℕ)) (answers : List LineReply) (mid : SessionState) (at : ℕ) (given : List StoreEntry)
+      (others : List (List ℕ)) (more : List LineReply) (end : SessionState) (to : ℕ) (added : List StoreEntry) →
+      LinesPlaced gives p history start from lines answers mid at given →
       LinesPlaced gives p history mid at others more end to added →
       LinesPlaced gives p history start from (lines ++ others) (answers ++ more) end to (given ++ added)
   LinesPlaced-then lines answers mid at given _ _ _ _ _ first no_line =
-      as_lines lines (lines ++ []) answers (answers ++ []) mid at given (given ++ []) (sym (append-nil lines)) (sym (append-nil answers)) (sym (append-nil given)) first
+      as_lines lines (lines ++ []) answers (answers ++ []) mid at given (given ++ []) (sym (append-nil lines)) (sym (append-nil answers))
+      (sym (append-nil given)) first
   LinesPlaced-then lines answers mid at given _ _ _ _ _ first (one_more others more s then_at added line task reply to last placed is here) =
-      as_lines ((lines ++ others) ++ line ∷ []) (lines ++ (others ++ line ∷ [])) ((answers ++ more) ++ reply ∷ []) (answers ++ (more ++ reply ∷ [])) _ to ((given ++ added) ++ last) (given ++ (added ++ last))
+      as_lines ((lines ++ others) ++ line ∷ []) (lines ++ (others ++ line ∷ [])) ((answers ++ more) ++ reply ∷ []) (answers ++ (more ++ reply ∷ [])) _ to
+      ((given ++ added) ++ last) (given ++ (added ++ last))
       (append_assoc lines others (line ∷ [])) (append_assoc answers more (reply ∷ [])) (append_assoc given added last)
-      (one_more (lines ++ others) (answers ++ more) s then_at (given ++ added) line task reply to last (LinesPlaced-then lines answers mid at given others more s then_at added first placed) is here)
+      (one_more (lines ++ others) (answers ++ more) s then_at (given ++ added) line task reply to last
+      (LinesPlaced-then lines answers mid at given others more s then_at added first placed) is here)
 
 -- ---- that the store is stopped
 
@@ -53,52 +56,58 @@ only_stopped : (reply : LineReply) → SaysStopped (reply ∷ []) → reply ≡ 
 only_stopped reply (inl is) = is
 only_stopped reply (inr none) = absurd none
 
-either_stopped : (answers more : List LineReply) → SaysStopped (answers ++ more) →
-    SaysStopped answers ⊎ SaysStopped more
+either_stopped : (answers more : List LineReply) → SaysStopped (answers ++ more) → SaysStopped answers ⊎ SaysStopped more
 either_stopped [] more says = inr says
 either_stopped (reply ∷ answers) more (inl is) = inl (inl is)
-either_stopped (reply ∷ answers) more (inr says) = ⊎
-    _elim (λ (first : SaysStopped answers). inl (inr first)) (λ (other : SaysStopped more). inr other) (either_stopped answers more says)
+either_stopped (reply ∷ answers) more (inr says) = ⊎_elim (λ (first : SaysStopped answers). inl (inr first)) (λ (other : SaysStopped more). inr other)
+    (either_stopped answers more says)
 
 -- ---- turns
 
-turns_of-append : (answers more : List LineReply) →
-    turns_of (answers ++ more) ≡ turns_of answers + turns_of more
+turns_of-append : (answers more : List LineReply) → turns_of (answers ++ more) ≡ turns_of answers + turns_of more
 turns_of-append [] more = omega arith
 turns_of-append (reply ∷ answers) more = let rest = turns_of-append answers more in omega (arith, rest)
 
 -- ---- under a pass
 
 module _ {D : Type 0} (faults : D → ℕ) (gives : List StoreEntry → ℤ → Type 0) where
-  pub HasSaid-none : (state : SessionState) (pass : PassView (LockEntry D)) →
-      HasSaid faults gives state pass pass [] [] state
+  pub HasSaid-none : (state : SessionState) (pass : PassView (LockEntry D)) → HasSaid faults gives state pass pass [] [] state
   HasSaid-none state pass =
-      record { given = []; goes_on = stays pass; placed = λ from within. record { to = from; within = within; placed = λ opening entries begins. no_line }; stopped = λ says. absurd says; turns = no_turn 0 pass.turns }
+      record {
+        given = [];
+        goes_on = stays pass;
+        placed = λ from within. record { to = from; within = within; placed = λ opening entries begins. no_line };
+        stopped = λ says. absurd says;
+        turns = no_turn 0 pass.turns;
+      }
 
   said_line : (state : SessionState) (line : List ℕ) (old new : PassView (LockEntry D)) (after : SessionState) (reply : LineReply) (from : ℕ) →
-      (r : HasReplied gives state line old new after reply) →
-      IsPlacedFrom gives r.task old new reply r.done.given from →
+      (r : HasReplied gives state line old new after reply) → IsPlacedFrom gives r.task old new reply r.done.given from →
       AreSaidFrom faults gives state old new (line ∷ []) (reply ∷ []) after r.done.given from
   said_line state line old new after reply from r at = record {
     to = at.to;
     within = at.within;
     placed = λ opening entries begins.
-        subst (λ (s : SessionState). LinesPlaced gives (pass_at opening old.number) entries state from (line ∷ []) (reply ∷ []) s at.to r.done.given) (sym r.after_is)
+        subst (λ (s : SessionState). LinesPlaced gives (pass_at opening old.number) entries state from (line ∷ []) (reply ∷ []) s at.to r.done.given)
+        (sym r.after_is)
         (one_more [] [] state from [] line r.task reply at.to r.done.given no_line r.is_task (at.placed opening entries begins));
   }
 
   pub HasSaid-line : (state : SessionState) (line : List ℕ) (old new : PassView (LockEntry D)) (after : SessionState) (reply : LineReply) →
-      HasReplied gives state line old new after reply →
-      (reply ≡ Stopped → HasSeenFault faults new) →
+      HasReplied gives state line old new after reply → (reply ≡ Stopped → HasSeenFault faults new) →
       HasSaid faults gives state old new (line ∷ []) (reply ∷ []) after
   HasSaid-line state line old new after reply r fault =
-      record { given = r.done.given; goes_on = r.done.goes_on; placed = λ from within. said_line state line old new after reply from r (r.done.placed from within); stopped = λ says. fault (only_stopped reply says); turns = looser (least_turns reply) (least_turns reply + 0) 2 2 old.turns new.turns (omega arith) (omega arith) r.turns }
+      record {
+        given = r.done.given;
+        goes_on = r.done.goes_on;
+        placed = λ from within. said_line state line old new after reply from r (r.done.placed from within);
+        stopped = λ says. fault (only_stopped reply says);
+        turns = looser (least_turns reply) (least_turns reply + 0) 2 2 old.turns new.turns (omega arith) (omega arith) r.turns;
+      }
 
   module _ (start mid end : SessionState) (old between new : PassView (LockEntry D)) (lines others : List (List ℕ)) (answers more : List LineReply) where
-    said_then : (given added : List StoreEntry) (from : ℕ) → between.number ≡ old.number →
-        IsPrefix between.seen new.seen →
-        (a : AreSaidFrom faults gives start old between lines answers mid given from) →
-        AreSaidFrom faults gives mid between new others more end added a.to →
+    said_then : (given added : List StoreEntry) (from : ℕ) → between.number ≡ old.number → IsPrefix between.seen new.seen →
+        (a : AreSaidFrom faults gives start old between lines answers mid given from) → AreSaidFrom faults gives mid between new others more end added a.to →
         AreSaidFrom faults gives start old new (lines ++ others) (answers ++ more) end (given ++ added) from
     said_then given added from same seen a b = record {
       to = b.to;
@@ -109,15 +118,17 @@ module _ {D : Type 0} (faults : D → ℕ) (gives : List StoreEntry → ℤ → 
           (subst (λ (n : ℕ). LinesPlaced gives (pass_at opening n) entries mid a.to others more end b.to added) same (b.placed opening entries begins));
     }
 
-    pub HasSaid-then : HasSaid faults gives start old between lines answers mid →
-        HasSaid faults gives mid between new others more end →
+    pub HasSaid-then : HasSaid faults gives start old between lines answers mid → HasSaid faults gives mid between new others more end →
         HasSaid faults gives start old new (lines ++ others) (answers ++ more) end
     HasSaid-then one other = record {
       given = one.given ++ other.given;
       goes_on = goes_further old between new one.given other.given one.goes_on other.goes_on;
-      placed = λ from within. said_then one.given other.given from one.goes_on.number other.goes_on.seen (one.placed from within) (other.placed (one.placed from within).to (one.placed from within).within);
-      stopped = λ says. ⊎_elim (λ (first : SaysStopped answers). seen_later faults between new other.goes_on.seen (one.stopped first)) other.stopped (either_stopped answers more says);
+      placed = λ from within. said_then one.given other.given from one.goes_on.number other.goes_on.seen (one.placed from within)
+          (other.placed (one.placed from within).to (one.placed from within).within);
+      stopped = λ says. ⊎_elim (λ (first : SaysStopped answers). seen_later faults between new other.goes_on.seen (one.stopped first)) other.stopped
+          (either_stopped answers more says);
       turns = let both = turns_of-append answers more in let long = length-append lines others in
-          looser (turns_of answers + turns_of more) (turns_of (answers ++ more)) (2 * length lines + 2 * length others) (2 * length (lines ++ others)) old.turns new.turns (omega (arith, both)) (omega (arith, long))
+          looser (turns_of answers + turns_of more) (turns_of (answers ++ more)) (2 * length lines + 2 * length others)
+          (2 * length (lines ++ others)) old.turns new.turns (omega (arith, both)) (omega (arith, long))
           (turns_then (turns_of answers) (turns_of more) (2 * length lines) (2 * length others) old.turns between.turns new.turns one.turns other.turns);
     }
