@@ -13,13 +13,13 @@ use crate::image::Image;
 use crate::image_writing::VERSION;
 use crate::node_reading::nodes_at;
 use crate::withdrawn_numbers::{mark_all, withdrawn_numbers_at};
-use access_history::{Issue, Issues, Statements};
+use access_history::{IssueRecord, Issues, Statements};
 use bl_syntax::fields::{place, u32_at, u64_at};
 use bl_syntax::{CodecFault, Sequence};
 use node_rows::{MetaRows, TreeRows};
 use policy_statement::Registered;
 use record_parts::fields::moment_field_at;
-use record_parts::{ProofRecord, issued_at, registered_at};
+use record_parts::{issued_at, registered_at};
 use std::alloc::Global;
 
 /// The number of the last event, and the number of the next node.
@@ -99,19 +99,19 @@ fn statements_at(
     }
 }
 
-/// An issue. The bytes of its proof are kept.
+/// An issue. It is read once, and kept as its bytes.
 #[tactic(auto, using(bl_syntax::proofs::ReportsFaultLemmas::hands_on))]
-fn issue_at(alloc: Global, input: usize, bytes: &[u8]) -> Result<(Issue, &[u8]), CodecFault>
+fn issue_at(
+    alloc: Global,
+    input: usize,
+    bytes: &[u8],
+) -> Result<(IssueRecord, &[u8]), CodecFault>
     ensures { GivesReadingOrReports (λ x. (x.0, x.1.now)) result (issue_at input bytes.now) }
 {
     match issued_at(alloc, input, bytes) {
         Err(fault) => Err(fault),
         Ok((cited, proof, grant, rest)) => Ok((
-            Issue {
-                cited,
-                proof: ProofRecord::of(alloc, &proof)?,
-                grant,
-            },
+            IssueRecord::of(alloc, cited.as_slice(), &proof, &grant)?,
             rest,
         )),
     }

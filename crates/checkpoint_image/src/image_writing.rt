@@ -12,13 +12,13 @@ ghost use Rattle.checkpoint_image.specs.WithdrawnNumbers.{AreStanding};
 use crate::image::Image;
 use crate::node_writing::add_each_node;
 use crate::withdrawn_numbers::write_withdrawn_numbers;
-use access_history::Issue;
+use access_history::IssueRecord;
 use bl_syntax::fields::u32_bytes;
 use bl_syntax::{Bytes, NoMemory};
 use node_rows::{MetaRow, TreeRow};
 use policy_statement::Registered;
 use record_parts::fields::{put_moment, put_number};
-use record_parts::{write_issued_record, write_registered};
+use record_parts::write_registered;
 
 /// The version of images.
 pub(crate) const VERSION: u8 = 2;
@@ -107,7 +107,7 @@ fn add_entry(entry: &Registered, out: &mut Bytes) -> Result<(), NoMemory>
 }
 
 /// Adds how many issues there are, fewer than 2^32, and each. Each proof cites at most 255 numbers.
-pub fn write_issues(issues: &[Issue], out: &mut Bytes) -> Result<(), NoMemory>
+pub fn write_issues(issues: &[IssueRecord], out: &mut Bytes) -> Result<(), NoMemory>
     requires { AreSpelledIn HasFewCited issues.now }
     ensures ok { OnOk result (out.new ≡ out.old ++ issues_spelling issues.now) }
     ensures spelled { OnOk result (AllByRecursion IsSpellableIssue issues.now) }
@@ -123,7 +123,7 @@ pub fn write_issues(issues: &[Issue], out: &mut Bytes) -> Result<(), NoMemory>
 
 // Adds these, or a front of them.
 #[tactic(auto, using(bl_syntax::proofs::BeginsWithLemmas::writing))]
-fn add_issues(issues: &[Issue], out: &mut Bytes) -> Result<(), NoMemory>
+fn add_issues(issues: &[IssueRecord], out: &mut Bytes) -> Result<(), NoMemory>
     requires { AreSpelledIn HasFewCited issues.now }
     ensures ok { OnOk result (out.new ≡ out.old ++ issues_spelling issues.now) }
     ensures spelled { OnOk result (AllByRecursion IsSpellableIssue issues.now) }
@@ -135,7 +135,7 @@ fn add_issues(issues: &[Issue], out: &mut Bytes) -> Result<(), NoMemory>
 
 // Adds each issue, or a front of them.
 #[tactic(auto, using(bl_syntax::proofs::BeginsWithLemmas::writing))]
-fn add_each_issue(issues: &[Issue], out: &mut Bytes) -> Result<(), NoMemory>
+fn add_each_issue(issues: &[IssueRecord], out: &mut Bytes) -> Result<(), NoMemory>
     requires { AllByRecursion HasFewCited issues.now }
     ensures ok { OnOk result (out.new ≡ out.old ++ flat_map issue_spelling issues.now) }
     ensures spelled { OnOk result (AllByRecursion IsSpellableIssue issues.now) }
@@ -147,14 +147,14 @@ fn add_each_issue(issues: &[Issue], out: &mut Bytes) -> Result<(), NoMemory>
     Ok(())
 }
 
-// Adds an issue.
-fn add_issue(issue: &Issue, out: &mut Bytes) -> Result<(), NoMemory>
+// Adds an issue, of which the bytes are kept.
+fn add_issue(issue: &IssueRecord, out: &mut Bytes) -> Result<(), NoMemory>
     requires { HasFewCited issue.now }
     ensures ok { OnOk result (out.new ≡ out.old ++ issue_spelling issue.now) }
     ensures spelled { OnOk result (IsSpellableIssue issue.now) }
     ensures err { OnErr result (out.new ≡ out.old) }
 {
-    write_issued_record(issue.cited.as_slice(), &issue.proof, &issue.grant, out)
+    out.extend(issue.bytes())
 }
 
 /// Adds how many nodes there are, fewer than 2^32, and each. The rows are of the same nodes, and the lengths of their names
