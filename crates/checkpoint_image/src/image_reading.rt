@@ -101,11 +101,7 @@ fn statements_at(
 
 /// An issue. It is read once, and kept as its bytes.
 #[tactic(auto, using(bl_syntax::proofs::ReportsFaultLemmas::hands_on))]
-fn issue_at(
-    alloc: Global,
-    input: usize,
-    bytes: &[u8],
-) -> Result<(IssueRecord, &[u8]), CodecFault>
+fn issue_at(alloc: Global, input: usize, bytes: &[u8]) -> Result<(IssueRecord, &[u8]), CodecFault>
     ensures { GivesReadingOrReports (λ x. (x.0, x.1.now)) result (issue_at input bytes.now) }
 {
     match issued_at(alloc, input, bytes) {

@@ -80,11 +80,7 @@ fn test_issue_parts(
 }
 
 // Whether the issue is good. It is read once.
-fn test_issue(
-    alloc: Global,
-    entries: &[Registered],
-    issue: &IssueRecord,
-) -> Result<(), AdmitFault>
+fn test_issue(alloc: Global, entries: &[Registered], issue: &IssueRecord) -> Result<(), AdmitFault>
     ensures { TellsTest (IsGoodIssue (sayings entries.now) issue.now) Damage.Unproved result }
 {
     match issue.issue(alloc) {
