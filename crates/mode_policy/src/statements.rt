@@ -21,6 +21,7 @@ pub struct Statements {
 
 impl Model for Statements {
     ghost use Rattle.std.specs.Prelude.{◌≤◌, List, length};
+    ghost use Rattle.bl_syntax.specs.declared.limits.TheConstants.{MOST_STATEMENTS};
     ghost use Rattle.bl_syntax.specs.Statement.{StatementView};
     ghost use Rattle.mode_policy.specs.StatementsCode.{statements_code};
 

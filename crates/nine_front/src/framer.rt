@@ -21,6 +21,7 @@ pub(crate) struct MessageFramer {
 impl Model for MessageFramer {
     ghost use Rattle.std.specs.Prelude.{◌≤◌};
     ghost use Rattle.nine_front.specs.Framing.{FramerState};
+    ghost use Rattle.nine_messages.specs.declared.framing.TheConstants.{MOST_SIZE};
 
     ghost Value = { FramerState };
 
