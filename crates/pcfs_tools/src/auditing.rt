@@ -21,6 +21,37 @@ use std::thread::Threads;
 /// The report has a row.
 const AUDIT_FOUND: u8 = 11;
 
+// The report on a history, made at once.
+fn report_at_once(alloc: Global, secrets: &Secrets, history: &History) -> Result<Report, NoMemory>
+    ensures { IfOk result (IsReport (authority_under secrets.now) history.now.base history.now.events) }
+{
+    history.lemma_is_lawful();
+    let base = history.base();
+    let decoded = events_of(alloc, history.events())?;
+    let events = decoded.as_slice();
+    let key = secrets.seal_key.as_slice();
+    audit(alloc, base, events, key, &secrets.ring)
+}
+
+// The report on a history, made in so many pieces.
+fn report_in_pieces<R: Threads + Sync>(
+    rt: &R,
+    alloc: Global,
+    secrets: &Secrets,
+    history: &History,
+    pieces: usize,
+) -> Result<Report, NoMemory>
+    requires { 1 ≤ pieces }
+    ensures { IfOk result (IsReport (authority_under secrets.now) history.now.base history.now.events) }
+{
+    history.lemma_is_lawful();
+    let base = history.base();
+    let decoded = events_in_pieces(rt, alloc, history.events(), pieces)?;
+    let events = decoded.as_slice();
+    let key = secrets.seal_key.as_slice();
+    audit_pieces(rt, alloc, base, events, key, &secrets.ring, pieces)
+}
+
 // The report on a history, made at once or in so many pieces.
 fn report_on<R: Threads + Sync>(
     rt: &R,
@@ -32,26 +63,9 @@ fn report_on<R: Threads + Sync>(
     requires { IfSome pieces (λ n. 1 ≤ n) }
     ensures { IfOk result (IsReport (authority_under secrets.now) history.now.base history.now.events) }
 {
-    history.lemma_is_lawful();
-    let base = history.base();
-    let key = secrets.seal_key.as_slice();
     match pieces {
-        None => {
-            let events = events_of(alloc, history.events())?;
-            audit(alloc, base, events.as_slice(), key, &secrets.ring)
-        }
-        Some(pieces) => {
-            let events = events_in_pieces(rt, alloc, history.events(), pieces)?;
-            audit_pieces(
-                rt,
-                alloc,
-                base,
-                events.as_slice(),
-                key,
-                &secrets.ring,
-                pieces,
-            )
-        }
+        None => report_at_once(alloc, secrets, history),
+        Some(pieces) => report_in_pieces(rt, alloc, secrets, history, pieces),
     }
 }
 
