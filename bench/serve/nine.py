@@ -4,11 +4,12 @@ import subprocess
 import sys
 
 from figures import ROUNDS, Pcfs, Store, aim, begun, dialled, figures, free_port, key, memory, middle, program
-from nine_client import FILE, NO_FID, READING, ROOT, TCLUNK, TREAD, TWALK, Nine, Refused
+from nine_client import FILE, READING, ROOT, TCLUNK, TREAD, TWALK, Nine, Refused
 
 BIG, PIECE, SHORT = 1 << 20, 65_536, 4096
 MOST_PROCAPS, MOST_FIDS = 64, 1024
 OTHER = 100_000  # the first of the fids that nothing is done with
+NEW = 0  # a fid that is made and ended again, with a lesser number than all others, which so have to make place
 USER, NODE = "u0", 2
 # each run has as many steps: all those of a store, of which each reading is an event, fit into its area of 64 MiB
 STEPS, MOST_SECONDS = 20_000, 15.0
@@ -96,9 +97,9 @@ def timed(one, plan):
 
 
 def timed_anew(nine, plan):
-    """The same, once the fid of a walk that the run before may have left is gone."""
+    """The same, once the fid is gone that the run before may have left."""
     try:
-        nine.clunk(NO_FID)
+        nine.clunk(NEW)
     except Refused:
         pass
     return timed(nine.socket, plan)
@@ -124,7 +125,7 @@ def cost_figures(nine):
     few, many = nine.messages(), nine.messages(True)
     steps = {
         "a Tread of 16 bytes": [reading(0, 16)],
-        "a Twalk to a new fid, or its Tclunk": [asked(TWALK, struct.pack("<IIH", ROOT, NO_FID, 0), bytes(2)), asked(TCLUNK, struct.pack("<I", NO_FID), b"")],
+        "a Twalk to a new fid, or its Tclunk": [asked(TWALK, struct.pack("<IIH", ROOT, NEW, 0), bytes(2)), asked(TCLUNK, struct.pack("<I", NEW), b"")],
     }
     for what, plan in steps.items():
         runs = [(timed_anew(few, plan), timed_anew(many, plan)) for _ in range(2 * ROUNDS + 1)]
