@@ -18,7 +18,8 @@ pub record IsAskedText (text : List ℕ) : Type 0 where
 unfoldable pub operation_text : Op → List ProcapWord → List ℕ
 operation_text op procaps = asked_text (lines.Command (commands.Do op procaps))
 
--- the line is that of the operation, with a procap for each of its needs; there is a word for each of these
+-- the line is that of the operation, with a procap for each of its needs; there is a word for each
+-- of these
 pub record IsPrepared (work : Work) (made : Prepared) : Type 0 where
   pub procaps : List ProcapWord
   pub line_is : made.line ≡ operation_text work.op procaps

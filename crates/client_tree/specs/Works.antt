@@ -31,7 +31,8 @@ IsTarget world node (Unlink directory name) = child_of (tree_of world).rows dire
 IsTarget world node (Rename directory name target renamed) = child_of (tree_of world).rows directory.0 name ≡ Some (node.0)
 IsTarget world node _ = Unit {0}
 
--- these are the needs that the server has for the operation, in its order; of one that takes a name away, if that is still
+-- these are the needs that the server has for the operation, in its order; of one that takes a name
+-- away, if that is still
 -- the name of the node
 pub record AreNeedsOf (op : Op) (wanted : List Need) : Type 0 where
   pub node : NodeId

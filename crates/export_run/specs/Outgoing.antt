@@ -29,11 +29,13 @@ AreCollectedOrOut held bytes held_after collected =
 -- them; or memory ran out, and nothing was written. `broken` says whether the last call failed
 abbrev pub IsUnsent : SendFault → Option (List ℕ) → ℕ → List ℕ → Option (List ℕ) → ℕ → Bool → Type 0
 IsUnsent Write held faults bytes held_after faults_after broken = FailedLast faults faults_after broken × HoldsSome held held_after bytes
-IsUnsent NoMemory held faults bytes held_after faults_after broken = (held_after ≡ held) × (faults_after ≡ faults)
+IsUnsent NoMemory held faults bytes held_after faults_after broken = (held_after ≡ held) ×
+    (faults_after ≡ faults)
 
 -- why not all of these messages were written: the output failed, at its last call, and holds some
 -- first part of them; or memory ran out, and it holds the first ones
-abbrev pub AreCutShort : SendFault → Option (List ℕ) → ℕ → List Message → Option (List ℕ) → ℕ → Bool → Type 0
+abbrev pub AreCutShort : SendFault → Option (List ℕ) → ℕ → List Message → Option (List ℕ) → ℕ →
+    Bool → Type 0
 AreCutShort Write held faults messages held_after faults_after broken =
     FailedLast faults faults_after broken × HoldsSome held held_after (messages_spelling messages)
 AreCutShort NoMemory held faults messages held_after faults_after broken = HoldsFirst held messages held_after × (faults_after ≡ faults)

@@ -49,7 +49,8 @@ last_line_of Stopped = with_line_end (codes "stopped")
 last_line_of WriteFault = []
 last_line_of NoMemory = []
 
--- what is written at last, and the status: the line was written, or the output failed. At a place at
+-- what is written at last, and the status: the line was written, or the output failed. At a place
+-- at
 -- which no message stands memory may run out for its line. `broken` says whether the output's last
 -- call failed
 abbrev pub TellsEnd : FollowEnd → Option (List ℕ) → ℕ → ℕ → Option (List ℕ) → ℕ → Bool → Type 0
@@ -64,7 +65,8 @@ TellsEnd WriteFault held faults result held_after faults_after broken = IsSilent
 TellsEnd NoMemory held faults result held_after faults_after broken = IsSilent 9 held faults result held_after faults_after
 
 -- how a run ends, before its last line: the lines for all messages that were taken are out; or the
--- output failed, at its last call, or memory ran out, and all but the last of them are, and some first
+-- output failed, at its last call, or memory ran out, and all but the last of them are, and some
+-- first
 -- part of that
 pub data IsEnding (start end : ScriptState) (before after : Streams) (broken : Broken) (how : FollowEnd) : Type 0 where
   all_told : (messages : List Message) (lines : List ℕ) → FollowsOver start messages end lines →
@@ -85,7 +87,8 @@ pub data IsEnding (start end : ScriptState) (before after : Streams) (broken : B
 
 -- ---- from one message to the next
 
--- what is out of the line for a message, or of none, if no further message is taken: all of it after
+-- what is out of the line for a message, or of none, if no further message is taken: all of it
+-- after
 -- the fault of a disk, or some first part
 abbrev pub IsOutAt : FollowEnd → Option (List ℕ) → Option (List ℕ) → List ℕ → Type 0
 IsOutAt Stopped held held_after lines = held_after ≡ with_back held lines
@@ -93,9 +96,11 @@ IsOutAt WriteFault held held_after lines = HoldsSome held held_after lines
 IsOutAt NoMemory held held_after lines = HoldsSome held held_after lines
 IsOutAt _ held held_after lines = ⊥
 
--- what is out of the lines for messages: all of them after the fault of a disk, or all but the last,
+-- what is out of the lines for messages: all of them after the fault of a disk, or all but the
+-- last,
 -- and some first part of that
-abbrev pub AreOutAt : FollowEnd → Option (List ℕ) → Option (List ℕ) → List Message → List Taken → Type 0
+abbrev pub AreOutAt : FollowEnd → Option (List ℕ) → Option (List ℕ) → List Message → List Taken →
+    Type 0
 AreOutAt Stopped held held_after messages told = held_after ≡ with_back held (answer_lines messages told)
 AreOutAt WriteFault held held_after messages told = HoldsButLast held held_after messages told
 AreOutAt NoMemory held held_after messages told = HoldsButLast held held_after messages told
@@ -108,7 +113,8 @@ IsMetAt _ met = met ≡ None
 
 -- Below `clock`, `left_since`, `image` and `faults` tell of a disk what they do in `Stored`.
 module _ {D : Type 0} (clock : D → ℕ) (left_since : D → ℕ → List ℕ → Type 0) (image : D → Option (List ℕ)) (faults : D → ℕ) where
-  -- messages are taken by a store with these answers, and it goes on; the last one met the fault of a
+  -- messages are taken by a store with these answers, and it goes on; the last one met the fault of
+  -- a
   -- disk, if there is an entry
   pub record WereTaken (messages : List Message) (old new : StoreView D) (met : Option StoreEntry) (told : List Taken) : Type 0 where
     pub run : FollowRun (standing_at old None) messages told (standing_at new met)
@@ -130,7 +136,8 @@ module _ {D : Type 0} (clock : D → ℕ) (left_since : D → ℕ → List ℕ �
     pub out : AreOutAt how held held_after messages told
 
   -- the message is the last one that is taken; or memory ran out for it, and none is
-  abbrev pub HaltsBy : Message → StoreView D → StoreView D → Option (List ℕ) → FollowEnd → Option (List ℕ) → Type 0
+  abbrev pub HaltsBy : Message → StoreView D → StoreView D → Option (List ℕ) → FollowEnd →
+      Option (List ℕ) → Type 0
   HaltsBy message old new held how held_after =
       HaltsAt (message ∷ []) old new held how held_after ⊎ HaltsAt [] old new held how held_after
 

@@ -39,7 +39,8 @@ fn take_piece<D: Disk, O: Sink>(
         HasRisen (O.faults output.old) (O.faults output.new) }
     ensures never_falls { O.faults output.old ≤ O.faults output.new }
     ensures steady { result ≢ Err FollowEnd.WriteFault → O.faults output.new ≡ O.faults output.old }
-    ensures by_one { IsErrOf result FollowEnd.WriteFault → O.faults output.new ≡ raise (O.faults output.old) }
+    ensures by_one { IsErrOf result FollowEnd.WriteFault →
+        O.faults output.new ≡ raise (O.faults output.old) }
     ensures broken { IsErrOf result FollowEnd.WriteFault → O.broken output.new ≡ true }
 {
     match reader.feed(piece) {

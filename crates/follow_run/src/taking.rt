@@ -29,7 +29,8 @@ fn write_answer<O: Sink>(
         HasRisen (O.faults output.old) (O.faults output.new) }
     ensures never_falls { O.faults output.old ≤ O.faults output.new }
     ensures steady { result ≢ Err FollowEnd.WriteFault → O.faults output.new ≡ O.faults output.old }
-    ensures by_one { IsErrOf result FollowEnd.WriteFault → O.faults output.new ≡ raise (O.faults output.old) }
+    ensures by_one { IsErrOf result FollowEnd.WriteFault →
+        O.faults output.new ≡ raise (O.faults output.old) }
     ensures broken { IsErrOf result FollowEnd.WriteFault → O.broken output.new ≡ true }
 {
     let line = match answer_line(alloc, number, taken) {
@@ -59,7 +60,8 @@ pub fn take_message<D: Disk, O: Sink>(
         HasRisen (O.faults output.old) (O.faults output.new) }
     ensures never_falls { O.faults output.old ≤ O.faults output.new }
     ensures steady { result ≢ Err FollowEnd.WriteFault → O.faults output.new ≡ O.faults output.old }
-    ensures by_one { IsErrOf result FollowEnd.WriteFault → O.faults output.new ≡ raise (O.faults output.old) }
+    ensures by_one { IsErrOf result FollowEnd.WriteFault →
+        O.faults output.new ≡ raise (O.faults output.old) }
     ensures broken { IsErrOf result FollowEnd.WriteFault → O.broken output.new ≡ true }
 {
     let taken = take(alloc, store, number, payload);
@@ -90,7 +92,8 @@ pub fn take_messages<D: Disk, O: Sink>(
         HasRisen (O.faults output.old) (O.faults output.new) }
     ensures never_falls { O.faults output.old ≤ O.faults output.new }
     ensures steady { result ≢ Err FollowEnd.WriteFault → O.faults output.new ≡ O.faults output.old }
-    ensures by_one { IsErrOf result FollowEnd.WriteFault → O.faults output.new ≡ raise (O.faults output.old) }
+    ensures by_one { IsErrOf result FollowEnd.WriteFault →
+        O.faults output.new ≡ raise (O.faults output.old) }
     ensures broken { IsErrOf result FollowEnd.WriteFault → O.broken output.new ≡ true }
 {
     'messages: loop {

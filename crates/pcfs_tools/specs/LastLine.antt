@@ -19,4 +19,5 @@ Wrote status line held faults result held_after faults_after broken =
 
 -- memory ran out, nothing was written, and no call of the output failed
 abbrev pub WroteNothing : Option (List ℕ) → ℕ → ℕ → Option (List ℕ) → ℕ → Type 0
-WroteNothing held faults result held_after faults_after = (result ≡ 9) × (held_after ≡ held) × (faults_after ≡ faults)
+WroteNothing held faults result held_after faults_after = (result ≡ 9) × (held_after ≡ held) ×
+    (faults_after ≡ faults)

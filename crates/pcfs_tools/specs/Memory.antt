@@ -7,7 +7,8 @@ use Rattle.pcfs_tools.specs.Broken.{Broken}
 use Rattle.pcfs_tools.specs.ScriptStatus.{ScriptStatus}
 
 -- how a script in memory ends: its own disks fail only if memory runs out
-pub data MemoryEnds (secrets : Secrets) (before after : Streams) (broken : Broken) : ℕ → Type 0 where
+pub data MemoryEnds (secrets : Secrets) (before after : Streams) (broken : Broken) : ℕ →
+    Type 0 where
   ended : (status : ℕ) (end : ScriptState) → (status ≡ 5 → ⊥) →
       ScriptStatus (fresh_start secrets) end before after broken status →
       MemoryEnds secrets before after broken status

@@ -19,7 +19,8 @@ IsSilent status held faults result held_after faults_after = (result ≡ status)
     (held_after ≡ held) × (faults_after ≡ faults)
 
 -- what is written after a script that ended so, and the status. After the last reply, and after
--- `bad 3` and `stopped`, which are replies, nothing is. `broken` says whether the output's last call
+-- `bad 3` and `stopped`, which are replies, nothing is. `broken` says whether the output's last
+-- call
 -- failed.
 abbrev pub TellsEnd : ScriptEnd → Option (List ℕ) → ℕ → ℕ → Option (List ℕ) → ℕ → Bool → Type 0
 TellsEnd Done held faults result held_after faults_after broken = IsSilent 0 held faults result held_after faults_after
@@ -31,8 +32,10 @@ TellsEnd InputTooLong held faults result held_after faults_after broken = Wrote 
 TellsEnd Stopped held faults result held_after faults_after broken = IsSilent 5 held faults result held_after faults_after
 
 -- A script ended, when the output held these bytes and had had so many faults, and after that its
--- last line was written. Unless it ended by a fault of the input, no call of that failed, and unless
--- by one of the output, none of that before the last line; and the call that failed was the last one
+-- last line was written. Unless it ended by a fault of the input, no call of that failed, and
+-- unless
+-- by one of the output, none of that before the last line; and the call that failed was the last
+-- one
 -- of that stream.
 pub record ScriptStatus (start end : ScriptState) (before after : Streams) (broken : Broken) (status : ℕ) : Type 0 where
   pub how : ScriptEnd

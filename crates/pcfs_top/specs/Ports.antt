@@ -56,7 +56,8 @@ ports_of left read_faults read_broken held write_faults write_broken image fault
 }
 
 -- what an output and two disks tell beside an input that tells this
-abbrev pub ports_beside : {O D : Type 0} → Option (List ℕ) → ℕ → Bool → (O → Option (List ℕ)) → (O → ℕ)
+abbrev pub ports_beside : {O D : Type 0} → Option (List ℕ) → ℕ → Bool → (O → Option (List ℕ)) →
+    (O → ℕ)
     → (O → Bool) → (D → Option (List ℕ)) → (D → ℕ) → O → D → D → Ports
 ports_beside left read_faults read_broken held write_faults write_broken image faults output a b = record {
   streams = record { left = left; read_faults = read_faults; held = held output; write_faults = write_faults output };

@@ -49,7 +49,8 @@ use Rattle.pcfs_tools.specs.Signed.{TellsSigning}
 use Rattle.pcfs_tools.specs.Stated.{TellsModes}
 use Rattle.pcfs_top.specs.Ports.{Disks, Ports, Rests, IfTold, HasDiskFailed, AreBytesKept, IsInputKept}
 
--- the words ask for a script over the store in the areas, for a checkpoint or an audit of it, for an
+-- the words ask for a script over the store in the areas, for a checkpoint or an audit of it, for
+-- an
 -- export of its events, or that it takes those of another one
 pub data AreOfStore (words : List (String Global)) : Type 0 where
   of_script : AsksFor words Stored → AreOfStore words
@@ -180,7 +181,8 @@ pub data HasCause (secrets : Secrets) (words : List (String Global)) (rests : Re
   not_opened : AreOfStore words → HasDiskFailed before after →
       (rests.before → AreBytesKept before after) →
       HasCause secrets words rests before after 5 (codes "stopped")
-  checkpointed : (generation : ℕ) (image : List ℕ) (start : ScriptState) → AsksFor words Checkpoint →
+  checkpointed : (generation : ℕ) (image : List ℕ) (start : ScriptState) →
+      AsksFor words Checkpoint →
       IsOpened secrets generation image before start →
       (HasNoNextArea generation (state_of_start start) → ⊥) → NewestStays before after →
       IfTold before (λ x y. rests.after × IfTold after (IsNewestImage (generation + 1) (state_of_start start))) →
@@ -214,7 +216,8 @@ TellsUnopened opens.Disk held faults result held_after faults_after broken = Wro
 TellsUnopened opens.NoMemory held faults result held_after faults_after broken = WroteNothing held faults result held_after faults_after
 
 -- what is reported of a checkpoint
-abbrev pub TellsCheckpoint : CheckpointReply → Option (List ℕ) → ℕ → ℕ → Option (List ℕ) → ℕ → Bool →
+abbrev pub TellsCheckpoint : CheckpointReply → Option (List ℕ) → ℕ → ℕ → Option (List ℕ) → ℕ →
+    Bool →
     Type 0
 TellsCheckpoint checkpoints.Checkpointed held faults result held_after faults_after broken =
     Wrote 0 (codes "ok checkpoint") held faults result held_after faults_after broken
@@ -239,7 +242,8 @@ pub data IsUndone (words : List (String Global)) (before after : Disks) : Type 0
 -- The status that a run ends with, and its cause. A script in memory ends as its lines say, and
 -- leaves the disks alone; its own disks are in memory, and fail only if memory runs out. A script
 -- over the areas begins where they stand, and so do messages that are taken by their store. An
--- export writes the messages of the events in the areas, or that they are gone, and leaves the bytes
+-- export writes the messages of the events in the areas, or that they are gone, and leaves the
+-- bytes
 -- of the disks as they are. An inquiry ends as its lines say, and leaves the disks alone. Any other
 -- run writes its line, or the output failed, at its last call, and holds some first part of it; an
 -- audit, the lines of its report. Memory may run out before that, and then nothing changes.
@@ -249,7 +253,8 @@ pub data EndsWith (secrets : Secrets) (words : List (String Global)) (rests : Re
   in_memory : (status : ℕ) → AsksFor words Script → after.disks ≡ before.disks →
       MemoryEnds secrets before.streams after.streams after.broken status →
       EndsWith secrets words rests before after status
-  stored : (status generation : ℕ) (image : List ℕ) (start end : ScriptState) → AsksFor words Stored →
+  stored : (status generation : ℕ) (image : List ℕ) (start end : ScriptState) →
+      AsksFor words Stored →
       IsOpened secrets generation image before.disks start →
       Returns rests generation image before.disks after.disks start end →
       ScriptStatus start end before.streams after.streams after.broken status →
