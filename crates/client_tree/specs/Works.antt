@@ -32,8 +32,7 @@ IsTarget world node (Rename directory name target renamed) = child_of (tree_of w
 IsTarget world node _ = Unit {0}
 
 -- these are the needs that the server has for the operation, in its order; of one that takes a name
--- away, if that is still
--- the name of the node
+-- away, if that is still the name of the node
 pub record AreNeedsOf (op : Op) (wanted : List Need) : Type 0 where
   pub node : NodeId
   pub each : (world : World) → IsTarget world node op → in_order 1 wanted ≡ needs world op

@@ -18,8 +18,7 @@ messages_of number [] = []
 messages_of number (event ∷ events) = message_of number event ∷ messages_of (number + 1) events
 
 -- the messages of the events of a history from that number on. Its events have the numbers after
--- the
--- count of its base
+-- the count of its base
 abbrev pub messages_from : BaseView → List Event → ℕ → List Message
 messages_from base events from = messages_of from (drop (from - base.count - 1) events)
 
@@ -35,11 +34,10 @@ pub record HoldsFirst (held : Option (List ℕ)) (messages : List Message) (held
   pub output : held_after ≡ with_back held (messages_spelling first)
 
 -- The messages from that number on were written, none if it is after the last event; or the event
--- of
--- that number is in the base, and this was told. Or the output failed, and holds some first part of
--- that; or memory ran out, and it holds the first of the messages, or no line. `held` and `faults`
--- are what the output held and the count of its faults, and `broken` says whether its last call
--- failed.
+-- of that number is in the base, and this was told. Or the output failed, and holds some first part
+-- of that; or memory ran out, and it holds the first of the messages, or no line. `held` and
+-- `faults` are what the output held and the count of its faults, and `broken` says whether its last
+-- call failed.
 pub data TellsExport (base : BaseView) (events : List Event) (from : ℕ)
     (held : Option (List ℕ)) (faults result : ℕ) (held_after : Option (List ℕ)) (faults_after : ℕ)
     (broken : Bool) : Type 0 where

@@ -31,8 +31,7 @@ but_last (x ∷ []) = []
 but_last (x ∷ (y ∷ ys)) = x ∷ but_last (y ∷ ys)
 
 -- beside what it held, the output holds the lines for all messages but the last, and of that for
--- the
--- last some first part
+-- the last some first part
 pub record HoldsButLast (held held_after : Option (List ℕ)) (messages : List Message) (told : List Taken) : Type 0 where
   pub some : HoldsSome held held_after (answer_lines messages told)
   pub earlier : length (answer_lines messages (but_last told)) ≤ some.count

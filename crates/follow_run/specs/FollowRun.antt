@@ -60,8 +60,7 @@ pub data TakesIn (s : ScriptState) (message : Message) : Taken → ScriptState �
       TakesIn s message Kept (standing_with s (happened event))
 
 -- a run of these messages from a start: an answer to each, and where it ends. After a disk failed
--- no
--- message is taken
+-- no message is taken
 pub data FollowRun : ScriptState → List Message → List Taken → ScriptState → Type 0 where
   ended : (start : ScriptState) → FollowRun start [] [] start
   one_more : (start : ScriptState) (message : Message) (messages : List Message) (taken : Taken) (others : List Taken) (next end : ScriptState) →
@@ -85,12 +84,9 @@ abbrev pub frame_line : ℕ → List ℕ
 frame_line place = with_line_end (codes "frame " ++ decimal place)
 
 -- Why no further message is taken after these, the status, and the last line that is written for
--- it:
--- they are all of the input; at the place of the next one none stands; the input failed, at its
--- last
--- call; too much of it was taken; or a disk failed under the last of them. But for the third no
--- call
--- of the input failed. `broken` says whether its last call did.
+-- it: they are all of the input; at the place of the next one none stands; the input failed, at its
+-- last call; too much of it was taken; or a disk failed under the last of them. But for the third
+-- no call of the input failed. `broken` says whether its last call did.
 pub data HasEnded (end : ScriptState) (before after : Streams) (broken : Bool) (messages : List Message) : ℕ → List ℕ → Type 0 where
   done : AreAll before.left after.left messages → after.read_faults ≡ before.read_faults →
       end.met ≡ None → HasEnded end before after broken messages 0 []
@@ -113,8 +109,7 @@ pub data HasEnded (end : ScriptState) (before after : Streams) (broken : Bool) (
 -- part of the last line, or of the line for the last message that was taken, and all those for the
 -- messages before it; or memory ran out, and these were written. So no message is taken after one
 -- whose line was not written. No other call of the output failed, and of the input none, unless
--- that
--- is the cause.
+-- that is the cause.
 pub data FollowEnds (start end : ScriptState) (before after : Streams) (broken : Broken) : ℕ →
     Type 0 where
   written : (status : ℕ) (messages : List Message) (lines last : List ℕ) →

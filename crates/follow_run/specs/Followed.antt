@@ -50,9 +50,8 @@ last_line_of WriteFault = []
 last_line_of NoMemory = []
 
 -- what is written at last, and the status: the line was written, or the output failed. At a place
--- at
--- which no message stands memory may run out for its line. `broken` says whether the output's last
--- call failed
+-- at which no message stands memory may run out for its line. `broken` says whether the output's
+-- last call failed
 abbrev pub TellsEnd : FollowEnd → Option (List ℕ) → ℕ → ℕ → Option (List ℕ) → ℕ → Bool → Type 0
 TellsEnd Done held faults result held_after faults_after broken = IsSilent 0 held faults result held_after faults_after
 TellsEnd (BadFrame place) held faults result held_after faults_after broken =
@@ -66,8 +65,7 @@ TellsEnd NoMemory held faults result held_after faults_after broken = IsSilent 9
 
 -- how a run ends, before its last line: the lines for all messages that were taken are out; or the
 -- output failed, at its last call, or memory ran out, and all but the last of them are, and some
--- first
--- part of that
+-- first part of that
 pub data IsEnding (start end : ScriptState) (before after : Streams) (broken : Broken) (how : FollowEnd) : Type 0 where
   all_told : (messages : List Message) (lines : List ℕ) → FollowsOver start messages end lines →
       HasEnded end before after broken.input messages (status_of how) (last_line_of how) →
@@ -88,8 +86,7 @@ pub data IsEnding (start end : ScriptState) (before after : Streams) (broken : B
 -- ---- from one message to the next
 
 -- what is out of the line for a message, or of none, if no further message is taken: all of it
--- after
--- the fault of a disk, or some first part
+-- after the fault of a disk, or some first part
 abbrev pub IsOutAt : FollowEnd → Option (List ℕ) → Option (List ℕ) → List ℕ → Type 0
 IsOutAt Stopped held held_after lines = held_after ≡ with_back held lines
 IsOutAt WriteFault held held_after lines = HoldsSome held held_after lines
@@ -97,8 +94,7 @@ IsOutAt NoMemory held held_after lines = HoldsSome held held_after lines
 IsOutAt _ held held_after lines = ⊥
 
 -- what is out of the lines for messages: all of them after the fault of a disk, or all but the
--- last,
--- and some first part of that
+-- last, and some first part of that
 abbrev pub AreOutAt : FollowEnd → Option (List ℕ) → Option (List ℕ) → List Message → List Taken →
     Type 0
 AreOutAt Stopped held held_after messages told = held_after ≡ with_back held (answer_lines messages told)
@@ -114,8 +110,7 @@ IsMetAt _ met = met ≡ None
 -- Below `clock`, `left_since`, `image` and `faults` tell of a disk what they do in `Stored`.
 module _ {D : Type 0} (clock : D → ℕ) (left_since : D → ℕ → List ℕ → Type 0) (image : D → Option (List ℕ)) (faults : D → ℕ) where
   -- messages are taken by a store with these answers, and it goes on; the last one met the fault of
-  -- a
-  -- disk, if there is an entry
+  -- a disk, if there is an entry
   pub record WereTaken (messages : List Message) (old new : StoreView D) (met : Option StoreEntry) (told : List Taken) : Type 0 where
     pub run : FollowRun (standing_at old None) messages told (standing_at new met)
     pub goes_on : StoreGoesOn clock left_since image faults old new met

@@ -1,6 +1,5 @@
 -- The messages of what was taken of an input. If the input does not tell what it has, these are
--- some
--- messages (this project's own).
+-- some messages (this project's own).
 use Rattle.std.specs.Prelude.{◌≡◌, ◌≤◌, ℕ, List, [], ◌++◌, length, Option}
 use Rattle.std.specs.List.{AllByRecursion}
 use Rattle.pcfs_ports.specs.Observable.{with_front, ReadsToEnd}

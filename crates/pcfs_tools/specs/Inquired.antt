@@ -7,8 +7,7 @@ use Rattle.pcfs_tools.specs.LastLine.{Wrote, WroteNothing}
 
 -- the inquiry in the input ended with this status, and its line was written; or the output failed;
 -- or memory ran out, no call of the input failed, and nothing was written. `broken` says whether
--- the
--- last calls failed
+-- the last calls failed
 pub data TellsInquiry (before after : Streams) (broken : Broken) (result : ℕ) : Type 0 where
   answered : (status : ℕ) (line : List ℕ) →
       InquiryEnds before.left after.left before.read_faults after.read_faults broken.input status line →

@@ -20,8 +20,7 @@ IsSilent status held faults result held_after faults_after = (result ≡ status)
 
 -- what is written after a script that ended so, and the status. After the last reply, and after
 -- `bad 3` and `stopped`, which are replies, nothing is. `broken` says whether the output's last
--- call
--- failed.
+-- call failed.
 abbrev pub TellsEnd : ScriptEnd → Option (List ℕ) → ℕ → ℕ → Option (List ℕ) → ℕ → Bool → Type 0
 TellsEnd Done held faults result held_after faults_after broken = IsSilent 0 held faults result held_after faults_after
 TellsEnd LineTooLong held faults result held_after faults_after broken = IsSilent 2 held faults result held_after faults_after
@@ -33,10 +32,8 @@ TellsEnd Stopped held faults result held_after faults_after broken = IsSilent 5 
 
 -- A script ended, when the output held these bytes and had had so many faults, and after that its
 -- last line was written. Unless it ended by a fault of the input, no call of that failed, and
--- unless
--- by one of the output, none of that before the last line; and the call that failed was the last
--- one
--- of that stream.
+-- unless by one of the output, none of that before the last line; and the call that failed was the
+-- last one of that stream.
 pub record ScriptStatus (start end : ScriptState) (before after : Streams) (broken : Broken) (status : ℕ) : Type 0 where
   pub how : ScriptEnd
   pub held : Option (List ℕ)

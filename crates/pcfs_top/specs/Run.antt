@@ -50,8 +50,7 @@ use Rattle.pcfs_tools.specs.Stated.{TellsModes}
 use Rattle.pcfs_top.specs.Ports.{Disks, Ports, Rests, IfTold, HasDiskFailed, AreBytesKept, IsInputKept}
 
 -- the words ask for a script over the store in the areas, for a checkpoint or an audit of it, for
--- an
--- export of its events, or that it takes those of another one
+-- an export of its events, or that it takes those of another one
 pub data AreOfStore (words : List (String Global)) : Type 0 where
   of_script : AsksFor words Stored → AreOfStore words
   of_checkpoint : AsksFor words Checkpoint → AreOfStore words
@@ -243,10 +242,9 @@ pub data IsUndone (words : List (String Global)) (before after : Disks) : Type 0
 -- leaves the disks alone; its own disks are in memory, and fail only if memory runs out. A script
 -- over the areas begins where they stand, and so do messages that are taken by their store. An
 -- export writes the messages of the events in the areas, or that they are gone, and leaves the
--- bytes
--- of the disks as they are. An inquiry ends as its lines say, and leaves the disks alone. Any other
--- run writes its line, or the output failed, at its last call, and holds some first part of it; an
--- audit, the lines of its report. Memory may run out before that, and then nothing changes.
+-- bytes of the disks as they are. An inquiry ends as its lines say, and leaves the disks alone. Any
+-- other run writes its line, or the output failed, at its last call, and holds some first part of
+-- it; an audit, the lines of its report. Memory may run out before that, and then nothing changes.
 -- At an end by a fault of the output one call of it failed, and it was the last, and at each other
 -- end none; so it is with an input that is read, and of one that is not read no call failed.
 pub data EndsWith (secrets : Secrets) (words : List (String Global)) (rests : Rests) (before after : Ports) : ℕ → Type 0 where
