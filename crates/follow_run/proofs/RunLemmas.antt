@@ -92,7 +92,7 @@ run_on start end _ _ lawful (one_more _ message messages taken told next _ going
     on_and_on start next end on (run_on next end messages told on.lawful run)
 
 -- a run from a lawful start
-pub FollowsOver-ran : (start end : ScriptState) (messages : List Message) (told : List Taken) → IsLawfulStanding start → FollowRun start messages told end → FollowsOver start messages end (answer_lines messages told)
+unfoldable pub FollowsOver-ran : (start end : ScriptState) (messages : List Message) (told : List Taken) → IsLawfulStanding start → FollowRun start messages told end → FollowsOver start messages end (answer_lines messages told)
 FollowsOver-ran start end messages told stands run =
     let on = run_on start end messages told stands.lawful run in
     record {
