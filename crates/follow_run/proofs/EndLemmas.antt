@@ -124,7 +124,7 @@ module _ {D : Type 0} (clock : D → ℕ) (left_since : D → ℕ → List ℕ �
     -- it halts, where these messages were taken
     halts_by : (how : FollowEnd) (messages : List Message) (new : StoreView D) → HaltsAt clock left_since image faults messages start new before.held how after.held → AreTaken before.left after.left messages → after.read_faults ≡ before.read_faults →
         (how ≢ ends.WriteFault → after.write_faults ≡ before.write_faults) → (how ≡ ends.WriteFault → FailedLast before.write_faults after.write_faults broken.output) → Ends how new after broken
-    unfolding runs_over, FollowsOver-ran
+    unfolding runs_over FollowsOver-ran
     halts_by ends.Stopped messages new h taken reads still failed = record {
       met = h.met;
       ends = all_told messages (answer_lines messages h.told) (runs_over messages new h.met h.told h.were) (stopped h.is_met.0 taken reads h.is_met.1) h.out (still (λ e. cc));

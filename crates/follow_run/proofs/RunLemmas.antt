@@ -85,7 +85,7 @@ on_and_on s mid after one other = record {
   lawful = other.lawful;
 }
 
-run_on : (start end : ScriptState) (messages : List Message) (told : List Taken) → IsLawfulUnder start.secrets start → FollowRun start messages told end → GoesOn start end
+pub run_on : (start end : ScriptState) (messages : List Message) (told : List Taken) → IsLawfulUnder start.secrets start → FollowRun start messages told end → GoesOn start end
 run_on start _ _ _ lawful (ended _) = stays_on start start refl refl refl lawful
 run_on start end _ _ lawful (one_more _ message messages taken told next _ going takes run) =
     let on = takes_on start next message taken lawful takes in
