@@ -164,6 +164,18 @@ fn put_issued_proof(alloc: Global, out: &mut Bytes, basis: &Basis) -> Result<(),
     put_proof_string(alloc, out, &basis.proof)
 }
 
+// Writes the statements that an issue cites.
+fn put_cited(
+    alloc: Global,
+    out: &mut Bytes,
+    history: &History,
+    basis: &Basis,
+) -> Result<(), NoMemory>
+    ensures { OnOk result (out.new ≡ out.old ++ statements_text (state_of history.now).statements (shown basis.now).cited) }
+{
+    put_statements(alloc, out, history, basis.cited.as_slice())
+}
+
 // Writes the members of an issue.
 fn put_basis(
     alloc: Global,
@@ -174,7 +186,7 @@ fn put_basis(
     ensures { OnOk result (out.new ≡ out.old ++ basis_members (state_of history.now).statements (shown basis.now)) }
 {
     put_issued_proof(alloc, out, basis)?;
-    put_statements(alloc, out, history, basis.cited.as_slice())
+    put_cited(alloc, out, history, basis)
 }
 
 // Writes the members of an issue, if there is one.
