@@ -1,4 +1,5 @@
 pub mod Control
+pub mod Entries
 pub mod Errors
 pub mod Fids
 pub mod Files

@@ -6,6 +6,7 @@ ghost use Rattle.std.specs.Ordering.{nat_cmp};
 ghost use Rattle.nine_fids.specs.Fids.{fid_in, with_entry, without_entry, HasRoomFor};
 ghost use Rattle.nine_fids.specs.Index.{AreRising, IsFidAt, IsGap};
 
+use crate::entry::Entry;
 use crate::fid::Fid;
 use bl_syntax::NoMemory;
 use std::alloc::{AllocFailed, Global};
@@ -18,7 +19,7 @@ const MOST_FIDS: usize = 1_024;
 /// At most 1,024 fids, each under its number. Contracts see them by rising numbers. No call but the first takes memory.
 #[derive(Debug, Drop)]
 pub struct Fids {
-    entries: Vec<(u32, Fid)>,
+    entries: Vec<Entry>,
 }
 
 impl Model for Fids {
@@ -33,14 +34,14 @@ impl Model for Fids {
     ghost invariant = { λ f. AreFids f.entries.items × (1024 ≤ vec_capacity f.entries) };
 }
 
-fn compare(entry: &(u32, Fid), number: u32) -> Ordering
+fn compare(entry: &Entry, number: u32) -> Ordering
     ensures { result ≡ nat_cmp entry.now.0 number }
 {
-    entry.0.cmp(&number)
+    entry.number().cmp(&number)
 }
 
 // The place of the fid of that number, or where it would go.
-fn search(entries: &[(u32, Fid)], number: u32) -> Result<usize, usize>
+fn search(entries: &[Entry], number: u32) -> Result<usize, usize>
     requires { AreRising entries.now }
     ensures bound { IsSearchInRange result (length entries.now) }
     ensures found { IfOk result (IsFidAt entries.now number) }
@@ -50,18 +51,18 @@ fn search(entries: &[(u32, Fid)], number: u32) -> Result<usize, usize>
 }
 
 // The fid of that number.
-fn fid_among(entries: &[(u32, Fid)], number: u32) -> Option<Fid>
+fn fid_among(entries: &[Entry], number: u32) -> Option<Fid>
     requires { AreRising entries.now }
     ensures { result ≡ fid_in entries.now number }
 {
     match search(entries, number) {
-        Ok(place) => Some(entries[place].1),
+        Ok(place) => Some(entries[place].fid()),
         Err(_) => None,
     }
 }
 
 // Puts a fid under a number, replacing one that is there.
-fn put(entries: &mut Vec<(u32, Fid)>, number: u32, fid: Fid)
+fn put(entries: &mut Vec<Entry>, number: u32, fid: Fid)
     requires rising { AreRising entries.old.items }
     requires room { length (with_entry entries.old.items number fid) ≤ vec_capacity entries.old }
     ensures put { entries.new.items ≡ with_entry entries.old.items number fid }
@@ -69,17 +70,17 @@ fn put(entries: &mut Vec<(u32, Fid)>, number: u32, fid: Fid)
     ensures room { vec_capacity entries.old ≤ vec_capacity entries.new }
 {
     match search(entries.as_slice(), number) {
-        Ok(place) => entries[place] = (number, fid),
+        Ok(place) => entries[place] = Entry::new(number, fid),
         Err(place) => {
-            let entry = (number, fid);
-            let put: Result<(), AllocFailed<(u32, Fid)>> = entries.insert(place, entry);
+            let entry = Entry::new(number, fid);
+            let put: Result<(), AllocFailed<Entry>> = entries.insert(place, entry);
             put.unwrap();
         }
     }
 }
 
 // Takes the fid of that number out.
-fn take_out(entries: &mut Vec<(u32, Fid)>, number: u32)
+fn take_out(entries: &mut Vec<Entry>, number: u32)
     requires { AreRising entries.old.items }
     ensures taken { entries.new.items ≡ without_entry entries.old.items number }
     ensures rising { AreRising entries.new.items }

@@ -8,6 +8,7 @@
 mod answering;
 mod connection;
 mod control;
+mod entry;
 mod error;
 mod fid;
 mod fids;
