@@ -12,7 +12,7 @@ from nine_server import Front  # noqa: E402
 from pcfs_formats import sign_login  # noqa: E402
 from pcfs_model import Server  # noqa: E402
 
-SECRETS = {"admin": "61646d696e7320736563726574", "boss": "626f7373206b6579", "deputy": "646570757479206b6579"}
+SECRETS = {"admin": "61646d696e7320736563726574", "boss": "626f7373206b6579", "deputy": "646570757479206b6579", "alice": "616c696365206b6579"}
 SEAL = "6f6e65206b657920666f7220746865207365616c"
 # A folder, and a file in it: boss walks, reads and writes it, and deputy may walk from the root alone.
 GIVEN = [("admin", 1, "write"), ("admin", 2, "write"), ("admin", 3, "write"), ("boss", 1, "execute"), ("boss", 2, "execute"), ("boss", 3, "read"), ("boss", 3, "write"),
@@ -21,6 +21,12 @@ MAKING = ["as admin"]
 for number, (who, node, permission) in enumerate(GIVEN, 1):
     MAKING += [f"register - admin says may({who},#{node},{permission}) from -inf to +inf", f"verify {who} #{node} {permission} {number} saysR(claim(0,init(1)))"]
 MAKING += ["do mkdir #1 folder @1", "do create #2 file @2", "do write #3 0 746865206f6c642074657874 @3"]
+# The file of the case `offsets` of pcfs_rows, as that case leaves it; alice may also look up names in the root.
+OFFSETS = [("alice", 1, "write"), ("alice", 2, "write"), ("alice", 2, "read"), ("alice", 1, "execute")]
+WRITING = ["at 100", "as alice"]
+for number, (who, node, permission) in enumerate(OFFSETS, 1):
+    WRITING += [f"register - admin says may({who},#{node},{permission}) from 0 to 200", f"verify {who} #{node} {permission} {number} saysR(claim(0,init(1)))"]
+WRITING += ["do create #1 notes @1", "do write #2 3 6869 @2", "do truncate #2 4 @2"]
 ROOT, CONTROL, FILE, NO_FID = 1, 2, 3, 0xFFFFFFFF
 
 
@@ -69,14 +75,16 @@ def stat(fid):
 
 
 class Case:
-    """A case over a store of its own, which many connections may be given."""
+    """A case over a store of its own, which these lines make, and which many connections may be given."""
 
-    def __init__(self, name, count):
+    def __init__(self, name, count, lines=MAKING, issues=len(GIVEN)):
         self.server = Server("\n".join([f"seal {SEAL}", *(f"key {who} {key}" for who, key in SECRETS.items())]))
         print(f"\n= {name}\nwords serve9 4040 {count}")
-        self.replies = [self.server.answer(line) for line in MAKING]
+        for line in lines:
+            print(f"> {line}")
+        self.replies = [self.server.answer(line) for line in lines]
         assert all(reply.startswith("ok") for reply in self.replies), self.replies
-        self.procaps = [self.server.answer(f"procap {number}").removeprefix("ok procap ") for number in range(1, 9)]
+        self.procaps = [self.server.answer(f"procap {number}").removeprefix("ok procap ") for number in range(1, issues + 1)]
         self.server.at(0)
         self.fronts = [Front(self.server, bytes([byte] * 16)) for byte in range(count)]
         for byte in range(count):
@@ -111,8 +119,6 @@ def main():
     print(f"secret seal {SEAL}")
     for who, key in SECRETS.items():
         print(f"secret key {who} {key}")
-    for line in MAKING:
-        print(f"> {line}")
 
     case = Case("a file is walked to, read and written", 1)
     case.begins(1, "boss", 4, 7)
@@ -140,6 +146,17 @@ def main():
     case.says(1, read(FILE, 0, 3))
     case.login(1, "deputy")
     case.says(1, read(FILE, 0, 3), write(CONTROL, 0, b"login deputy -"), walk(ROOT, 9, b"folder"), write(CONTROL, 0, f"procap {case.procaps[7]}".encode()), walk(ROOT, 9, b"folder"))
+
+    case = Case("the file of offsets", 1, WRITING, len(OFFSETS))
+    case.at(100)
+    case.begins(1, "alice", 3, 4)
+    case.says(1, walk(ROOT, FILE, b"notes"), opened(FILE, 0), read(FILE, 0, 10), read(FILE, 9, 1), write(FILE, 0, b"x"), clunk(FILE))
+    case.at(201)
+    case.says(1, walk(ROOT, FILE, b"notes"))
+    case.then("at 200", "as alice", f"do read #2 0 10 {case.procaps[2]}")
+
+    for name, words in ("9P2000 on no port", "0 1"), ("9P2000 on a port with a zero before it", "04040 1"), ("9P2000 for too many", "4040 1000001"), ("9P2000 for nobody", "4040 0"):
+        print(f"\n= {name}\nwords serve9 {words}\nstatus 1\ntells usage")
 
 
 if __name__ == "__main__":
