@@ -12,8 +12,8 @@ DISKS = ("pcfs.a", "pcfs.b")
 
 def run(folder, before, words, lines):
     given = "".join(line + "\n" for line in lines).encode()
-    told = subprocess.run([*before, program, *words], cwd=folder, input=given, stdout=subprocess.PIPE, check=True).stdout
-    assert all(reply.startswith(b"ok") for reply in told.splitlines()), told[-80:]
+    told = subprocess.run([*before, program, *words], cwd=folder, input=given, stdout=subprocess.PIPE, check=True).stdout.splitlines()
+    assert len(told) >= len(lines) and all(reply.startswith(b"ok") for reply in told), told[-1:]
 
 
 def calls(count):

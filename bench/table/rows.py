@@ -20,7 +20,7 @@ def numbers(name, pattern, after=""):
     parts = (re.escape(part) for part in pattern.split("#"))
     found = re.search(NUMBER.join(parts), text[begin:]) if begin >= 0 else None
     if not found:
-        raise Missing(f"{name}.sh printed no line '{pattern}'")
+        raise Missing(f"{name} printed no line '{pattern}'")
     return [float(number.replace(",", "")) for number in found.groups()]
 
 
