@@ -6,9 +6,9 @@
 # largest proofs checked slows others, and what 64 who are idle take of the processor. Each figure is that of the middle one of
 # three runs. Last, in memory, `pcfs serve9` beside `pcfs serve`, each over a store of its own with the same files: a reading of 4,096
 # bytes and of a file of 1 MiB, by messages and by lines; and what 1,023 fids and 64 procaps cost: a reading under the last of the
-# procaps, and a fid before all others, made and ended. With ONLY=nine that alone. Each reply is compared, and another than is
-# expected ends all with status 1, and is printed. It makes its own input, ends by itself and decides no test; it needs a C
-# compiler, for the client.
+# procaps, and a fid before all others, made and ended. With ONLY=nine that alone; with ONLY=memory what is said of `pcfs serve` in
+# memory, and nothing else. Each reply is compared, and another than is expected ends all with status 1, and is printed. It makes its
+# own input, ends by itself and decides no test; it needs a C compiler, for the client.
 # usage: bench/serve.sh [FOLDER [FOLDER]], on the disk and in memory; by default a scratch folder of each, the second in /dev/shm
 # PROGRAM is the program, by default crates/pcfs/out/pcfs.
 set -euo pipefail
@@ -23,4 +23,4 @@ trap 'rm -rf "$disk" "$memory"' EXIT
 cc -O2 -o "$memory/drive" "$parts/drive.c"
 export PYTHONPATH="$top/examples" PYTHONDONTWRITEBYTECODE=1
 [ "${ONLY:-}" = nine ] || timeout 1200 python3 "$parts/figures.py" "$program" "$disk" "$memory"
-timeout 300 python3 "$parts/nine.py" "$program" "$disk" "$memory"
+[ "${ONLY:-}" = memory ] || timeout 300 python3 "$parts/nine.py" "$program" "$disk" "$memory"

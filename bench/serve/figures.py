@@ -270,7 +270,8 @@ def main():
     peers = [Pcfs, Redis] if shutil.which("redis-server") else [Pcfs]
     if len(peers) == 1:
         print("redis-server is not installed: pcfs alone")
-    compare("disk", disk, peers)
+    if os.environ.get("ONLY") != "memory":
+        compare("disk", disk, peers)
     fast = compare("memory", memory, peers)
     print(f"memory: 64 connections do {fast[64][0] / fast[1][0]:.2f} times the steps of one (aim 2.5: {aim(fast[64][0] >= 2.5 * fast[1][0])})")
     print(f"memory: the median of one connection is {fast[1][1]:.0f} us (aim under 60: {aim(fast[1][1] < 60)})")

@@ -81,6 +81,19 @@ def opened():
     return taken
 
 
+def opened_memory():
+    """Greatest memory of an opening, in bytes, read before the program ends: what the system tells of ended ones counts this one's too."""
+    process = subprocess.Popen([program, "script", "--stored"], stdin=subprocess.PIPE, stdout=subprocess.PIPE)
+    process.stdin.write(b"at 100\n")
+    process.stdin.flush()
+    assert process.stdout.readline() == b"ok\n"
+    with open(f"/proc/{process.pid}/status") as status:
+        most = next(int(line.split()[1]) * 1024 for line in status if line.startswith("VmHWM"))
+    process.stdin.close()
+    assert process.wait() == 0
+    return most
+
+
 def least(what):
     return min(what() for _ in range(3))
 
@@ -104,5 +117,5 @@ try:
 finally:
     shutil.rmtree(fast)
 size = os.path.getsize("pcfs.a")
-taken = least(opened)
-print(f"opening of {MANY} events, {size} bytes: {taken:.2f} s, {MANY / taken:.0f} events a second")
+taken, most = least(opened), opened_memory()
+print(f"opening of {MANY} events, {size} bytes: {taken:.3f} s, {MANY / taken:.0f} events a second; {most / 1e6:.1f} MB at most, {most / size:.1f} times the area")
