@@ -1,7 +1,6 @@
 -- What the messages of a connection ask for, entry by entry, and by whom: each entry that they are
 -- given is what one of them asks for, and is by somebody whom one of them logged in over the nonce
--- of
--- the connection (this project's own).
+-- of the connection (this project's own).
 use Rattle.std.specs.Prelude.{◌≡◌, ℕ, ℤ, List, [], ◌∷◌, ◌++◌, true, Option, Some, None}
 use Rattle.std.specs.List.{AllByRecursion}
 use mathlib.Core.List.{IsPrefix}
@@ -34,8 +33,7 @@ use Rattle.nine_front.specs.Placed.{MessagePlaced, MessagesPlaced}
 -- ---- what is asked for
 
 -- what a request asks of a store, in this state of its connection: its one turn; or the lookup of
--- one
--- of its names, under the first procap that fits in some directory
+-- one of its names, under the first procap that fits in some directory
 pub data Asks (s : Connection) (m : RequestView) : TurnRequest → Type 0 where
   in_one_turn : (asked : Option Control) (step : Step) (request : TurnRequest) →
       IsAskedBy s m asked →
@@ -47,8 +45,7 @@ pub data Asks (s : Connection) (m : RequestView) : TurnRequest → Type 0 where
       Asks s m (look_of who directory name q)
 
 -- One of these messages, and a state of the connection in which those before it are placed in a
--- history
--- from this state on.
+-- history from this state on.
 pub record OneOfMessages (gives : List StoreEntry → ℤ → Type 0) (p : StorePass) (history : List StoreEntry)
     (start : Connection) (from : ℕ) (messages : List MessageView) : Type 0 where
   pub earlier : List MessageView
@@ -62,9 +59,8 @@ pub record OneOfMessages (gives : List StoreEntry → ℤ → Type 0) (p : Store
   pub so_far : MessagesPlaced gives p history start from earlier told state at added
 
 -- One of these messages asks for the entry: in a state in which the messages before it are placed,
--- what it asks in a turn of the pass, which finds the entries that the history has before this
--- one, has an answer that adds the entry, or of a mark what was being added when a disk failed, at
--- a
+-- what it asks in a turn of the pass, which finds the entries that the history has before this one,
+-- has an answer that adds the entry, or of a mark what was being added when a disk failed, at a
 -- moment that the clock gives over the entries that stand before it.
 pub record IsAskedByMessage (gives : List StoreEntry → ℤ → Type 0) (p : StorePass) (history : List StoreEntry)
     (start : Connection) (from : ℕ) (messages : List MessageView) (entry : StoreEntry) : Type 0 where
@@ -95,9 +91,8 @@ EntriesAreAskedFor gives = (p : StorePass) (history : List StoreEntry) (start : 
 -- ---- by whom
 
 -- One of these messages logged this name in: in a state in which the messages before it are placed
--- it
--- asks for that over the connection's nonce, by a signature that it brings and the ring
--- accepts; and it is placed after them, and then that name is logged in.
+-- it asks for that over the connection's nonce, by a signature that it brings and the ring accepts;
+-- and it is placed after them, and then that name is logged in.
 pub record HasLoggedIn (gives : List StoreEntry → ℤ → Type 0) (p : StorePass) (history : List StoreEntry)
     (nonce : List ℕ) (from : ℕ) (messages : List MessageView) (who : List ℕ) : Type 0 where
   pub one : OneOfMessages gives p history (begun_with nonce) from messages
@@ -130,10 +125,9 @@ module _ (gives : List StoreEntry → ℤ → Type 0) (p : StorePass) (history :
   IsByLogin (checkpointed pass) = ⊥
   IsByLogin (stopped pass met) = IsMetByLogin met
 
--- Each entry that a connection is given is an operation, or the mark of a disk that failed under
--- one,
--- by somebody whom one of its messages logged in over its nonce, by a signature that the ring
--- accepts.
+-- Each entry that a connection is given is an operation, or the mark of a disk that failed
+-- under one, by somebody whom one of its messages logged in over its nonce, by a signature
+-- that the ring accepts.
 abbrev pub CallersAreAccepted : (List StoreEntry → ℤ → Type 0) → Type 0
 CallersAreAccepted gives = (p : StorePass) (history : List StoreEntry) (nonce : List ℕ) (from : ℕ)
     (messages : List MessageView) (replies : List ReplyView) (end : Connection) (to : ℕ)

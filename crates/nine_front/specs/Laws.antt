@@ -93,10 +93,8 @@ EntriesAreFew gives = (p : StorePass) (history : List StoreEntry) (start : Conne
 
 -- A connection in what its pass has seen at the end: this is the history of a store that was opened
 -- so, and the replies are placed in it, after all that the pass had seen at first and, if turns
--- were
--- taken, up to its end; the pass's own entries grew by those that the replies were given, and it
--- took
--- as many turns as they have.
+-- were taken, up to its end; the pass's own entries grew by those that the replies were given, and
+-- it took as many turns as they have.
 pub record IsPlacedConnection {D : Type 0} (faults : D → ℕ) (gives : List StoreEntry → ℤ → Type 0) (nonce : List ℕ)
     (opening : StoreView D) (old new : PassView (LockEntry D)) (messages : List MessageView)
     (replies : List ReplyView) : Type 0 where
@@ -127,9 +125,8 @@ TurnsArePlaced D faults gives = (nonce : List ℕ) (old new : PassView (LockEntr
     (opening : StoreView D) × IsPlacedConnection faults gives nonce opening old new messages replies
 
 -- A connection of a pass that was made after another had left. In each history that begins with
--- what
--- the connection's pass has seen at the end, the entries come first that the other had seen when
--- something was told under it, and the replies are placed after them.
+-- what the connection's pass has seen at the end, the entries come first that the other had seen
+-- when something was told under it, and the replies are placed after them.
 abbrev pub LaterConnectionsArePlacedAfter : (D : Type 0) → (D → ℕ) →
     (List StoreEntry → ℤ → Type 0) → Type 0
 LaterConnectionsArePlacedAfter D faults gives = (nonce : List ℕ) (opening : StoreView D)
@@ -180,8 +177,7 @@ IsCalm reply = (reply ≢ rerror (reply_text lines.NoMemory)) ×
     (reply ≢ rerror (reply_text lines.Stopped))
 
 -- a reply to the request and entries which place it after those before: memory did not run out
--- before
--- one of its turns, and none was disturbed, also of a walk that replies what it had found
+-- before one of its turns, and none was disturbed, also of a walk that replies what it had found
 pub record HasMessageEnd (gives : List StoreEntry → ℤ → Type 0) (p : StorePass) (before : List StoreEntry) (s : Connection) (m : RequestView) : Type 0 where
   pub reply : ReplyView
   pub after : Connection
@@ -193,8 +189,7 @@ pub record HasMessageEnd (gives : List StoreEntry → ℤ → Type 0) (p : Store
 
 -- At a store that is not stopped each request has an end that is not disturbed, if the clock gives
 -- some moment after whatever entries, whoever is logged in has a principal's name, and no more
--- bytes
--- are written than fit a message.
+-- bytes are written than fit a message.
 abbrev pub MessagesHaveAnEnd : (List StoreEntry → ℤ → Type 0) → Type 0
 MessagesHaveAnEnd gives = (p : StorePass) (s : Connection) (m : RequestView) (asked : Option Control)
     (before : List StoreEntry) → ((found : List StoreEntry) → (clock : ℤ) × gives found clock) →

@@ -1,6 +1,5 @@
 -- A connection as a talk: its messages, each answered by one reply (this project's own; the sizes
--- are
--- those of 9P2000).
+-- are those of 9P2000).
 use Rattle.std.proofs.Common.{◌≡◌, ◌≤◌, ℕ, List, [], length, arith}
 use Rattle.std.specs.Prelude.{ℤ}
 use Rattle.nine_messages.specs.declared.framing.TheConstants.{MOST_SIZE}

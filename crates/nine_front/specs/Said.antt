@@ -28,9 +28,8 @@ SaysStopped (reply ∷ replies) = IsStopped reply ⊎ SaysStopped replies
 module _ {D : Type 0} (faults : D → ℕ) (gives : List StoreEntry → ℤ → Type 0) where
   -- where a request is placed in each history that begins with what the pass has seen, from a place
   -- up to which it had seen all before, with so many turns: if it took any, at the end of what the
-  -- pass
-  -- saw in the last of them, so that no reply is decided over a state earlier than that; if it took
-  -- none, at that place
+  -- pass saw in the last of them, so that no reply is decided over a state earlier than that; if it
+  -- took none, at that place
   pub record IsPlacedFrom (s : Connection) (m : RequestView) (old new : PassView (LockEntry D))
       (reply : ReplyView) (after : Connection) (given : List StoreEntry) (count from : ℕ) : Type 0 where
     pub to : ℕ
@@ -41,11 +40,10 @@ module _ {D : Type 0} (faults : D → ℕ) (gives : List StoreEntry → ℤ → 
         (one : MessagePlaced gives (pass_at opening old.number) entries from s m reply after to given)
         × (length (message_turns one) ≡ count))
 
-  -- A request was answered: the pass goes on, and the reply is placed. The pass took as many turns
-  -- as
-  -- the reply has; if it took any, what it has seen is the history of a store, and if it took none,
-  -- it
-  -- is as it was. That the store is stopped is told only if the pass has seen that a disk failed.
+  -- A request was answered: the pass goes on, and the reply is placed. The pass took as many
+  -- turns as the reply has; if it took any, what it has seen is the history of a store, and if
+  -- it took none, it is as it was. That the store is stopped is told only if the pass has seen
+  -- that a disk failed.
   pub record HasAnswered (s : Connection) (m : RequestView) (old new : PassView (LockEntry D))
       (reply : ReplyView) (after : Connection) : Type 0 where
     pub given : List StoreEntry
@@ -84,8 +82,7 @@ module _ {D : Type 0} (faults : D → ℕ) (gives : List StoreEntry → ℤ → 
         × (length (messages_turns all) ≡ count))
 
   -- messages were answered, each, from one state of a connection and one moment of its pass to
-  -- later
-  -- ones, in as many turns as they have
+  -- later ones, in as many turns as they have
   pub record HasSaid (start : Connection) (old new : PassView (LockEntry D))
       (messages : List MessageView) (replies : List ReplyView) (end : Connection) : Type 0 where
     pub given : List StoreEntry
@@ -101,16 +98,12 @@ module _ {D : Type 0} (faults : D → ℕ) (gives : List StoreEntry → ℤ → 
     pub answered : AreAnswered start old messages replies end new
 
   -- A connection with this nonce answered these messages, each with one reply, from its beginning
-  -- and
-  -- one moment of its pass to a later one. In each history that begins with what the pass has seen
-  -- then, the replies
-  -- are placed after all that it had seen at first; and the pass's own entries grew by those that
-  -- the replies were given. The pass took as many turns as they have: if any, what it has seen is
-  -- the
-  -- history of a store, and the replies are placed up to the end of that, so the last that took a
-  -- turn
-  -- is decided over all that this found; if none, the pass is as it was. And so each message was
-  -- answered, from one moment of the pass to a later one.
+  -- and one moment of its pass to a later one. In each history that begins with what the pass has
+  -- seen then, the replies are placed after all that it had seen at first; and the pass's own
+  -- entries grew by those that the replies were given. The pass took as many turns as they have: if
+  -- any, what it has seen is the history of a store, and the replies are placed up to the end of
+  -- that, so the last that took a turn is decided over all that this found; if none, the pass is as
+  -- it was. And so each message was answered, from one moment of the pass to a later one.
   pub record Speaks (nonce : List ℕ) (old new : PassView (LockEntry D))
       (messages : List MessageView) (replies : List ReplyView) : Type 0 where
     pub end : Connection

@@ -1,6 +1,5 @@
 -- The laws of messages that are said, for the place of a connection among the talks: they are
--- answered
--- one after the other.
+-- answered one after the other.
 use Rattle.std.proofs.Common.{◌≡◌, ◌≢◌, ◌∙◌, ◌+◌, ◌⊎◌, ⊎_elim, inl, inr, ℕ, zero, suc, List, [], ◌∷◌, ◌++◌, length, refl, sym, ap, subst, arith, append_assoc, append-nil, length-append}
 use Rattle.std.specs.Prelude.{ℤ}
 use mathlib.Core.List.{IsPrefix}

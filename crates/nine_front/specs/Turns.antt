@@ -13,9 +13,8 @@ use Rattle.nine_fids.specs.declared.fid.FidFile.{FidFile}
 use Rattle.nine_front.specs.Placed.{WalksPlaced, all_found, goes_on, no_procap, lacks_memory, MessagePlaced, refused, answered, in_a_turn, walks, without_memory, MessagesPlaced, no_message, one_more}
 use Rattle.nine_front.specs.Placed as places
 
--- A message takes no more turns: one for a reading, a writing or a login, and one for each name of
--- a
--- walk.
+-- A message takes no more turns: one for a reading, a writing or a login, and one for each
+-- name of a walk.
 abbrev pub most_turns : RequestView → ℕ
 most_turns (tversion msize version) = 0
 most_turns (tattach fid afid uname aname) = 0

@@ -264,9 +264,10 @@ fn follow<R: Wait, D: Disk, C: TurnClock>(
 
 /// Answers a request of a connection.
 ///
-/// Each turn that it takes is placed, whatever others do, in each history that begins with what the pass has seen then, and it
-/// takes no other; if it takes none, the pass is as it was. That the store is stopped is told only if a disk failed. The reply
-/// fits a message. That memory ran out is told only after the tests, or as a line of the control file is read.
+/// Each turn that it takes is placed, whatever others do, in each history that begins with what the pass has seen then, and
+/// it takes no other; if it takes none, the pass is as it was. That the store is stopped is told only if a disk failed. The
+/// counts of the reply fit their fields; that it fits the size that was agreed has no clause. That memory ran out is told
+/// only after the tests, or as a line of the control file is read.
 pub fn answer<R: Wait, D: Disk, C: TurnClock>(
     rt: &R,
     alloc: Global,

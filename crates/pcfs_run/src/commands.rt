@@ -130,10 +130,10 @@ fn nine_serving_of(asked: Option<Task>) -> Option<(u16, u64)>
 }
 
 /// Runs the program: with `serve`, a port and a number of connections, each of so many that come to that port has a session
-/// over the store on the disks, 64 at once; with `serve9` each speaks 9P2000 with it; every other command is that of
-/// `run_alone`. By the order of the code the words are read first, then the store is opened, and then the port is listened
-/// on. If memory runs out for the words, nothing is done. What is added to the history then was added in the turns of the
-/// lines of these sessions, or of these messages.
+/// over the store on the disks, by the order of the code at most 64 at once; with `serve9` each speaks 9P2000 with it; every
+/// other command is that of `run_alone`. By the order of the code the words are read first, then the store is opened, and then
+/// the port is listened on. If memory runs out for the words, nothing is done. What is added to the history then was added in
+/// the turns of the lines of these sessions, or of these messages.
 ///
 /// The session of the pass with a number has the nonce of that number, and its lines are the first ones of what the input of
 /// the connection of that number had left when it was accepted, as far as the nonces and the listener told before the run
