@@ -26,7 +26,7 @@ module _ {D : Type 0} (faults : D → ℕ) (gives : List StoreEntry → ℤ → 
   pub Speaks-said : (nonce : List ℕ) (end : SessionState) (old new : PassView (LockEntry D)) (lines : List (List ℕ)) (answers : List LineReply) → HasSaid faults gives (guest_with nonce) old new lines answers end → Speaks faults gives nonce old new lines answers
   Speaks-said nonce end old new lines answers said =
       let all = said.placed (entries_seen old) (omega arith) in
-      record { end = end; to = all.to; within = all.within; given = said.given; goes_on = said.goes_on; placed = all.placed; stopped = said.stopped; turns = said.turns }
+      record { end = end; to = all.to; within = all.within; given = said.given; goes_on = said.goes_on; placed = all.placed; stopped = said.stopped; turns = said.turns; answered = said.answered }
 
   -- what its pass has seen at the end is a history in which it is placed
   pub Speaks-placed : (nonce : List ℕ) (opening : StoreView D) (old new : PassView (LockEntry D)) (lines : List (List ℕ)) (answers : List LineReply) → HasHistory opening old → Speaks faults gives nonce old new lines answers → IsPlacedSession faults gives nonce opening old new lines answers

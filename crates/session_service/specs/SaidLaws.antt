@@ -20,7 +20,7 @@ use Rattle.session_lines.specs.Replied.{IsPlacedFrom, HasReplied}
 use Rattle.session_lines.specs.Turns.{least_turns}
 use Rattle.session_lines.proofs.DoneLemmas.{stays, goes_further}
 use Rattle.session_lines.proofs.TurnCountLemmas.{no_turn, looser, turns_then}
-use Rattle.session_service.specs.Said.{SaysStopped, turns_of, AreSaidFrom, HasSaid}
+use Rattle.session_service.specs.Said.{SaysStopped, turns_of, AreAnswered, none_more, next_one, AreSaidFrom, HasSaid}
 
 -- ---- in a history
 
@@ -70,6 +70,12 @@ turns_of-append (reply ∷ answers) more = let rest = turns_of-append answers mo
 
 -- ---- under a pass
 
+answered_then : {D : Type 0} (gives : List StoreEntry → ℤ → Type 0) (start mid end : SessionState) (old between new : PassView (LockEntry D)) (lines others : List (List ℕ)) (answers more : List LineReply) →
+    AreAnswered gives start old lines answers mid between → AreAnswered gives mid between others more end new → AreAnswered gives start old (lines ++ others) (answers ++ more) end new
+answered_then gives _ _ end _ _ new _ others _ more (none_more state at) rest = rest
+answered_then gives _ _ end _ _ new _ others _ more (next_one state old line reply after next lines answers mid between replied tail) rest =
+    next_one state old line reply after next (lines ++ others) (answers ++ more) end new replied (answered_then gives after mid end next between new lines others answers more tail rest)
+
 module _ {D : Type 0} (faults : D → ℕ) (gives : List StoreEntry → ℤ → Type 0) where
   pub HasSaid-none : (state : SessionState) (pass : PassView (LockEntry D)) → HasSaid faults gives state pass pass [] [] state
   HasSaid-none state pass =
@@ -79,6 +85,7 @@ module _ {D : Type 0} (faults : D → ℕ) (gives : List StoreEntry → ℤ → 
         placed = λ from within. record { to = from; within = within; placed = λ opening entries begins. no_line };
         stopped = λ says. absurd says;
         turns = no_turn 0 pass.turns;
+        answered = none_more state pass;
       }
 
   said_line : (state : SessionState) (line : List ℕ) (old new : PassView (LockEntry D)) (after : SessionState) (reply : LineReply) (from : ℕ) →
@@ -103,6 +110,7 @@ module _ {D : Type 0} (faults : D → ℕ) (gives : List StoreEntry → ℤ → 
         placed = λ from within. said_line state line old new after reply from r (r.done.placed from within);
         stopped = λ says. fault (only_stopped reply says);
         turns = looser (least_turns reply) (least_turns reply + 0) 2 2 old.turns new.turns (omega arith) (omega arith) r.turns;
+        answered = next_one state old line reply after new [] [] after new r (none_more after new);
       }
 
   module _ (start mid end : SessionState) (old between new : PassView (LockEntry D)) (lines others : List (List ℕ)) (answers more : List LineReply) where
@@ -131,4 +139,5 @@ module _ {D : Type 0} (faults : D → ℕ) (gives : List StoreEntry → ℤ → 
           looser (turns_of answers + turns_of more) (turns_of (answers ++ more)) (2 * length lines + 2 * length others)
           (2 * length (lines ++ others)) old.turns new.turns (omega (arith, both)) (omega (arith, long))
           (turns_then (turns_of answers) (turns_of more) (2 * length lines) (2 * length others) old.turns between.turns new.turns one.turns other.turns);
+      answered = answered_then gives start mid end old between new lines others answers more one.answered other.answered;
     }

@@ -26,7 +26,7 @@ use Rattle.session_service.specs.declared.session_end.SessionEnd.{SessionEnd}
 use Rattle.session_service.specs.declared.session_end.SessionEnd.TheVariants.{Done, LineTooLong, ReadFault, InputTooLong}
 use Rattle.session_service.specs.Ends.{unsent_end}
 use Rattle.session_lines.specs.Turns.{CountsTurns}
-use Rattle.session_service.specs.Said.{SaysStopped, turns_of}
+use Rattle.session_service.specs.Said.{AreAnswered, SaysStopped, turns_of}
 use Rattle.session_service.specs.Written.{HoldsButLast, HoldsUpToLast}
 
 module _ {D : Type 0} (faults : D → ℕ) (gives : List StoreEntry → ℤ → Type 0) (nonce : List ℕ) where
@@ -35,7 +35,8 @@ module _ {D : Type 0} (faults : D → ℕ) (gives : List StoreEntry → ℤ → 
   -- that it had seen at first; and
   -- the pass's own entries grew by those that the replies were given. That the store is stopped is
   -- told only if the pass has seen that a disk failed. The pass took at least as many turns as the
-  -- replies come of, and at most two a line.
+  -- replies come of, and at most two a line. And so each line was answered, from one moment of the
+  -- pass to a later one.
   pub record Speaks (old new : PassView (LockEntry D)) (lines : List (List ℕ)) (answers : List LineReply) : Type 0 where
     pub end : SessionState
     pub to : ℕ
@@ -47,6 +48,7 @@ module _ {D : Type 0} (faults : D → ℕ) (gives : List StoreEntry → ℤ → 
         lines answers end to given)
     pub stopped : SaysStopped answers → HasSeenFault faults new
     pub turns : CountsTurns (turns_of answers) (2 * length lines) old.turns new.turns
+    pub answered : AreAnswered gives (guest_with nonce) old lines answers end new
 
   -- how far a session is: it answered lines that were taken, each with its end; or the input was
   -- read to its end, and it answered all its lines, of which none is too long
