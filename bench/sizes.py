@@ -100,11 +100,13 @@ def below(root):
 
 
 def work_of(words):
-    """Which crate a process proves, and in which phase: tests have a flag of their own, and wrong bodies are checked, not built."""
+    """Which crate a process proves, and in which phase: tests have a flag of their own, and a crate with wrong bodies is built, and these
+    are checked; a program has none, and is checked itself."""
     if not words[0].endswith("rattle") or "--crate-name" not in words:
         return None
-    phase = "tests" if "--test" in words else "edits" if words[1] == "check" else "proof"
-    return words[words.index("--crate-name") + 1], phase
+    crate = words[words.index("--crate-name") + 1]
+    is_wrong_body = words[1] == "check" and (TOP / "crates" / crate / "must-fail").is_dir()
+    return crate, "tests" if "--test" in words else "edits" if is_wrong_body else "proof"
 
 
 def watch(log, command):
