@@ -389,7 +389,8 @@ def main():
     try:
         run(words)
     except Fault as fault:
-        sys.exit(f"nine_client: {fault}")
+        sys.stderr.write(f"nine_client: {fault}\n")  # in one piece, since a server may write to the same place
+        sys.exit(1)
     except KeyboardInterrupt:
         sys.exit(130)
 
