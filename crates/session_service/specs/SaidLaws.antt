@@ -70,11 +70,15 @@ turns_of-append (reply ∷ answers) more = let rest = turns_of-append answers mo
 
 -- ---- under a pass
 
-answered_then : {D : Type 0} (gives : List StoreEntry → ℤ → Type 0) (start mid end : SessionState) (old between new : PassView (LockEntry D)) (lines others : List (List ℕ)) (answers more : List LineReply) →
-    AreAnswered gives start old lines answers mid between → AreAnswered gives mid between others more end new → AreAnswered gives start old (lines ++ others) (answers ++ more) end new
+answered_then : {D : Type 0} (gives : List StoreEntry → ℤ → Type 0) (start mid end : SessionState)
+    (old between new : PassView (LockEntry D)) (lines others : List (List ℕ)) (answers more : List LineReply) →
+    AreAnswered gives start old lines answers mid between →
+    AreAnswered gives mid between others more end new →
+    AreAnswered gives start old (lines ++ others) (answers ++ more) end new
 answered_then gives _ _ end _ _ new _ others _ more (none_more state at) rest = rest
 answered_then gives _ _ end _ _ new _ others _ more (next_one state old line reply after next lines answers mid between replied tail) rest =
-    next_one state old line reply after next (lines ++ others) (answers ++ more) end new replied (answered_then gives after mid end next between new lines others answers more tail rest)
+    next_one state old line reply after next (lines ++ others) (answers ++ more) end new replied
+    (answered_then gives after mid end next between new lines others answers more tail rest)
 
 module _ {D : Type 0} (faults : D → ℕ) (gives : List StoreEntry → ℤ → Type 0) where
   pub HasSaid-none : (state : SessionState) (pass : PassView (LockEntry D)) → HasSaid faults gives state pass pass [] [] state
