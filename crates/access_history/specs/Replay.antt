@@ -7,6 +7,7 @@ use Rattle.file_world.specs.Outcome.{Outcome, refused, replied}
 use Rattle.file_world.specs.World.{World, fresh_world}
 use Rattle.file_world.specs.Effect.{effect}
 use Rattle.access_history.specs.declared.event.Issue.{Issue}
+use Rattle.bl_syntax.specs.declared.limits.TheConstants.{FIRST_MOMENT}
 use Rattle.journal_records.specs.declared.event.Event.{Event}
 use Rattle.journal_records.specs.declared.event.Event.TheVariants.{Registered, Withdrawn, Issued, Acted}
 use Rattle.access_history.specs.declared.event.Addition.{Addition}
@@ -15,7 +16,7 @@ use Rattle.access_history.specs.Base.{BaseView}
 
 -- a store before its first event: the root, which `admin` owns, and the first moment of the range
 abbrev pub fresh : BaseView
-fresh = record { world = fresh_world; statements = []; issues = []; moment = negsuc 62135596799; count = 0 }
+fresh = record { world = fresh_world; statements = []; issues = []; moment = FIRST_MOMENT; count = 0 }
 
 -- ---- what an event changes in each part of the state
 

@@ -4,7 +4,7 @@ ghost use Rattle.std.specs.Prelude.{IsTrue};
 ghost use Rattle.file_world.specs.AttributeEffect.{IsAskable};
 
 use attr_state::{Meta, MetaOp, MetaReply, OpFault, Refusal};
-use bl_syntax::{Bytes, NoMemory, NodeId, Principal, StatePred, Term, Text};
+use bl_syntax::{NodeId, Principal, StatePred, Term, Text, copy_bytes};
 use condition_set::Facts;
 use std::alloc::Global;
 use std::test::Fail;
@@ -29,12 +29,6 @@ enum Wanted<'a> {
     Refused(Refusal),
 }
 
-fn bytes(alloc: Global, name: &[u8]) -> Result<Bytes, NoMemory> {
-    let mut bytes = Bytes::new(alloc);
-    bytes.extend(name)?;
-    Ok(bytes)
-}
-
 fn text(value: &[u8]) -> Result<Text, Fail> {
     Ok(Text::new(value).ok_or("no text")?)
 }
@@ -45,11 +39,11 @@ fn principal(name: &[u8]) -> Result<Principal, Fail> {
 
 fn op_of(alloc: Global, call: &Call) -> Result<MetaOp, Fail> {
     match call {
-        Call::Get(node, name) => Ok(MetaOp::Get(NodeId(*node), bytes(alloc, name)?)),
+        Call::Get(node, name) => Ok(MetaOp::Get(NodeId(*node), copy_bytes(alloc, name)?)),
         Call::Set(node, name, value) => {
-            Ok(MetaOp::Set(NodeId(*node), bytes(alloc, name)?, text(value)?))
+            Ok(MetaOp::Set(NodeId(*node), copy_bytes(alloc, name)?, text(value)?))
         }
-        Call::Remove(node, name) => Ok(MetaOp::Remove(NodeId(*node), bytes(alloc, name)?)),
+        Call::Remove(node, name) => Ok(MetaOp::Remove(NodeId(*node), copy_bytes(alloc, name)?)),
         Call::Chown(node, owner) => Ok(MetaOp::Chown(NodeId(*node), principal(owner)?)),
         Call::Add(node, owner, parent) => {
             Ok(MetaOp::Add(NodeId(*node), principal(owner)?, NodeId(*parent)))

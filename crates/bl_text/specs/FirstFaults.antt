@@ -1,6 +1,7 @@
 -- The first fault of a formula's text (this project's own): what was read up to it is a text of a
 -- part, and the part that comes next stops. Memory may be refused anywhere.
 use Rattle.std.specs.Prelude.{◌≡◌, ℕ, ◌+◌, List, ◌∷◌, length, Bool, true, false, nat_lt, Ok, Err}
+use Rattle.bl_syntax.specs.declared.limits.TheConstants.{MOST_FORMULA_NODES}
 use Rattle.bl_syntax.specs.declared.terms.Sort.{Sort}
 use Rattle.bl_syntax.specs.declared.terms.Term.{Term}
 use Rattle.bl_syntax.specs.Formula.{FormulaView}
@@ -110,14 +111,14 @@ pub data HasFirstFault (text : List ℕ) (in_statement : Bool) : Level → List 
       → interval text in_statement scope mid ≡ Err e
       → HasFirstFault text in_statement postfix scope depth here e
   too_deep : (scope : List Variable) (depth : ℕ) (here : Cursor)
-      → is_sign signs.Open here.token ≡ true → nat_lt depth 512 ≡ false
+      → is_sign signs.Open here.token ≡ true → nat_lt depth MOST_FORMULA_NODES ≡ false
       → HasFirstFault text in_statement primary scope depth here (TooLarge here.at)
   in_group : (scope : List Variable) (depth : ℕ) (here : Cursor) (e : TextFault)
-      → is_sign signs.Open here.token ≡ true → nat_lt depth 512 ≡ true
+      → is_sign signs.Open here.token ≡ true → nat_lt depth MOST_FORMULA_NODES ≡ true
       → HasFirstFault text in_statement formula scope (depth + 1) (cursor_after text here) e
       → HasFirstFault text in_statement primary scope depth here e
   not_closed : (scope : List Variable) (depth : ℕ) (here mid : Cursor) (a : FormulaView) (e : TextFault)
-      → is_sign signs.Open here.token ≡ true → nat_lt depth 512 ≡ true
+      → is_sign signs.Open here.token ≡ true → nat_lt depth MOST_FORMULA_NODES ≡ true
       → Is text in_statement formula scope (depth + 1) (cursor_after text here) mid a
       → is_continued_by formula mid.token ≡ false → expect_sign text signs.Close mid ≡ Err e
       → HasFirstFault text in_statement primary scope depth here e

@@ -3,6 +3,7 @@
 -- stand
 -- in one place of it: `&` and `|` group to the left, `=>` to the right.
 use Rattle.std.specs.Prelude.{◌≡◌, ℕ, ◌+◌, List, [], ◌∷◌, ◌++◌, length, Bool, true, false, nat_lt, ◌||◌, ◌&&◌, Ok}
+use Rattle.bl_syntax.specs.declared.limits.TheConstants.{MOST_FORMULA_NODES}
 use Rattle.bl_syntax.specs.declared.terms.Sort.{Sort}
 use Rattle.bl_syntax.specs.declared.terms.Term.{Term}
 use Rattle.bl_syntax.specs.Formula.{FormulaView, both, either, implies, forall_, exists_, says, on}
@@ -134,7 +135,7 @@ pub data Is (text : List ℕ) (in_statement : Bool) : Level → List Variable �
       → Is text in_statement primary scope depth here there a
       → Is text in_statement postfix scope depth here there a
   group : (scope : List Variable) (depth : ℕ) (here mid there : Cursor) (a : FormulaView)
-      → is_sign signs.Open here.token ≡ true → nat_lt depth 512 ≡ true
+      → is_sign signs.Open here.token ≡ true → nat_lt depth MOST_FORMULA_NODES ≡ true
       → Is text in_statement formula scope (depth + 1) (cursor_after text here) mid a
       → expect_sign text signs.Close mid ≡ Ok there
       → Is text in_statement primary scope depth here there a

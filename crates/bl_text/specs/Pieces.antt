@@ -5,6 +5,7 @@
 use Rattle.std.specs.Prelude.{◌≡◌, ℕ, List, [], ◌∷◌, codes, Bool, false, not, nat_le, ◌&&◌, Option, Some, None, Result, Ok, Err, if◌then◌else◌}
 use Rattle.std.specs.Global.{Box}
 use Rattle.std.specs.Str.{bytes_eq}
+use Rattle.bl_syntax.specs.declared.limits.TheConstants.{MOST_ARGUMENTS}
 use Rattle.bl_syntax.specs.declared.terms.Sort.{Sort}
 use Rattle.bl_syntax.specs.declared.terms.Sort.TheVariants as sorts
 use Rattle.bl_syntax.specs.declared.terms.Term.{Term}
@@ -83,7 +84,7 @@ argument in_statement scope here = do
 unfoldable pub next_argument : Bool → List Variable → Bool → ℕ → Cursor → Result Term TextFault
 next_argument in_statement scope is_atom others here = do
   t ← argument in_statement scope here
-  if is_atom && nat_le 8 others then Err (TooLarge here.at) else Ok t
+  if is_atom && nat_le MOST_ARGUMENTS others then Err (TooLarge here.at) else Ok t
 
 -- a term as a time
 unfoldable pub time_argument : Bool → List Variable → Cursor → Result Term TextFault

@@ -1,6 +1,7 @@
 -- The tokens that printed terms are (this project's own).
 use Rattle.std.specs.Prelude.{◌≡◌, ◌<◌, ◌≤◌, ℕ, ◌-◌, List, [], ◌∷◌, ◌++◌, codes, false, ◌==◌}
 use Rattle.std.specs.Fmt.{decimal}
+use Rattle.bl_syntax.specs.declared.limits.TheConstants.{MOST_FORMULA_NODES}
 use Rattle.bl_syntax.specs.declared.terms.Term.{Term}
 use Rattle.bl_syntax.specs.declared.terms.Term.TheVariants.{Prin, File, Perm, Time, Text, Ctime, Param, Bound}
 use Rattle.bl_tokens.specs.declared.tokens.Token.{Token}
@@ -33,4 +34,4 @@ IsInDepth depth (Time point) = Unit {0}
 IsInDepth depth (Text constant) = Unit {0}
 IsInDepth depth Ctime = Unit {0}
 IsInDepth depth (Param n) = Unit {0}
-IsInDepth depth (Bound n) = (n < depth) × (depth ≤ 512)
+IsInDepth depth (Bound n) = (n < depth) × (depth ≤ MOST_FORMULA_NODES)

@@ -1,5 +1,6 @@
 -- The texts of formulas and of statements, and their first faults (this project's own).
 use Rattle.std.specs.Prelude.{◌≡◌, ◌⊎◌, ℕ, List, [], Bool, true, false, Result, Ok, Err, if◌then◌else◌}
+use Rattle.bl_syntax.specs.declared.limits.TheConstants.{MOST_FORMULA_NODES}
 use Rattle.bl_syntax.specs.declared.terms.TimePoint.{TimePoint}
 use Rattle.bl_syntax.specs.declared.terms.Term.TheVariants.{Time}
 use Rattle.bl_syntax.specs.Formula.{FormulaView}
@@ -19,7 +20,7 @@ use Rattle.bl_text.specs.FirstFaults.{HasFirstFault}
 
 -- the place of the first token. A formula may have 512 nodes
 abbrev pub beginning : List ℕ → Cursor
-beginning text = token_from text 0 512
+beginning text = token_from text 0 MOST_FORMULA_NODES
 
 abbrev pub is_end : Token → Bool
 is_end End = true

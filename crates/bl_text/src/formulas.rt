@@ -5,6 +5,7 @@
 //! themselves, so that the deepest text takes little of the stack.
 
 ghost use Rattle.std.specs.Prelude.{◌≡◌, ℕ, ◌+◌, ◌-◌, ◌≤◌, List, length, true, false, Err, IfOk, IfErr};
+ghost use Rattle.bl_syntax.specs.declared.limits.TheConstants.{MOST_FORMULA_NODES};
 ghost use Rattle.bl_syntax.specs.Formula.{formula_view};
 ghost use Rattle.bl_tokens.specs.declared.faults.TextFault.{TextFault};
 ghost use Rattle.bl_text.specs.Scope.{variables};
@@ -21,6 +22,7 @@ use crate::pieces::{
 use crate::predicates::{apply_predicate, is_atom};
 use crate::scope::Scope;
 use bl_syntax::boxes::{both_of, either_of, every_of, implies_of, on_of, says_of, some_of};
+use bl_syntax::limits::MOST_FORMULA_NODES;
 use bl_syntax::{Formula, Principal, Sequence, Terms};
 use bl_tokens::{
     Cursor, Keyword, Sign, TextFault, Token, cursor_after, cursor_after_node, is_sign, is_word,
@@ -41,7 +43,7 @@ fn on_interval(
     a: Box<Formula>,
     here: &mut Cursor,
 ) -> Result<Box<Formula>, TextFault>
-    requires scope { length (variables scope.now) ≤ 512 }
+    requires scope { length (variables scope.now) ≤ MOST_FORMULA_NODES }
     requires within { here.old.end ≤ length text.now }
     ensures read { IfOk result (λ f. PutsOn text.now in_statement (variables scope.now) here.old here.new (formula_view a.value) (formula_view f.value)) }
     ensures fault { IfErr result (λ e. IntervalHasFirstFault text.now in_statement (variables scope.now) here.old e) }
@@ -83,7 +85,7 @@ fn arguments(
     is_atom: bool,
     here: &Cursor,
 ) -> Result<(Terms, Cursor), TextFault>
-    requires scope { length (variables scope.now) ≤ 512 }
+    requires scope { length (variables scope.now) ≤ MOST_FORMULA_NODES }
     requires within { here.now.end ≤ length text.now }
     ensures read { IfOk result (λ r. ReadsArguments text.now in_statement (variables scope.now) is_atom here.now r.1 r.0) }
     ensures fault { IfErr result (λ e. ArgumentsHaveFirstFault text.now in_statement (variables scope.now) is_atom here.now e) }
@@ -111,7 +113,7 @@ fn named_call(
     here: &Cursor,
     ahead: &Cursor,
 ) -> Result<(Box<Formula>, Cursor), TextFault>
-    requires scope { length (variables scope.now) ≤ 512 }
+    requires scope { length (variables scope.now) ≤ MOST_FORMULA_NODES }
     requires within { here.now.end ≤ length text.now }
     requires ahead { ahead.now ≡ cursor_after_node text.now here.now }
     requires ahead_within { ahead.now.end ≤ length text.now }
@@ -143,7 +145,7 @@ fn call(
     here: &Cursor,
     ahead: &Cursor,
 ) -> Result<(Box<Formula>, Cursor), TextFault>
-    requires scope { length (variables scope.now) ≤ 512 }
+    requires scope { length (variables scope.now) ≤ MOST_FORMULA_NODES }
     requires within { here.now.end ≤ length text.now }
     requires ahead { ahead.now ≡ cursor_after_node text.now here.now }
     requires ahead_within { ahead.now.end ≤ length text.now }
@@ -168,7 +170,7 @@ fn simple_here(
     here: &mut Cursor,
     ahead: &Cursor,
 ) -> Result<Box<Formula>, TextFault>
-    requires scope { length (variables scope.now) ≤ 512 }
+    requires scope { length (variables scope.now) ≤ MOST_FORMULA_NODES }
     requires within { here.old.end ≤ length text.now }
     requires ahead { ahead.now ≡ cursor_after_node text.now here.old }
     requires ahead_within { ahead.now.end ≤ length text.now }
@@ -194,7 +196,7 @@ fn call_here(
     here: &mut Cursor,
     ahead: &Cursor,
 ) -> Result<Box<Formula>, TextFault>
-    requires scope { length (variables scope.now) ≤ 512 }
+    requires scope { length (variables scope.now) ≤ MOST_FORMULA_NODES }
     requires within { here.old.end ≤ length text.now }
     requires ahead { ahead.now ≡ cursor_after_node text.now here.old }
     requires ahead_within { ahead.now.end ≤ length text.now }
@@ -219,7 +221,7 @@ fn primary(
     here: &mut Cursor,
     ahead: &Cursor,
 ) -> Result<Box<Formula>, TextFault>
-    requires scope { length (variables scope.now) ≤ 512 }
+    requires scope { length (variables scope.now) ≤ MOST_FORMULA_NODES }
     requires within { here.old.end ≤ length text.now }
     requires ahead { ahead.now ≡ cursor_after_node text.now here.old }
     requires ahead_within { ahead.now.end ≤ length text.now }
@@ -246,7 +248,7 @@ fn postfix(
     here: &mut Cursor,
     ahead: &Cursor,
 ) -> Result<Box<Formula>, TextFault>
-    requires scope { length (variables scope.now) ≤ 512 }
+    requires scope { length (variables scope.now) ≤ MOST_FORMULA_NODES }
     requires within { here.old.end ≤ length text.now }
     requires ahead { ahead.now ≡ cursor_after_node text.now here.old }
     requires ahead_within { ahead.now.end ≤ length text.now }
@@ -276,7 +278,7 @@ pub fn formula_at(
     here: &mut Cursor,
     ahead: &mut Cursor,
 ) -> Result<Box<Formula>, TextFault>
-    requires scope { length (variables scope.now) + here.old.left ≤ 512 }
+    requires scope { length (variables scope.now) + here.old.left ≤ MOST_FORMULA_NODES }
     requires within { here.old.end ≤ length text.now }
     ensures read { IfOk result (λ f. ReadsFormula text.now in_statement grammar.formula (variables scope.now) depth here.old here.new (formula_view f.value)) }
     ensures fault { IfErr result (λ e. HasFirstFault text.now in_statement grammar.formula (variables scope.now) depth here.old e) }
@@ -302,7 +304,7 @@ fn for_every(
     here: &mut Cursor,
     ahead: &mut Cursor,
 ) -> Result<Box<Formula>, TextFault>
-    requires scope { length (variables scope.now) + here.old.left ≤ 512 }
+    requires scope { length (variables scope.now) + here.old.left ≤ MOST_FORMULA_NODES }
     requires within { here.old.end ≤ length text.now }
     requires word { is_word Keyword.Forall here.old.token ≡ true }
     ensures read { IfOk result (λ f. ReadsFormula text.now in_statement grammar.formula (variables scope.now) depth here.old here.new (formula_view f.value)) }
@@ -326,7 +328,7 @@ fn for_some(
     here: &mut Cursor,
     ahead: &mut Cursor,
 ) -> Result<Box<Formula>, TextFault>
-    requires scope { length (variables scope.now) + here.old.left ≤ 512 }
+    requires scope { length (variables scope.now) + here.old.left ≤ MOST_FORMULA_NODES }
     requires within { here.old.end ≤ length text.now }
     requires word { is_word Keyword.Exists here.old.token ≡ true }
     ensures read { IfOk result (λ f. ReadsFormula text.now in_statement grammar.formula (variables scope.now) depth here.old here.new (formula_view f.value)) }
@@ -350,7 +352,7 @@ fn implication(
     here: &mut Cursor,
     ahead: &mut Cursor,
 ) -> Result<Box<Formula>, TextFault>
-    requires scope { length (variables scope.now) + here.old.left ≤ 512 }
+    requires scope { length (variables scope.now) + here.old.left ≤ MOST_FORMULA_NODES }
     requires within { here.old.end ≤ length text.now }
     requires no_quantifier { is_quantifier here.old.token ≡ false }
     ensures read { IfOk result (λ f. ReadsFormula text.now in_statement grammar.formula (variables scope.now) depth here.old here.new (formula_view f.value)) }
@@ -389,7 +391,7 @@ fn disjunction(
     here: &mut Cursor,
     ahead: &mut Cursor,
 ) -> Result<Box<Formula>, TextFault>
-    requires scope { length (variables scope.now) + here.old.left ≤ 512 }
+    requires scope { length (variables scope.now) + here.old.left ≤ MOST_FORMULA_NODES }
     requires within { here.old.end ≤ length text.now }
     ensures read { IfOk result (λ f. ReadsFormula text.now in_statement grammar.disjunction
         (variables scope.now) depth here.old here.new (formula_view f.value)) }
@@ -429,7 +431,7 @@ fn conjunction(
     here: &mut Cursor,
     ahead: &mut Cursor,
 ) -> Result<Box<Formula>, TextFault>
-    requires scope { length (variables scope.now) + here.old.left ≤ 512 }
+    requires scope { length (variables scope.now) + here.old.left ≤ MOST_FORMULA_NODES }
     requires within { here.old.end ≤ length text.now }
     ensures read { IfOk result (λ f. ReadsFormula text.now in_statement grammar.conjunction
         (variables scope.now) depth here.old here.new (formula_view f.value)) }
@@ -471,7 +473,7 @@ fn unary(
     here: &mut Cursor,
     ahead: &mut Cursor,
 ) -> Result<Box<Formula>, TextFault>
-    requires scope { length (variables scope.now) + here.old.left ≤ 512 }
+    requires scope { length (variables scope.now) + here.old.left ≤ MOST_FORMULA_NODES }
     requires within { here.old.end ≤ length text.now }
     ensures read { IfOk result (λ f. ReadsFormula text.now in_statement grammar.unary (variables scope.now) depth here.old here.new (formula_view f.value)) }
     ensures fault { IfErr result (λ e. HasFirstFault text.now in_statement grammar.unary (variables scope.now) depth here.old e) }
@@ -498,7 +500,7 @@ fn says_formula(
     here: &mut Cursor,
     ahead: &mut Cursor,
 ) -> Result<Box<Formula>, TextFault>
-    requires scope { length (variables scope.now) + here.old.left ≤ 512 }
+    requires scope { length (variables scope.now) + here.old.left ≤ MOST_FORMULA_NODES }
     requires within { here.old.end ≤ length text.now }
     requires ahead { ahead.old ≡ cursor_after_node text.now here.old }
     requires ahead_within { ahead.old.end ≤ length text.now }
@@ -524,7 +526,7 @@ fn grouped(
     here: &mut Cursor,
     ahead: &mut Cursor,
 ) -> Result<Box<Formula>, TextFault>
-    requires scope { length (variables scope.now) + here.old.left ≤ 512 }
+    requires scope { length (variables scope.now) + here.old.left ≤ MOST_FORMULA_NODES }
     requires within { here.old.end ≤ length text.now }
     requires ahead { ahead.old ≡ cursor_after_node text.now here.old }
     requires ahead_within { ahead.old.end ≤ length text.now }
@@ -552,7 +554,7 @@ fn group(
     here: &mut Cursor,
     ahead: &mut Cursor,
 ) -> Result<Box<Formula>, TextFault>
-    requires scope { length (variables scope.now) + here.old.left ≤ 512 }
+    requires scope { length (variables scope.now) + here.old.left ≤ MOST_FORMULA_NODES }
     requires within { here.old.end ≤ length text.now }
     requires ahead { ahead.old ≡ cursor_after_node text.now here.old }
     requires ahead_within { ahead.old.end ≤ length text.now }
@@ -561,7 +563,7 @@ fn group(
     ensures read { IfOk result (λ f. ReadsFormula text.now in_statement grammar.primary (variables scope.now) depth here.old here.new (formula_view f.value)) }
     ensures fault { IfErr result (λ e. HasFirstFault text.now in_statement grammar.primary (variables scope.now) depth here.old e) }
 {
-    if depth >= 512 {
+    if depth >= MOST_FORMULA_NODES {
         return Err(TextFault::TooLarge(here.at));
     }
     step_into(text, here, ahead);

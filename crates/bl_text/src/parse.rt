@@ -52,7 +52,7 @@ fn read_formula(alloc: Global, text: &[u8]) -> Result<Formula, TextFault>
 fn beginning(text: &[u8]) -> Cursor
     ensures same { result ≡ beginning text.now }
     ensures within { result.end ≤ length text.now }
-    ensures left { result.left ≡ 512 }
+    ensures left { result.left ≡ MOST_FORMULA_NODES }
 {
     token_from(text, 0, MOST_FORMULA_NODES)
 }

@@ -2,6 +2,7 @@
 //! has one first fault.
 
 ghost use Rattle.std.specs.Prelude.{◌≡◌, ◌+◌, ◌-◌, ◌≤◌, ℕ, List, length, Ok, Err, OnOk, IfOk, MatchResult, if◌then◌else◌};
+ghost use Rattle.bl_syntax.specs.declared.limits.TheConstants.{MOST_FORMULA_NODES};
 ghost use Rattle.bl_syntax.specs.Formula.{truth, falsity};
 ghost use Rattle.bl_text.specs.Scope.{variables};
 ghost use Rattle.bl_tokens.specs.Tokens.{cursor_after, cursor_after_node};
@@ -113,7 +114,7 @@ pub fn go_behind(text: &[u8], sign: Sign, here: &mut Cursor) -> Result<(), TextF
 /// The term that the token is.
 #[tactic(auto, unfolding(crate::specs::Pieces::term_of))]
 pub fn term_of(scope: &Scope<'_>, here: &Cursor) -> Result<Term, TextFault>
-    requires { length (variables scope.now) ≤ 512 }
+    requires { length (variables scope.now) ≤ MOST_FORMULA_NODES }
     ensures { result ≡ term_of (variables scope.now) here.now }
 {
     match &here.token {
@@ -165,7 +166,7 @@ pub fn require_sort(
 /// A term as an argument of a predicate.
 #[tactic(auto, unfolding(crate::specs::Pieces::argument))]
 pub fn argument(in_statement: bool, scope: &Scope<'_>, here: &Cursor) -> Result<Term, TextFault>
-    requires { length (variables scope.now) ≤ 512 }
+    requires { length (variables scope.now) ≤ MOST_FORMULA_NODES }
     ensures value { result ≡ argument in_statement (variables scope.now) here.now }
     ensures some { OnOk result (1 ≤ here.now.left) }
 {
@@ -184,7 +185,7 @@ pub fn next_argument(
     others: usize,
     here: &Cursor,
 ) -> Result<Term, TextFault>
-    requires { length (variables scope.now) ≤ 512 }
+    requires { length (variables scope.now) ≤ MOST_FORMULA_NODES }
     ensures value { result ≡ next_argument in_statement (variables scope.now) is_atom others here.now }
     ensures some { OnOk result (1 ≤ here.now.left) }
 {
@@ -199,7 +200,7 @@ pub fn next_argument(
 /// A term as a time.
 #[tactic(auto, unfolding(crate::specs::Pieces::time_argument))]
 fn time_argument(in_statement: bool, scope: &Scope<'_>, here: &Cursor) -> Result<Term, TextFault>
-    requires { length (variables scope.now) ≤ 512 }
+    requires { length (variables scope.now) ≤ MOST_FORMULA_NODES }
     ensures value { result ≡ time_argument in_statement (variables scope.now) here.now }
     ensures some { OnOk result (1 ≤ here.now.left) }
 {
@@ -219,7 +220,7 @@ pub fn interval(
     scope: &Scope<'_>,
     here: &mut Cursor,
 ) -> Result<(Term, Term), TextFault>
-    requires scope { length (variables scope.now) ≤ 512 }
+    requires scope { length (variables scope.now) ≤ MOST_FORMULA_NODES }
     requires within { here.old.end ≤ length text.now }
     ensures value { MatchResult result (λ r. interval text.now in_statement (variables scope.now)
         here.old ≡ Ok (r.0, r.1, here.new)) (λ e. interval text.now in_statement
@@ -293,7 +294,7 @@ pub fn speaker(
     here: &mut Cursor,
     ahead: &Cursor,
 ) -> Result<Term, TextFault>
-    requires scope { length (variables scope.now) ≤ 512 }
+    requires scope { length (variables scope.now) ≤ MOST_FORMULA_NODES }
     requires ahead { ahead.now ≡ cursor_after_node text.now here.old }
     requires ahead_within { ahead.now.end ≤ length text.now }
     requires ahead_left { ahead.now.left ≡ here.old.left - 1 }
@@ -334,7 +335,7 @@ fn comparison(
     here: &Cursor,
     ahead: &Cursor,
 ) -> Result<(Box<Formula>, Cursor), TextFault>
-    requires scope { length (variables scope.now) ≤ 512 }
+    requires scope { length (variables scope.now) ≤ MOST_FORMULA_NODES }
     requires ahead { ahead.now ≡ cursor_after_node text.now here.now }
     requires ahead_within { ahead.now.end ≤ length text.now }
     requires ahead_left { ahead.now.left ≡ here.now.left - 1 }
@@ -443,7 +444,7 @@ pub fn simple_formula(
     here: &Cursor,
     ahead: &Cursor,
 ) -> Result<(Box<Formula>, Cursor), TextFault>
-    requires scope { length (variables scope.now) ≤ 512 }
+    requires scope { length (variables scope.now) ≤ MOST_FORMULA_NODES }
     requires ahead { ahead.now ≡ cursor_after_node text.now here.now }
     requires ahead_within { ahead.now.end ≤ length text.now }
     requires ahead_left { ahead.now.left ≡ here.now.left - 1 }

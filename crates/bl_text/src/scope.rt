@@ -1,6 +1,7 @@
 //! The variables that are in scope at a place of a text. They lie on the stack and take no memory.
 
 ghost use Rattle.std.specs.Prelude.{◌≡◌, ◌≤◌, ◌<◌, length, IfSome};
+ghost use Rattle.bl_syntax.specs.declared.limits.TheConstants.{MOST_FORMULA_NODES};
 ghost use Rattle.bl_text.specs.Scope.{variables, place_of, sort_of_place, term_sort, is_same_sort, is_of_wanted_sort};
 
 use bl_syntax::{Short, Sort, Term};
@@ -15,7 +16,7 @@ pub enum Scope<'a> {
 impl Scope<'_> {
     /// How many binders stand inside that of the nearest variable of the name; none where it has no binder.
     pub fn place_of(&self, name: &Short<32>) -> Option<u32>
-        requires { length (variables self.now) ≤ 512 }
+        requires { length (variables self.now) ≤ MOST_FORMULA_NODES }
         ensures value { result ≡ place_of (variables self.now) name.now }
         ensures inside { IfSome result (λ n. n < length (variables self.now)) }
     {

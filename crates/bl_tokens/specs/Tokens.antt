@@ -3,6 +3,7 @@
 use Rattle.std.specs.Prelude.{ℕ, ℤ, pos, neg_ℤ, ◌+ℤ◌, ◌+◌, ◌-◌, ◌^◌, List, [], ◌∷◌, length, take, drop, codes, Bool, false, nat_le, nat_eq, ◌&&◌, ◌==◌, Option, Some, None, if◌then◌else◌}
 use Rattle.std.specs.List.{prefix_len, take_while, starts_with}
 use Rattle.std.specs.Str.Parse.{digits_value}
+use Rattle.bl_syntax.specs.declared.limits.TheConstants.{LONGEST_WORD}
 use Rattle.bl_syntax.specs.declared.terms.Term.TheVariants as terms
 use Rattle.bl_syntax.specs.declared.terms.TimePoint.TheVariants as times
 use Rattle.bl_syntax.specs.Names.{is_lower_case, is_upper_case, is_digit, is_text}
@@ -99,7 +100,7 @@ abbrev pub word_lexeme : List ℕ → Lexeme
 word_lexeme bytes = sized_word (take_while (is_in classes.Name) bytes)
 
 abbrev sized_variable : List ℕ → Lexeme
-sized_variable name = if nat_le (length name) 32 then sized_lexeme (tokens.Variable name) (length name) else bad_lexeme
+sized_variable name = if nat_le (length name) LONGEST_WORD then sized_lexeme (tokens.Variable name) (length name) else bad_lexeme
 
 abbrev pub variable_lexeme : List ℕ → Lexeme
 variable_lexeme bytes = sized_variable (take_while (is_in classes.Word) bytes)

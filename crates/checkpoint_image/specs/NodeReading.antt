@@ -5,6 +5,7 @@
 use Rattle.std.specs.Prelude.{ℕ, List, [], Bool, ◌&&◌, nat_lt, ◌==◌, if◌then◌else◌, Option, Some, None, Ok, Err}
 use Rattle.std.specs.Ordering.{is_lt, nat_cmp}
 use Rattle.std.specs.Cmp.Lexicographic.{slice_cmp}
+use Rattle.file_world.specs.declared.limits.TheConstants.{LONGEST_NAME}
 use Rattle.bl_syntax.specs.declared.codec_fault.CodecFault.TheVariants.{NotCanonical}
 use Rattle.bl_syntax.specs.Reading.{◌>>=◌, Reading, map_reading, place, word_at, name_at, text_at, coded_at}
 use Rattle.file_world.specs.declared.operation.Kind.{Kind}
@@ -57,7 +58,7 @@ is_name_after previous name = is_attribute_name name && is_lt (slice_cmp nat_cmp
 
 -- the name of an attribute after the previous one
 abbrev pub attribute_name_at : List ℕ → ℕ → List ℕ → Reading (List ℕ)
-attribute_name_at previous input bytes = word_at 1 64 (is_name_after previous) input bytes
+attribute_name_at previous input bytes = word_at 1 LONGEST_NAME (is_name_after previous) input bytes
 
 -- an attribute after the previous one
 unfoldable pub attribute_at : List ℕ → ℕ → List ℕ → Reading (List ℕ × List ℕ)
@@ -83,7 +84,7 @@ held_at input bytes = do
 
 -- the name of a node, or the root's
 abbrev pub node_name_at : ℕ → List ℕ → Reading (List ℕ)
-node_name_at input bytes = word_at 0 64 is_name_or_none input bytes
+node_name_at input bytes = word_at 0 LONGEST_NAME is_name_or_none input bytes
 
 -- the name of a node, its attributes, and its contents
 unfoldable pub node_tail_at : ℕ → List ℕ → Reading (List ℕ × (Attributes × List ℕ))

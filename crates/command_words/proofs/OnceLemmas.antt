@@ -5,6 +5,9 @@ use Rattle.std.specs.Str.{bytes_eq}
 use Rattle.std.proofs.lemmas.Slice.Eq.{bytes_eq-Decides}
 use Rattle.std.specs.declared.alloc.Global.{Global}
 use Rattle.clap.specs.Words.{Row, Text, first_of, subcommand_of}
+use Rattle.bl_syntax.specs.declared.limits.TheConstants.{MOST_EVENTS}
+use Rattle.generated_script.specs.declared.script.TheConstants.{MOST_ROUNDS}
+use Rattle.command_words.specs.declared.given.TheConstants.{MOST_PIECES, LAST_SECOND, MOST_HEIGHT, LAST_PORT, MOST_CONNECTIONS}
 use Rattle.command_words.specs.Commands.{program}
 use Rattle.command_words.specs.CommandWords.{GivesNumber}
 use Rattle.command_words.specs.Tasks.{AsksFor, Finds, IsTaskOf, texts_of}
@@ -149,7 +152,7 @@ module _ (name : Text) (given : List Row) where
 
   pieces_given : (pieces : Option ℕ) → IsTaskOf (codes "audit") given (Audit pieces) → Firsts (Some (codes "pieces")) pieces
   pieces_given None is = is.1
-  pieces_given (Some n) is = (1, 64, is.1)
+  pieces_given (Some n) is = (1, MOST_PIECES, is.1)
 
   first_given : (task : Task) → IsTaskOf name given task → Firsts (first_name name) (first_number task)
   first_given Script is = subst (λ (n : Text). Firsts (first_name n) None) (sym is.0) refl
@@ -157,14 +160,14 @@ module _ (name : Text) (given : List Row) where
   first_given Init is = subst (λ (n : Text). Firsts (first_name n) None) (sym is) refl
   first_given Checkpoint is = subst (λ (n : Text). Firsts (first_name n) None) (sym is) refl
   first_given (Audit pieces) is = subst (λ (n : Text). Firsts (first_name n) pieces) (sym is.0) (pieces_given pieces (refl, is.1))
-  first_given (Export from) is = subst (λ (n : Text). Firsts (first_name n) (Some from)) (sym is.0) (1, 2 ^ 48 - 1, is.1)
+  first_given (Export from) is = subst (λ (n : Text). Firsts (first_name n) (Some from)) (sym is.0) (1, MOST_EVENTS, is.1)
   first_given Follow is = subst (λ (n : Text). Firsts (first_name n) None) (sym is) refl
   first_given Check is = subst (λ (n : Text). Firsts (first_name n) None) (sym is) refl
-  first_given (Load rounds seed) is = subst (λ (n : Text). Firsts (first_name n) (Some rounds)) (sym is.0) (0, 20000, is.1)
-  first_given (Modes from to) is = subst (λ (n : Text). Firsts (first_name n) (Some from)) (sym is.0) (0, 253402300799, is.1)
-  first_given (RootSign height from) is = subst (λ (n : Text). Firsts (first_name n) (Some height)) (sym is.0) (0, 8, is.1)
-  first_given (Serve port count) is = subst (λ (n : Text). Firsts (first_name n) (Some port)) (sym is.0) (1, 65535, is.1)
-  first_given (Serve9 port count) is = subst (λ (n : Text). Firsts (first_name n) (Some port)) (sym is.0) (1, 65535, is.1)
+  first_given (Load rounds seed) is = subst (λ (n : Text). Firsts (first_name n) (Some rounds)) (sym is.0) (0, MOST_ROUNDS, is.1)
+  first_given (Modes from to) is = subst (λ (n : Text). Firsts (first_name n) (Some from)) (sym is.0) (0, LAST_SECOND, is.1)
+  first_given (RootSign height from) is = subst (λ (n : Text). Firsts (first_name n) (Some height)) (sym is.0) (0, MOST_HEIGHT, is.1)
+  first_given (Serve port count) is = subst (λ (n : Text). Firsts (first_name n) (Some port)) (sym is.0) (1, LAST_PORT, is.1)
+  first_given (Serve9 port count) is = subst (λ (n : Text). Firsts (first_name n) (Some port)) (sym is.0) (1, LAST_PORT, is.1)
 
   abbrev Seconds : Option Text → ℕ → Type 0
   Seconds o number = GivesSecond o given number
@@ -179,10 +182,10 @@ module _ (name : Text) (given : List Row) where
   second_given Follow is = subst (λ (n : Text). Seconds (second_name n) 0) (sym is) refl
   second_given Check is = subst (λ (n : Text). Seconds (second_name n) 0) (sym is) refl
   second_given (Load rounds seed) is = subst (λ (n : Text). Seconds (second_name n) seed) (sym is.0) (0, 2 ^ 64 - 1, is.2)
-  second_given (Modes from to) is = subst (λ (n : Text). Seconds (second_name n) to) (sym is.0) (0, 253402300799, is.2)
+  second_given (Modes from to) is = subst (λ (n : Text). Seconds (second_name n) to) (sym is.0) (0, LAST_SECOND, is.2)
   second_given (RootSign height from) is = subst (λ (n : Text). Seconds (second_name n) from) (sym is.0) (0, 2 ^ height, is.2)
-  second_given (Serve port count) is = subst (λ (n : Text). Seconds (second_name n) count) (sym is.0) (1, 1000000, is.2)
-  second_given (Serve9 port count) is = subst (λ (n : Text). Seconds (second_name n) count) (sym is.0) (1, 1000000, is.2)
+  second_given (Serve port count) is = subst (λ (n : Text). Seconds (second_name n) count) (sym is.0) (1, MOST_CONNECTIONS, is.2)
+  second_given (Serve9 port count) is = subst (λ (n : Text). Seconds (second_name n) count) (sym is.0) (1, MOST_CONNECTIONS, is.2)
 
   task_once : (first second : Task) → IsTaskOf name given first → IsTaskOf name given second → first ≡ second
   task_once first second one other =

@@ -12,6 +12,9 @@ use Rattle.clap.specs.declared.error.Error.{Error}
 use Rattle.clap.specs.declared.error.kind.ErrorKind.TheVariants as kinds
 use Rattle.clap.specs.declared.parser.matches.ArgMatches.TheViews.{out-SubCommand}
 use Rattle.clap.specs.declared.parser.matches.SubCommand.{SubCommand}
+use Rattle.bl_syntax.specs.declared.limits.TheConstants.{MOST_EVENTS}
+use Rattle.generated_script.specs.declared.script.TheConstants.{MOST_ROUNDS}
+use Rattle.command_words.specs.declared.given.TheConstants.{MOST_PIECES, LAST_SECOND, MOST_HEIGHT, LAST_PORT, MOST_CONNECTIONS}
 use Rattle.command_words.specs.Commands.{program}
 use Rattle.command_words.specs.CommandWords.{GivesNumber, GivesPieces}
 use Rattle.command_words.specs.Tasks.{AreKnown, AskForNoRun, AsksFor, Finds, IsFit, IsServing, IsTaskOf, texts_of}
@@ -43,11 +46,11 @@ module _ (given : List Row) where
   no_audit none (Serve9 port count) is = absurd (differ (codes "audit") (codes "serve9") refl is.0)
 
   -- pieces are given, but as no such number
-  pub no_pieces : (text : Text) → first_of (codes "pieces") given ≡ Some text → ((n : ℕ) → GivesNumber 1 64 (codes "pieces") given n → ⊥) → (pieces : Option ℕ) → GivesPieces given pieces → ⊥
+  pub no_pieces : (text : Text) → first_of (codes "pieces") given ≡ Some text → ((n : ℕ) → GivesNumber 1 MOST_PIECES (codes "pieces") given n → ⊥) → (pieces : Option ℕ) → GivesPieces given pieces → ⊥
   no_pieces text is none None nothing = let e : Some text ≡ None = sym is ∙ nothing in absurd cc
   no_pieces text is none (Some n) says = none n says
 
-  pub no_export : ((from : ℕ) → GivesNumber 1 (2 ^ 48 - 1) (codes "from") given from → ⊥) → (task : Task) → IsTaskOf (codes "export") given task → ⊥
+  pub no_export : ((from : ℕ) → GivesNumber 1 MOST_EVENTS (codes "from") given from → ⊥) → (task : Task) → IsTaskOf (codes "export") given task → ⊥
   no_export none Script is = absurd (differ (codes "export") (codes "script") refl is.0)
   no_export none Stored is = absurd (differ (codes "export") (codes "script") refl is.0)
   no_export none Init is = absurd (differ (codes "export") (codes "init") refl is)
@@ -62,7 +65,7 @@ module _ (given : List Row) where
   no_export none (Serve port count) is = absurd (differ (codes "export") (codes "serve") refl is.0)
   no_export none (Serve9 port count) is = absurd (differ (codes "export") (codes "serve9") refl is.0)
 
-  pub no_load : ((rounds seed : ℕ) → GivesNumber 0 20000 (codes "rounds") given rounds → GivesNumber 0 (2 ^ 64 - 1) (codes "seed") given seed → ⊥) → (task : Task) → IsTaskOf (codes "load") given task → ⊥
+  pub no_load : ((rounds seed : ℕ) → GivesNumber 0 MOST_ROUNDS (codes "rounds") given rounds → GivesNumber 0 (2 ^ 64 - 1) (codes "seed") given seed → ⊥) → (task : Task) → IsTaskOf (codes "load") given task → ⊥
   no_load none Script is = absurd (differ (codes "load") (codes "script") refl is.0)
   no_load none Stored is = absurd (differ (codes "load") (codes "script") refl is.0)
   no_load none Init is = absurd (differ (codes "load") (codes "init") refl is)
@@ -77,7 +80,7 @@ module _ (given : List Row) where
   no_load none (Serve port count) is = absurd (differ (codes "load") (codes "serve") refl is.0)
   no_load none (Serve9 port count) is = absurd (differ (codes "load") (codes "serve9") refl is.0)
 
-  pub no_modes : ((from to : ℕ) → GivesNumber 0 253402300799 (codes "from") given from → GivesNumber 0 253402300799 (codes "to") given to → ⊥) → (task : Task) → IsTaskOf (codes "modes") given task → ⊥
+  pub no_modes : ((from to : ℕ) → GivesNumber 0 LAST_SECOND (codes "from") given from → GivesNumber 0 LAST_SECOND (codes "to") given to → ⊥) → (task : Task) → IsTaskOf (codes "modes") given task → ⊥
   no_modes none Script is = absurd (differ (codes "modes") (codes "script") refl is.0)
   no_modes none Stored is = absurd (differ (codes "modes") (codes "script") refl is.0)
   no_modes none Init is = absurd (differ (codes "modes") (codes "init") refl is)
@@ -92,7 +95,7 @@ module _ (given : List Row) where
   no_modes none (Serve port count) is = absurd (differ (codes "modes") (codes "serve") refl is.0)
   no_modes none (Serve9 port count) is = absurd (differ (codes "modes") (codes "serve9") refl is.0)
 
-  pub no_rootsign : ((height from : ℕ) → GivesNumber 0 8 (codes "height") given height → GivesNumber 0 (2 ^ height) (codes "from") given from → ⊥) → (task : Task) → IsTaskOf (codes "rootsign") given task → ⊥
+  pub no_rootsign : ((height from : ℕ) → GivesNumber 0 MOST_HEIGHT (codes "height") given height → GivesNumber 0 (2 ^ height) (codes "from") given from → ⊥) → (task : Task) → IsTaskOf (codes "rootsign") given task → ⊥
   no_rootsign none Script is = absurd (differ (codes "rootsign") (codes "script") refl is.0)
   no_rootsign none Stored is = absurd (differ (codes "rootsign") (codes "script") refl is.0)
   no_rootsign none Init is = absurd (differ (codes "rootsign") (codes "init") refl is)
@@ -107,7 +110,7 @@ module _ (given : List Row) where
   no_rootsign none (Serve port count) is = absurd (differ (codes "rootsign") (codes "serve") refl is.0)
   no_rootsign none (Serve9 port count) is = absurd (differ (codes "rootsign") (codes "serve9") refl is.0)
 
-  pub no_serve : ((port count : ℕ) → GivesNumber 1 65535 (codes "port") given port → GivesNumber 1 1000000 (codes "count") given count → ⊥) → (task : Task) → IsTaskOf (codes "serve") given task → ⊥
+  pub no_serve : ((port count : ℕ) → GivesNumber 1 LAST_PORT (codes "port") given port → GivesNumber 1 MOST_CONNECTIONS (codes "count") given count → ⊥) → (task : Task) → IsTaskOf (codes "serve") given task → ⊥
   no_serve none Script is = absurd (differ (codes "serve") (codes "script") refl is.0)
   no_serve none Stored is = absurd (differ (codes "serve") (codes "script") refl is.0)
   no_serve none Init is = absurd (differ (codes "serve") (codes "init") refl is)
@@ -122,7 +125,7 @@ module _ (given : List Row) where
   no_serve none (Serve port count) is = none port count is.1 is.2
   no_serve none (Serve9 port count) is = absurd (differ (codes "serve") (codes "serve9") refl is.0)
 
-  pub no_serve9 : ((port count : ℕ) → GivesNumber 1 65535 (codes "port") given port → GivesNumber 1 1000000 (codes "count") given count → ⊥) → (task : Task) → IsTaskOf (codes "serve9") given task → ⊥
+  pub no_serve9 : ((port count : ℕ) → GivesNumber 1 LAST_PORT (codes "port") given port → GivesNumber 1 MOST_CONNECTIONS (codes "count") given count → ⊥) → (task : Task) → IsTaskOf (codes "serve9") given task → ⊥
   no_serve9 none Script is = absurd (differ (codes "serve9") (codes "script") refl is.0)
   no_serve9 none Stored is = absurd (differ (codes "serve9") (codes "script") refl is.0)
   no_serve9 none Init is = absurd (differ (codes "serve9") (codes "init") refl is)

@@ -2,6 +2,7 @@
 use Rattle.std.specs.Prelude.{◌≡◌, ◌≤◌, ℕ, List, codes, Option, Some, None}
 use Rattle.clap.specs.Words.{Row, Text, first_of}
 use Rattle.line_words.specs.Numbers.{IsLongNumber}
+use Rattle.command_words.specs.declared.given.TheConstants.{MOST_PIECES}
 
 -- a number from the one to the other is given under this name, in decimal without leading zeros
 pub record GivesNumber (least most : ℕ) (name : Text) (given : List Row) (number : ℕ) : Type 0 where
@@ -11,7 +12,7 @@ pub record GivesNumber (least most : ℕ) (name : Text) (given : List Row) (numb
   pub not_below : least ≤ number
   pub not_above : number ≤ most
 
--- how many pieces are asked for: from 1 to 64, or nothing is said
+-- how many pieces are asked for: at least 1, or nothing is said
 abbrev pub GivesPieces : List Row → Option ℕ → Type 0
 GivesPieces given None = first_of (codes "pieces") given ≡ None
-GivesPieces given (Some pieces) = GivesNumber 1 64 (codes "pieces") given pieces
+GivesPieces given (Some pieces) = GivesNumber 1 MOST_PIECES (codes "pieces") given pieces

@@ -3,6 +3,9 @@ use Rattle.std.specs.Prelude.{◌≡◌, ◌≤◌, ◌^◌, ◌-◌, List, [], 
 use Rattle.std.specs.String.{string_bytes}
 use Rattle.std.specs.declared.alloc.Global.{Global}
 use Rattle.clap.specs.Words.{Row, Text, fault_of, first_of, subcommand_of}
+use Rattle.bl_syntax.specs.declared.limits.TheConstants.{MOST_EVENTS}
+use Rattle.generated_script.specs.declared.script.TheConstants.{MOST_ROUNDS}
+use Rattle.command_words.specs.declared.given.TheConstants.{LAST_SECOND, MOST_HEIGHT, LAST_PORT, MOST_CONNECTIONS}
 use Rattle.command_words.specs.declared.words.Task.{Task}
 use Rattle.command_words.specs.declared.words.Task.TheVariants.{Script, Stored, Init, Checkpoint, Audit, Export, Follow, Check, Load, Modes, RootSign, Serve, Serve9}
 use Rattle.command_words.specs.CommandWords.{GivesNumber, GivesPieces}
@@ -18,24 +21,24 @@ IsTaskOf name given Init = name ≡ codes "init"
 IsTaskOf name given Checkpoint = name ≡ codes "checkpoint"
 IsTaskOf name given (Audit pieces) = (name ≡ codes "audit") × GivesPieces given pieces
 IsTaskOf name given (Export from) = (name ≡ codes "export") ×
-    GivesNumber 1 (2 ^ 48 - 1) (codes "from") given from
+    GivesNumber 1 MOST_EVENTS (codes "from") given from
 IsTaskOf name given Follow = name ≡ codes "follow"
 IsTaskOf name given Check = name ≡ codes "check"
 IsTaskOf name given (Load rounds seed) = (name ≡ codes "load") ×
-    GivesNumber 0 20000 (codes "rounds") given rounds ×
+    GivesNumber 0 MOST_ROUNDS (codes "rounds") given rounds ×
     GivesNumber 0 (2 ^ 64 - 1) (codes "seed") given seed
 IsTaskOf name given (Modes from to) = (name ≡ codes "modes") ×
-    GivesNumber 0 253402300799 (codes "from") given from ×
-    GivesNumber 0 253402300799 (codes "to") given to
+    GivesNumber 0 LAST_SECOND (codes "from") given from ×
+    GivesNumber 0 LAST_SECOND (codes "to") given to
 IsTaskOf name given (RootSign height from) =
-    (name ≡ codes "rootsign") × GivesNumber 0 8 (codes "height") given height ×
+    (name ≡ codes "rootsign") × GivesNumber 0 MOST_HEIGHT (codes "height") given height ×
     GivesNumber 0 (2 ^ height) (codes "from") given from
 IsTaskOf name given (Serve port count) = (name ≡ codes "serve") ×
-    GivesNumber 1 65535 (codes "port") given port ×
-    GivesNumber 1 1000000 (codes "count") given count
+    GivesNumber 1 LAST_PORT (codes "port") given port ×
+    GivesNumber 1 MOST_CONNECTIONS (codes "count") given count
 IsTaskOf name given (Serve9 port count) = (name ≡ codes "serve9") ×
-    GivesNumber 1 65535 (codes "port") given port ×
-    GivesNumber 1 1000000 (codes "count") given count
+    GivesNumber 1 LAST_PORT (codes "port") given port ×
+    GivesNumber 1 MOST_CONNECTIONS (codes "count") given count
 
 -- the command that was found asks for this
 abbrev pub Finds : Option (Text × List Row) → Task → Type 0
@@ -62,14 +65,14 @@ IsFit Stored = Unit {0}
 IsFit Init = Unit {0}
 IsFit Checkpoint = Unit {0}
 IsFit (Audit pieces) = IfSome pieces (λ n. 1 ≤ n)
-IsFit (Export from) = (1 ≤ from) × (from ≤ 2 ^ 48 - 1)
+IsFit (Export from) = (1 ≤ from) × (from ≤ MOST_EVENTS)
 IsFit Follow = Unit {0}
 IsFit Check = Unit {0}
-IsFit (Load rounds seed) = rounds ≤ 20000
-IsFit (Modes from to) = (from ≤ 253402300799) × (to ≤ 253402300799)
-IsFit (RootSign height from) = (height ≤ 8) × (from ≤ 2 ^ height)
-IsFit (Serve port count) = (1 ≤ count) × (count ≤ 1000000)
-IsFit (Serve9 port count) = (1 ≤ count) × (count ≤ 1000000)
+IsFit (Load rounds seed) = rounds ≤ MOST_ROUNDS
+IsFit (Modes from to) = (from ≤ LAST_SECOND) × (to ≤ LAST_SECOND)
+IsFit (RootSign height from) = (height ≤ MOST_HEIGHT) × (from ≤ 2 ^ height)
+IsFit (Serve port count) = (1 ≤ count) × (count ≤ MOST_CONNECTIONS)
+IsFit (Serve9 port count) = (1 ≤ count) × (count ≤ MOST_CONNECTIONS)
 
 -- sessions or 9P2000 are asked for, which need more ports than a run without them
 abbrev pub IsServing : Task → Type 0

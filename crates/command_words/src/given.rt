@@ -7,27 +7,25 @@ ghost use Rattle.command_words.specs.Tasks.{IsTaskOf};
 ghost use Rattle.command_words.specs.declared.words.Task.{Task};
 
 use crate::words::Task;
-use bl_syntax::limits::MOST_EVENTS;
+use bl_syntax::limits::{LAST_MOMENT, MOST_EVENTS};
 use clap::ArgMatches;
+use generated_script::MOST_ROUNDS;
 use line_words::numerals::long_number;
 
 /// The most pieces of an audit.
-const MOST_PIECES: u64 = 64;
+pub const MOST_PIECES: u64 = 64;
 
-/// The most rounds of a generated script.
-const MOST_ROUNDS: u64 = 20_000;
-
-/// The last second of a table of modes, 9999-12-31T23:59:59Z.
-const LAST_SECOND: u64 = 253_402_300_799;
+/// The last second of a table of modes.
+pub const LAST_SECOND: u64 = LAST_MOMENT as u64;
 
 /// The greatest height of a tree of hashes.
-const MOST_HEIGHT: u64 = 8;
+pub const MOST_HEIGHT: u64 = 8;
 
 /// The greatest port.
-const LAST_PORT: u64 = 65_535;
+pub const LAST_PORT: u64 = 65_535;
 
 /// The most connections.
-const MOST_CONNECTIONS: u64 = 1_000_000;
+pub const MOST_CONNECTIONS: u64 = 1_000_000;
 
 // The number in this range that is given under that name.
 fn number_given(given: &ArgMatches<'_>, name: &str, least: u64, most: u64) -> Option<u64>
@@ -126,7 +124,7 @@ pub fn modes_task(given: &ArgMatches<'_>) -> Option<Task>
 
 // How many leaves a tree of this height has.
 fn leaves_of(height: u64) -> u64
-    requires { height ≤ 8 }
+    requires { height ≤ MOST_HEIGHT }
     ensures leaves { result ≡ 2 ^ height }
     ensures few { result ≤ 256 }
 {

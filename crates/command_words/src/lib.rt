@@ -9,4 +9,5 @@ mod given;
 pub mod laws;
 mod words;
 
+pub use given::MOST_CONNECTIONS;
 pub use words::{Task, task_of};

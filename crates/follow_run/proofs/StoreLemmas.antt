@@ -13,7 +13,8 @@ use Rattle.pcfs_store.specs.Checkpoints.{SurvivesMet}
 use Rattle.pcfs_store.specs.Entries.{StoreEntry, happened}
 use Rattle.pcfs_store.specs.Newest.{one_of}
 use Rattle.pcfs_store.specs.Ready.{IsReady, IsCurrent, StopsNow, SurvivesStop}
-use Rattle.pcfs_store.specs.StoreView.{StoreView, first_disk, second_disk}
+use Rattle.pcfs_store.specs.StoreView.{StoreView, NoneFailed, first_disk, second_disk}
+use Rattle.pcfs_store.proofs.CountLemmas.{NoneFailed-same, NoneFailed-event}
 use Rattle.pcfs_session.specs.Stored.{StoreGoesOn}
 use Rattle.pcfs_session.proofs.OutboxLemmas.{with_back-nil}
 use Rattle.pcfs_session.proofs.StoredLemmas.{none_some, running_for, StoreGoesOn-same}
@@ -64,7 +65,7 @@ module _ {D : Type 0} (faults : D → ℕ) where
   takes_in old _ message _ going had (takes.damaged damage goes at is) = follows.damaged damage at is
   takes_in old _ message _ going had (takes.full event goes n over) = follows.full event (next_in old message event n) over
   takes_in old _ message _ going had (takes.failed event active goes n fits risen) = absurd (going refl)
-  takes_in old _ message _ going had (takes.kept event active goes n fits) = follows.kept event (next_in old message event n) fits
+  takes_in old _ message _ going had (takes.kept event active goes n fits stood) = follows.kept event (next_in old message event n) fits
   takes_in old _ message _ going had (takes.without_memory goes at) = absurd (had refl)
 
   -- no disk failed for a message that is answered otherwise
@@ -75,7 +76,7 @@ module _ {D : Type 0} (faults : D → ℕ) where
   still_runs old _ number payload _ going (takes.damaged damage goes at is) = goes
   still_runs old _ number payload _ going (takes.full event goes n over) = goes
   still_runs old _ number payload _ going (takes.failed event active goes n fits risen) = absurd (going refl)
-  still_runs old _ number payload _ going (takes.kept event active goes n fits) = goes
+  still_runs old _ number payload _ going (takes.kept event active goes n fits stood) = goes
   still_runs old _ number payload _ going (takes.without_memory goes at) = goes
 
   stays_in_place : (old new : StoreView D) (number : ℕ) (payload : List ℕ) (taken : Taken) → Takes faults old number payload taken new → StaysInPlace old new
@@ -85,8 +86,19 @@ module _ {D : Type 0} (faults : D → ℕ) where
   stays_in_place old _ number payload _ (takes.damaged damage goes at is) = record { generation = refl; place = refl; other = refl; checkpoints = refl; opened = refl }
   stays_in_place old _ number payload _ (takes.full event goes n over) = record { generation = refl; place = refl; other = refl; checkpoints = refl; opened = refl }
   stays_in_place old _ number payload _ (takes.failed event active goes n fits risen) = record { generation = refl; place = refl; other = refl; checkpoints = refl; opened = refl }
-  stays_in_place old _ number payload _ (takes.kept event active goes n fits) = record { generation = refl; place = refl; other = refl; checkpoints = refl; opened = refl }
+  stays_in_place old _ number payload _ (takes.kept event active goes n fits stood) = record { generation = refl; place = refl; other = refl; checkpoints = refl; opened = refl }
   stays_in_place old _ number payload _ (takes.without_memory goes at) = record { generation = refl; place = refl; other = refl; checkpoints = refl; opened = refl }
+
+  -- no call of a disk failed then
+  none_failed_by : (old new : StoreView D) (number : ℕ) (payload : List ℕ) (taken : Taken) → taken ≢ answers.Stopped → Takes faults old number payload taken new → NoneFailed faults old new
+  none_failed_by old _ number payload _ going (takes.stopped earlier is) = NoneFailed-same faults old
+  none_failed_by old _ number payload _ going (takes.known goes few) = NoneFailed-same faults old
+  none_failed_by old _ number payload _ going (takes.missing goes more) = NoneFailed-same faults old
+  none_failed_by old _ number payload _ going (takes.damaged damage goes at is) = NoneFailed-same faults old
+  none_failed_by old _ number payload _ going (takes.full event goes n over) = NoneFailed-same faults old
+  none_failed_by old _ number payload _ going (takes.failed event active goes n fits risen) = absurd (going refl)
+  none_failed_by old _ number payload _ going (takes.kept event active goes n fits stood) = NoneFailed-event faults old event active stood
+  none_failed_by old _ number payload _ going (takes.without_memory goes at) = NoneFailed-same faults old
 
   no_memory : (old new : StoreView D) (number : ℕ) (payload : List ℕ) → Takes faults old number payload answers.NoMemory new → new ≡ old
   no_memory old _ number payload (takes.without_memory goes at) = refl
@@ -132,6 +144,7 @@ module _ {D : Type 0} (clock : D → ℕ) (left_since : D → ℕ → List ℕ �
         current = λ is none. t.current is going;
         first_never_falls = t.first_never_falls;
         second_never_falls = t.second_never_falls;
+        none_failed = λ none. none_failed_by faults old new message.number message.payload taken going t.answer;
         failed = λ entry same. none_some entry same;
       }
 
@@ -185,6 +198,7 @@ module _ {D : Type 0} (clock : D → ℕ) (left_since : D → ℕ → List ℕ �
         current = λ is_current none. none_some (happened event) (sym none);
         first_never_falls = t.first_never_falls;
         second_never_falls = t.second_never_falls;
+        none_failed = λ none. none_some (happened event) (sym none);
         failed = λ entry same. risen_at faults old.active active old.other old.second_active risen;
       };
     };

@@ -2,6 +2,7 @@
 -- those before it left, and a line is written for each (this project's own).
 use Rattle.std.specs.Prelude.{◌≡◌, ◌+◌, ◌<◌, ◌≤◌, length, ℕ, List, [], ◌∷◌, ◌++◌, codes, Bool, Option, Some, None}
 use Rattle.std.specs.Fmt.{decimal}
+use Rattle.pcfs_ports.specs.declared.streams.TheConstants.{INPUT_LIMIT}
 use Rattle.pcfs_ports.specs.Observable.{with_back, HoldsSome, TakesFirst}
 use Rattle.journal_records.specs.declared.event.Event.{Event}
 use Rattle.access_history.specs.Headline.{Headline}
@@ -96,7 +97,7 @@ pub data HasEnded (end : ScriptState) (before after : Streams) (broken : Bool) (
   read_fault : FailedLast before.read_faults after.read_faults broken →
       AreAllTaken before.left after.left messages → end.met ≡ None →
       HasEnded end before after broken messages 6 (with_line_end (codes "readfault"))
-  input_too_long : TakesFirst 1073741824 before.left after.left →
+  input_too_long : TakesFirst INPUT_LIMIT before.left after.left →
       AreAllTaken before.left after.left messages → after.read_faults ≡ before.read_faults →
       end.met ≡ None →
       HasEnded end before after broken messages 13 (with_line_end (codes "toolong"))

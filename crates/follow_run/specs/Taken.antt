@@ -1,7 +1,9 @@
 -- The messages of what was taken of an input. If the input does not tell what it has, these are
 -- some messages (this project's own).
-use Rattle.std.specs.Prelude.{◌≡◌, ◌≤◌, ℕ, List, [], ◌++◌, length, Option}
+use Rattle.std.specs.Prelude.{◌≡◌, ◌+◌, ◌≤◌, ℕ, List, [], ◌++◌, length, Option}
 use Rattle.std.specs.List.{AllByRecursion}
+use Rattle.bl_syntax.specs.declared.limits.TheConstants.{LONGEST_MESSAGE}
+use Rattle.pcfs_ports.specs.declared.pieces.TheConstants.{PIECE_LEN}
 use Rattle.pcfs_ports.specs.Observable.{with_front, ReadsToEnd}
 use Rattle.event_messages.specs.Messages.{Message, IsMessage, messages_spelling}
 use Rattle.event_messages.specs.Reader.{MayGoOn, BeginsNoMessage}
@@ -11,14 +13,17 @@ pub record AreFirst (bytes : List ℕ) (messages : List Message) (rest : List �
   pub whole : AllByRecursion IsMessage messages
   pub parts : bytes ≡ messages_spelling messages ++ rest
 
--- these messages were taken, and then some rest, of no more than a message and a piece: 13 bytes
--- before the payload, at most 1,048,576 of it, and 65,536
+-- a message, with 13 bytes before its payload, and a piece
+abbrev pub message_and_piece : ℕ
+message_and_piece = 13 + LONGEST_MESSAGE + PIECE_LEN
+
+-- these messages were taken, and then some rest, of no more than a message and a piece
 pub record AreTaken (left left_after : Option (List ℕ)) (messages : List Message) : Type 0 where
   pub bytes : List ℕ
   pub rest : List ℕ
   pub taken : left ≡ with_front bytes left_after
   pub first : AreFirst bytes messages rest
-  pub few : length rest ≤ 1114125
+  pub few : length rest ≤ message_and_piece
 
 -- these messages were taken, and then some rest, which more bytes may make a message
 pub record AreAllTaken (left left_after : Option (List ℕ)) (messages : List Message) : Type 0 where
@@ -37,7 +42,7 @@ pub record AreAll (left left_after : Option (List ℕ)) (messages : List Message
 -- comes; or the input was read to its end, and ends within one.
 pub data HasBadFrame (left left_after : Option (List ℕ)) (messages : List Message) : Type 0 where
   no_message : (bytes rest : List ℕ) → left ≡ with_front bytes left_after →
-      AreFirst bytes messages rest → BeginsNoMessage rest → length rest ≤ 1114125 →
+      AreFirst bytes messages rest → BeginsNoMessage rest → length rest ≤ message_and_piece →
       HasBadFrame left left_after messages
   cut_off : (bytes rest : List ℕ) → ReadsToEnd left left_after bytes →
       AreFirst bytes messages rest → MayGoOn rest → (rest ≡ [] → ⊥) →

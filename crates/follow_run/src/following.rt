@@ -102,8 +102,9 @@ fn read_pieces<D: Disk, I: Source, O: Sink>(
 /// next one is taken. The input is taken in pieces, and by that order no more of it is kept than a message and a piece.
 ///
 /// It goes on after each message that the store answers. It ends at the end of the input, or at the first place at which no
-/// message stands, or if a port or a disk fails or memory runs out: nothing is read after a read that failed, nothing
-/// written after a write that failed, and no message taken after one whose line was not written whole. Returns the status to end with, and the store.
+/// message stands, or if a port or a disk fails or memory runs out: nothing is read after a read that failed, nothing written
+/// after a write that failed, and, if the output tells what it holds, no message taken after one whose line was not written
+/// whole. Returns the status to end with, and the store.
 pub fn follow_over<D: Disk, I: Source, O: Sink>(
     alloc: Global,
     store: Store<D>,

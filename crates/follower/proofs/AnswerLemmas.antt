@@ -65,7 +65,7 @@ module _ {E : Type 0} (faults : E → ℕ) (follower : StoreView E) (number : �
   known_alone few _ _ (damaged damage goes at is) = absurd (past number (last_number follower) few at)
   known_alone few _ _ (full event goes n is_full) = absurd (past number (last_number follower) few n.numbered)
   known_alone few _ _ (failed event active goes n fits risen) = inr (inl refl)
-  known_alone few _ _ (kept event active goes n fits) = absurd (past number (last_number follower) few n.numbered)
+  known_alone few _ _ (kept event active goes n fits stood) = absurd (past number (last_number follower) few n.numbered)
   known_alone few _ _ (without_memory goes at) = inr (inr refl)
 
   missing_alone : next_number follower < number → (told : Taken) (next : StoreView E) → Takes faults follower number payload told next → IsAlso (Missing (next_number follower)) told
@@ -75,7 +75,7 @@ module _ {E : Type 0} (faults : E → ℕ) (follower : StoreView E) (number : �
   missing_alone more _ _ (damaged damage goes at is) = absurd (before number (last_number follower) more at)
   missing_alone more _ _ (full event goes n is_full) = absurd (before number (last_number follower) more n.numbered)
   missing_alone more _ _ (failed event active goes n fits risen) = inr (inl refl)
-  missing_alone more _ _ (kept event active goes n fits) = absurd (before number (last_number follower) more n.numbered)
+  missing_alone more _ _ (kept event active goes n fits stood) = absurd (before number (last_number follower) more n.numbered)
   missing_alone more _ _ (without_memory goes at) = inr (inr refl)
 
   damaged_alone : (damage : Damage) → number ≡ next_number follower → IsDamagedPayload (authority_of_store follower) (state_of_store follower) payload damage → (told : Taken) (next : StoreView E) →
@@ -86,7 +86,7 @@ module _ {E : Type 0} (faults : E → ℕ) (follower : StoreView E) (number : �
   damaged_alone damage at is _ _ (damaged other goes there also) = inl (ap Damaged (one_damage (authority_of_store follower) (state_of_store follower) payload damage other is also))
   damaged_alone damage at is _ _ (full event goes n is_full) = absurd (undamaged event damage n is)
   damaged_alone damage at is _ _ (failed event active goes n fits risen) = inr (inl refl)
-  damaged_alone damage at is _ _ (kept event active goes n fits) = absurd (undamaged event damage n is)
+  damaged_alone damage at is _ _ (kept event active goes n fits stood) = absurd (undamaged event damage n is)
   damaged_alone damage at is _ _ (without_memory goes there) = inr (inr refl)
 
   full_alone : (event : Event) → IsNextEvent follower number payload event → IsFullFor follower event → (told : Taken) (next : StoreView E) → Takes faults follower number payload told next → IsAlso Full told
@@ -96,7 +96,7 @@ module _ {E : Type 0} (faults : E → ℕ) (follower : StoreView E) (number : �
   full_alone event n is_full _ _ (damaged damage goes at is) = absurd (undamaged event damage n is)
   full_alone event n is_full _ _ (full other goes m also) = inl refl
   full_alone event n is_full _ _ (failed other active goes m fits risen) = inr (inl refl)
-  full_alone event n is_full _ _ (kept other active goes m fits) = absurd (fits (subst (IsFullFor follower) (next_event event other n m) is_full))
+  full_alone event n is_full _ _ (kept other active goes m fits stood) = absurd (fits (subst (IsFullFor follower) (next_event event other n m) is_full))
   full_alone event n is_full _ _ (without_memory goes at) = inr (inr refl)
 
   kept_alone : (event : Event) → IsNextEvent follower number payload event → (IsFullFor follower event → ⊥) → (told : Taken) (next : StoreView E) → Takes faults follower number payload told next → IsAlso Kept told
@@ -106,7 +106,7 @@ module _ {E : Type 0} (faults : E → ℕ) (follower : StoreView E) (number : �
   kept_alone event n fits _ _ (damaged damage goes at is) = absurd (undamaged event damage n is)
   kept_alone event n fits _ _ (full other goes m is_full) = absurd (fits (subst (IsFullFor follower) (next_event other event m n) is_full))
   kept_alone event n fits _ _ (failed other active goes m also risen) = inr (inl refl)
-  kept_alone event n fits _ _ (kept other active goes m also) = inl refl
+  kept_alone event n fits _ _ (kept other active goes m also stood) = inl refl
   kept_alone event n fits _ _ (without_memory goes at) = inr (inr refl)
 
   widen : (taken told : Taken) → IsAlso taken told → (taken ≡ told) ⊎ (taken ≡ Stopped) ⊎ (taken ≡ NoMemory) ⊎ (told ≡ Stopped) ⊎ (told ≡ NoMemory)
@@ -122,5 +122,5 @@ module _ {E : Type 0} (faults : E → ℕ) (follower : StoreView E) (number : �
   one_answer _ told _ other (damaged damage goes at is) there = widen (Damaged damage) told (damaged_alone damage at is told other there)
   one_answer _ told _ other (full event goes n is_full) there = widen Full told (full_alone event n is_full told other there)
   one_answer _ told _ other (failed event active goes n fits risen) there = inr (inl refl)
-  one_answer _ told _ other (kept event active goes n fits) there = widen Kept told (kept_alone event n fits told other there)
+  one_answer _ told _ other (kept event active goes n fits stood) there = widen Kept told (kept_alone event n fits told other there)
   one_answer _ told _ other (without_memory goes at) there = inr (inr (inl refl))

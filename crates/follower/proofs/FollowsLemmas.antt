@@ -61,7 +61,7 @@ module _ {D E : Type 0} (leader_faults : D → ℕ) (follower_faults : E → ℕ
   led_prefix : (leader : StoreView D) (follower : StoreView E) (pass : ℕ) (clock : ℤ) (request : StepRequest) (reply : StoreReply) (next : StoreView D) → IsPrefixOf leader follower → IsMoment clock → IsWellFormed request →
       Steps leader_faults leader pass clock request reply next → IsPrefixOf next follower
   led_prefix leader follower pass clock request _ _ is at formed (steps.answered reply goes answers) = is
-  led_prefix leader follower pass clock request _ _ is at formed (steps.kept reply event active goes answers fits) =
+  led_prefix leader follower pass clock request _ _ is at formed (steps.kept reply event active goes answers fits stood) =
       let authority : Authority = authority_of_store leader in
       let base : IsLawfulBase authority (state_of_store leader) = IsLawfulBase-lawful authority leader.base leader.events is.leader_lawful in
       let follows : MayFollow authority (state_of_store leader) event = MayFollow-answered authority (state_of_store leader) pass clock request reply event base at formed answers in
@@ -136,7 +136,7 @@ module _ {D E : Type 0} (leader_faults : D → ℕ) (follower_faults : E → ℕ
     taken_prefix _ _ (full event goes n is_full) = is
     taken_prefix _ _ (failed event active goes n fits risen) =
         record { authority = record { key = is.authority.key; ring = is.authority.ring }; leader_lawful = is.leader_lawful; lawful = is.lawful; prefix = is.prefix }
-    taken_prefix _ _ (kept event active goes n fits) =
+    taken_prefix _ _ (kept event active goes n fits stood) =
         let more = with_next event n in
         record { authority = record { key = is.authority.key; ring = is.authority.ring }; leader_lawful = is.leader_lawful; lawful = more.lawful; prefix = more.prefix }
     taken_prefix _ _ (without_memory goes numbered) = is
@@ -155,7 +155,7 @@ module _ {D E : Type 0} (leader_faults : D → ℕ) (follower_faults : E → ℕ
     taken_next _ _ numbered (damaged damage goes at is_damaged) = absurd (never_damaged damage numbered is_damaged)
     taken_next _ _ numbered (full event goes n is_full) = inr (inl refl)
     taken_next _ _ numbered (failed event active goes n fits risen) = inr (inr (inl refl))
-    taken_next _ _ numbered (kept event active goes n fits) = inl refl
+    taken_next _ _ numbered (kept event active goes n fits stood) = inl refl
     taken_next _ _ numbered (without_memory goes at) = inr (inr (inr refl))
 
   -- ---- the follower is opened again
@@ -205,7 +205,7 @@ module _ {D E : Type 0} (leader_faults : D → ℕ) (follower_faults : E → ℕ
 pub exported_stays : {D : Type 0} (faults : D → ℕ) (leader : StoreView D) (pass : ℕ) (clock : ℤ) (request : StepRequest) (reply : StoreReply) (next : StoreView D) (number : ℕ) (payload : List ℕ) → Steps faults leader pass clock request reply next →
     IsExported leader number payload → IsExported next number payload
 exported_stays faults leader pass clock request _ _ number payload (steps.answered reply goes answers) e = e
-exported_stays faults leader pass clock request _ _ number payload (steps.kept reply event active goes answers fits) e = record {
+exported_stays faults leader pass clock request _ _ number payload (steps.kept reply event active goes answers fits stood) e = record {
   earlier = e.earlier;
   event = e.event;
   later = e.later ++ event ∷ [];

@@ -5,9 +5,9 @@ use Rattle.journal_records.specs.declared.event.Event.{Event}
 use Rattle.access_history.specs.Base.{BaseView}
 use Rattle.journal_records.specs.Passes.{erase}
 use Rattle.access_history.specs.Replay.{replay, next_state}
-use Rattle.access_history.proofs.PassLemmas.{erase_twice, erased_next}
 use Rattle.access_history.proofs.ReplayLemmas.{count-replay}
 use Rattle.pcfs_store.specs.StoredHistory.{Resumes}
+use Rattle.recover.proofs.FollowingLemmas.{erased_again, erased_replay}
 use Rattle.follower.specs.Following.{ArePrefix}
 
 -- ---- states
@@ -16,17 +16,9 @@ replay-append : (state : BaseView) (events more : List Event) → replay state (
 replay-append state [] more = refl
 replay-append state (event ∷ events) more = replay-append (next_state state event) events more
 
-erased_state : (state : BaseView) (events : List Event) → replay state (map erase events) ≡ replay state events
-erased_state state [] = refl
-erased_state state (event ∷ events) = ap (λ (s : BaseView). replay s (map erase events)) (erased_next state event) ∙ erased_state (next_state state event) events
-
 -- events that differ in their passes alone lead to one state
 same_state : (state : BaseView) (events others : List Event) → map erase events ≡ map erase others → replay state events ≡ replay state others
-same_state state events others same = sym (erased_state state events) ∙ ap (replay state) same ∙ erased_state state others
-
-erased_again : (events : List Event) → map erase (map erase events) ≡ map erase events
-erased_again [] = refl
-erased_again (event ∷ events) = ap (λ (e : Event). e ∷ map erase (map erase events)) (erase_twice event) ∙ ap (λ (es : List Event). erase event ∷ es) (erased_again events)
+same_state state events others same = sym (erased_replay state events) ∙ ap (replay state) same ∙ erased_replay state others
 
 -- ---- lists
 

@@ -89,7 +89,7 @@ module _ {D : Type 0} (clock : D → ℕ) (left_since : D → ℕ → List ℕ �
     next may = record { numbered = numbered; payload_is = payload_is; enters = may }
 
     takes : (admitted : Admitted) (new : StoreView D) → Admits faults old event admitted new → Takes faults old number payload (taken_of admitted) new
-    takes _ _ (admits.kept active running may fits) = kept event active running (next may) fits
+    takes _ _ (admits.kept active running may fits stood) = kept event active running (next may) fits stood
     takes _ _ (admits.damaged damage running is) = damaged damage running numbered (of_event event damage payload_is.read payload_is.spelled is)
     takes _ _ (admits.full running may is_full) = full event running (next may) is_full
     takes _ _ (admits.failed active running may fits risen) =

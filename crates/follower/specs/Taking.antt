@@ -57,9 +57,10 @@ pub data Takes {D : Type 0} (faults : D → ℕ) (old : StoreView D) (number : �
       IsNextEvent old number payload event → (IsFullFor old event → ⊥) →
       HasRisen (faults old.active) (faults active) →
       Takes faults old number payload Stopped (record old { active = active; stop = Some 0; met = Some event })
-  -- its event was kept on the disk, and then here
+  -- its event was kept on the disk, no call of which failed, and then here
   kept : (event : Event) (active : D) → old.stop ≡ None →
       IsNextEvent old number payload event → (IsFullFor old event → ⊥) →
+      faults active ≡ faults old.active →
       Takes faults old number payload Kept (with_event old event active)
   -- memory ran out
   without_memory : old.stop ≡ None → number ≡ next_number old →

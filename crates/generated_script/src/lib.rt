@@ -8,4 +8,4 @@ mod groups;
 mod lines;
 mod script;
 
-pub use script::generated_script;
+pub use script::{MOST_ROUNDS, generated_script};

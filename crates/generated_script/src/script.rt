@@ -9,6 +9,9 @@ use crate::lines::{put_at, put_govern, put_owner};
 use bl_syntax::{Bytes, NoMemory};
 use std::alloc::Global;
 
+/// The most rounds that a script has.
+pub const MOST_ROUNDS: u64 = 20_000;
+
 /// How many users there are.
 const USERS: u64 = 8;
 
@@ -48,7 +51,7 @@ fn issues_after(kind: Kind, issues: u64) -> u64
 
 // Writes so many rounds with that seed.
 fn put_rounds(out: &mut Bytes, rounds: u64, seed: u64) -> Result<(), NoMemory>
-    requires { rounds ≤ 20000 }
+    requires { rounds ≤ MOST_ROUNDS }
     ensures { OnOk result (out.new ≡ out.old ++ rounds_text 1 rounds seed 8) }
 {
     let mut state = seed;
@@ -65,7 +68,7 @@ fn put_rounds(out: &mut Bytes, rounds: u64, seed: u64) -> Result<(), NoMemory>
 // Writes the script of so many rounds with that seed.
 #[tactic(auto, using(bl_syntax::proofs::BeginsWithLemmas::writing), unfolding(crate::specs::Script::script_text))]
 fn put_script(out: &mut Bytes, rounds: u64, seed: u64) -> Result<(), NoMemory>
-    requires { rounds ≤ 20000 }
+    requires { rounds ≤ MOST_ROUNDS }
     ensures { OnOk result (out.new ≡ out.old ++ script_text rounds seed) }
 {
     put_front(out)?;
@@ -74,7 +77,7 @@ fn put_script(out: &mut Bytes, rounds: u64, seed: u64) -> Result<(), NoMemory>
 
 /// The script of so many rounds with that seed.
 pub fn generated_script(alloc: Global, rounds: u64, seed: u64) -> Result<Bytes, NoMemory>
-    requires { rounds ≤ 20000 }
+    requires { rounds ≤ MOST_ROUNDS }
     ensures { IfOk result (λ text. text ≡ script_text rounds seed) }
 {
     let mut text = Bytes::new(alloc);

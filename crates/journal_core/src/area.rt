@@ -17,18 +17,22 @@ use pcfs_ports::{Disk, Failed};
 use std::alloc::{AllocError, AllocFailed, Global};
 use std::marker::Model;
 use std::mem::swap;
+use thiserror::Error;
 
 /// What stands in front of the generation: the name and the version of the format.
 pub const MAGIC: [u8; 7] = [80, 67, 70, 83, 0, 0, 1];
 
 /// Why an area was not made, or a record not added.
-#[derive(Clone, Copy, Debug, PartialEq, Eq)]
+#[derive(Clone, Copy, Debug, PartialEq, Eq, Error)]
 pub enum AreaFault {
     /// The disk failed.
+    #[error("the disk failed")]
     Disk,
     /// With it, and with a closed gate after it, the area would pass `MOST_AREA_BYTES`.
+    #[error("the area would pass {most} bytes", most = MOST_AREA_BYTES)]
     AreaFull,
     /// A growth was refused.
+    #[error("out of memory")]
     NoMemory,
 }
 

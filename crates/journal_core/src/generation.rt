@@ -48,6 +48,7 @@ pub fn peek<D: Disk>(disk: &mut D) -> Result<Option<u64>, Failed>
     ensures same { OnOk result (D.image disk.new ≡ D.image disk.old) }
     ensures told { is_some (D.image disk.new) ≡ is_some (D.image disk.old) }
     ensures time { Idles D.clock D.left_since disk.old disk.new }
+    ensures no_fault { OnOk result (D.faults disk.new ≡ D.faults disk.old) }
     ensures risen { OnErr result (HasRisen (D.faults disk.old) (D.faults disk.new)) }
     ensures never_falls { D.faults disk.old ≤ D.faults disk.new }
 {

@@ -14,18 +14,23 @@ use bl_syntax::limits::MOST_AREA_BYTES;
 use bl_syntax::{Bytes, NoMemory};
 use pcfs_ports::{Disk, Failed};
 use std::alloc::{AllocError, Global};
+use thiserror::Error;
 
 /// Why a scan gave no area.
-#[derive(Clone, Copy, Debug, PartialEq, Eq)]
+#[derive(Clone, Copy, Debug, PartialEq, Eq, Error)]
 pub enum ScanFault {
     /// The area is not open.
+    #[error("the area is not open")]
     Closed,
     /// The number of the first record that is cut or passes `MOST_AREA_BYTES` with its closed gate; 0 for
     /// header and image.
+    #[error("record {0} is cut, or passes the limit of an area")]
     Broken(u64),
     /// The disk failed.
+    #[error("the disk failed")]
     Disk,
     /// A growth was refused.
+    #[error("out of memory")]
     NoMemory,
 }
 
@@ -60,6 +65,7 @@ fn find_length<D: Disk>(disk: &mut D) -> Result<u64, Failed>
     ensures same { OnOk result (D.image disk.new ≡ D.image disk.old) }
     ensures told { is_some (D.image disk.new) ≡ is_some (D.image disk.old) }
     ensures time { Idles D.clock D.left_since disk.old disk.new }
+    ensures no_fault { OnOk result (D.faults disk.new ≡ D.faults disk.old) }
     ensures risen { OnErr result (HasRisen (D.faults disk.old) (D.faults disk.new)) }
     ensures never_falls { D.faults disk.old ≤ D.faults disk.new }
 {
@@ -75,6 +81,7 @@ fn read_area<D: Disk>(alloc: Global, disk: &mut D) -> Result<Bytes, ScanFault>
     ensures same { result ≢ Err ScanFault.Disk → D.image disk.new ≡ D.image disk.old }
     ensures told { is_some (D.image disk.new) ≡ is_some (D.image disk.old) }
     ensures time { Idles D.clock D.left_since disk.old disk.new }
+    ensures no_fault { result ≢ Err ScanFault.Disk → D.faults disk.new ≡ D.faults disk.old }
     ensures risen { IsErrOf result ScanFault.Disk →
         HasRisen (D.faults disk.old) (D.faults disk.new) }
     ensures never_falls { D.faults disk.old ≤ D.faults disk.new }
@@ -98,6 +105,7 @@ fn scan_disk<D: Disk>(alloc: Global, disk: &mut D) -> Result<(Scan, usize), Scan
     ensures pinned { result ≢ Err ScanFault.Disk → IsPinned D.clock D.left_since D.image disk.new }
     ensures told { is_some (D.image disk.new) ≡ is_some (D.image disk.old) }
     ensures time { Idles D.clock D.left_since disk.old disk.new }
+    ensures no_fault { result ≢ Err ScanFault.Disk → D.faults disk.new ≡ D.faults disk.old }
     ensures risen { IsErrOf result ScanFault.Disk →
         HasRisen (D.faults disk.old) (D.faults disk.new) }
     ensures never_falls { D.faults disk.old ≤ D.faults disk.new }
@@ -113,7 +121,7 @@ fn scan_disk<D: Disk>(alloc: Global, disk: &mut D) -> Result<(Scan, usize), Scan
 /// then only reads.
 ///
 /// `Closed` and `Broken(0)` are returned as by `Area::scan`, and `Disk` only if the disk's count of faults rose. After any
-/// other answer nothing is pending, and the bytes are as they were.
+/// other answer nothing is pending, the bytes are as they were, and no call failed.
 pub fn scan_front<D: Disk>(alloc: Global, disk: &mut D) -> Result<Scan, ScanFault>
     ensures ok { IfOk result (λ found. IfSome (D.image disk.old) (λ bytes.
         IsFront bytes found.generation found.image found.payloads)) }
@@ -122,6 +130,7 @@ pub fn scan_front<D: Disk>(alloc: Global, disk: &mut D) -> Result<Scan, ScanFaul
     ensures pinned { result ≢ Err ScanFault.Disk → IsPinned D.clock D.left_since D.image disk.new }
     ensures told { is_some (D.image disk.new) ≡ is_some (D.image disk.old) }
     ensures time { Idles D.clock D.left_since disk.old disk.new }
+    ensures no_fault { result ≢ Err ScanFault.Disk → D.faults disk.new ≡ D.faults disk.old }
     ensures risen { IsErrOf result ScanFault.Disk →
         HasRisen (D.faults disk.old) (D.faults disk.new) }
     ensures never_falls { D.faults disk.old ≤ D.faults disk.new }
@@ -137,7 +146,7 @@ impl<D: Disk> Area<D> {
     /// The area of a disk, and what it holds. It begins with a sync, and then only reads.
     ///
     /// `Disk` is returned only if the disk's count of faults rose. After any other answer nothing is
-    /// pending, and the bytes are as they were.
+    /// pending, the bytes are as they were, and no call failed.
     pub fn scan(alloc: Global, disk: D) -> Result<(Area<D>, Scan), (ScanFault, D)>
         ensures ok { IfOk result (λ found. IfSome (D.image disk) (λ bytes.
             IsArea bytes found.1.generation found.1.image found.1.payloads)) }
@@ -150,6 +159,9 @@ impl<D: Disk> Area<D> {
         ensures closed { IfErr result (λ e. e.0 ≡ ScanFault.Closed → IfSome (D.image disk) IsShut) }
         ensures broken { (number : ℕ) → IfErr result (λ e. e.0 ≡ ScanFault.Broken number →
             IfSome (D.image disk) (IsBroken number)) }
+        ensures no_fault { MatchResult result
+            (λ found. D.faults found.0.disk ≡ D.faults disk)
+            (λ e. e.0 ≢ ScanFault.Disk → D.faults e.1 ≡ D.faults disk) }
         ensures risen { IfErr result (λ e. e.0 ≡ ScanFault.Disk → HasRisen (D.faults disk) (D.faults e.1)) }
         ensures same { MatchResult result
             (λ found. D.image found.0.disk ≡ D.image disk)

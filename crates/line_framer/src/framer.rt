@@ -9,15 +9,19 @@ ghost use Rattle.line_framer.specs.Feeding.{IsFed, IsNotFed};
 use crate::queue::Queue;
 use crate::scanning::{Scanned, end_of_line, scan};
 use bl_syntax::NoMemory;
+use bl_syntax::limits::LONGEST_LINE;
 use std::alloc::Global;
 use std::marker::Model;
+use thiserror::Error;
 
 /// Why a piece is not taken.
-#[derive(Clone, Copy, Debug, PartialEq, Eq)]
+#[derive(Clone, Copy, Debug, PartialEq, Eq, Error)]
 pub enum FeedFault {
     /// A line is longer than 262,144 bytes: with this piece, or since an earlier one.
+    #[error("a line has more than {most} bytes", most = LONGEST_LINE)]
     TooLong,
     /// A growth was refused, and nothing changed.
+    #[error("out of memory")]
     NoMemory,
 }
 

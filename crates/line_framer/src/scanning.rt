@@ -7,11 +7,12 @@ ghost use Rattle.line_framer.specs.Framing.{IsFirst};
 ghost use Rattle.line_framer.specs.Scanning.{IsScanned};
 
 use bl_syntax::limits::LONGEST_LINE;
+use memchr::memchr;
 
 fn first_end(bytes: &[u8]) -> Option<usize>
     ensures { result ≡ position (λ byte. byte == 10) bytes.now }
 {
-    bytes.iter().position(|byte| *byte == b'\n')
+    memchr(b'\n', bytes)
 }
 
 /// The place of the first end of a line.

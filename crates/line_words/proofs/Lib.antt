@@ -8,5 +8,6 @@ pub mod NumeralLemmas
 pub mod OptionLemmas
 pub mod ProcapLemmas
 pub mod ReadingLemmas
+pub mod SearchLemmas
 pub mod TimeLemmas
 pub mod TotalLemmas

@@ -4,10 +4,12 @@ ghost use Rattle.std.specs.Prelude.{◌≡◌, ◌≤◌, ◌==◌, length, posi
 ghost use Rattle.line_words.specs.Cutting.{first_cut};
 ghost use Rattle.line_words.specs.Lengths.{place_of_byte, closing_place, first_len};
 
+use memchr::memchr;
+
 fn first_stop(line: &[u8], stop: u8) -> Option<usize>
     ensures { result ≡ position (λ byte. byte == stop) line.now }
 {
-    line.iter().position(|byte| *byte == stop)
+    memchr(stop, line)
 }
 
 // The place of the first such byte, or the length.

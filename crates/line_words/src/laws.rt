@@ -2,6 +2,7 @@
 
 ghost use Rattle.std.specs.Prelude.{◌≡◌, ◌≤◌, ◌<◌, ◌^◌, ◌⊎◌, [], ◌∷◌, ◌++◌, ℕ, List, codes, length, not, IsTrue};
 ghost use Rattle.std.specs.Fmt.{decimal};
+ghost use Rattle.bl_syntax.specs.declared.limits.TheConstants.{MOST_BYTES_AT_ONCE};
 ghost use Rattle.bl_syntax.specs.Codec.{AreBytes};
 ghost use Rattle.bl_syntax.specs.Names.{is_text};
 ghost use Rattle.bl_syntax.specs.declared.terms.NodeId.{NodeId};
@@ -90,7 +91,7 @@ pub fn shown_text_is_read()
 
 /// The word that is written for few enough bytes is that of the bytes.
 pub fn shown_bytes_are_read()
-    ensures { (bytes : List ℕ) → AreBytes bytes → length bytes ≤ 65536
+    ensures { (bytes : List ℕ) → AreBytes bytes → length bytes ≤ MOST_BYTES_AT_ONCE
         → IsData (hex_word bytes) bytes }
 {}
 

@@ -4,6 +4,7 @@ use Rattle.std.specs.List.Sorted.{IsStrictlySortedBy}
 use Rattle.std.specs.Map.{lookup, remove_entry, keys_of}
 use Rattle.std.specs.BTreeMap.{insert_entry}
 use Rattle.std.specs.Ordering.{nat_cmp}
+use Rattle.nine_fids.specs.declared.limits.TheConstants.{MOST_FIDS}
 use Rattle.nine_fids.specs.declared.fid.Fid.{Fid}
 
 abbrev pub FidList : Type 0
@@ -20,11 +21,11 @@ with_entry fids number fid = insert_entry nat_cmp fids number fid
 abbrev pub without_entry : FidList → ℕ → FidList
 without_entry fids number = remove_entry (nat_eq number) fids
 
--- the numbers rise, and there are at most 1,024
+-- the numbers rise, and there are not too many
 pub record AreFids (fids : FidList) : Type 0 where
   pub rising : IsStrictlySortedBy nat_cmp (keys_of fids)
-  pub few : length fids ≤ 1024
+  pub few : length fids ≤ MOST_FIDS
 
 -- the number is there, or there is room for another fid
 abbrev pub HasRoomFor : FidList → ℕ → Type 0
-HasRoomFor fids number = IsSome (fid_in fids number) ⊎ (length fids < 1024)
+HasRoomFor fids number = IsSome (fid_in fids number) ⊎ (length fids < MOST_FIDS)

@@ -1,6 +1,7 @@
 -- What a request comes to, as the code says it.
 use Rattle.std.specs.Prelude.{◌≡◌, ◌⊎◌, ℕ, List, length, true, false, not, nat_le, ◌&&◌, ◌==◌, Option}
 use Rattle.nine_messages.specs.Requests.{RequestView}
+use Rattle.nine_fids.specs.declared.limits.TheConstants.{MOST_PROCAPS}
 use Rattle.nine_fids.specs.declared.control.Control.{Control}
 use Rattle.nine_fids.specs.declared.step.Step.{Step}
 use Rattle.nine_fids.specs.declared.connection.Connection.{Connection}
@@ -27,7 +28,7 @@ CanWalk s fid newfid = (not (fid == newfid) && is_full s) ≡ false
 
 -- a procap that is brought has room
 abbrev pub HasRoomInPurse : Connection → Option Control → Type 0
-HasRoomInPurse s asked = (brings_procap asked && nat_le 64 (length s.purse)) ≡ false
+HasRoomInPurse s asked = (brings_procap asked && nat_le MOST_PROCAPS (length s.purse)) ≡ false
 
 -- a procap that is brought is put into the purse, or a node is read or written
 abbrev pub IsCopied : Option Control → Step → Type 0

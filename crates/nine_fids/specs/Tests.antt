@@ -6,7 +6,9 @@ use Rattle.bl_syntax.specs.declared.terms.NodeId.{NodeId}
 use Rattle.bl_syntax.specs.declared.terms.Perm.{Perm}
 use Rattle.bl_syntax.specs.declared.terms.Perm.TheVariants as perms
 use Rattle.procap.specs.declared.procap.Procap.{Procap}
+use Rattle.nine_messages.specs.declared.framing.TheConstants.{LEAST_SIZE}
 use Rattle.nine_messages.specs.Requests.{RequestView, tversion, tattach, tflush, twalk, topen, tread, twrite, tclunk, tother}
+use Rattle.nine_fids.specs.declared.limits.TheConstants.{MOST_PROCAPS, MOST_NAMES, NO_FID, LAST_MODE}
 use Rattle.nine_fids.specs.declared.error.NineError.TheVariants.{NotServed, LowSize, VersionFirst, NoFid, FidInUse, TooManyFids, NoSuchTree, TooManyNames, IsOpen, IsDirectory, OtherMode, NotOpen, NoControl, PurseFull, NotLoggedIn, NoProcap}
 use Rattle.nine_fids.specs.declared.fid.FidFile.{FidFile}
 use Rattle.nine_fids.specs.declared.fid.FidFile.TheVariants as files
@@ -102,14 +104,14 @@ brings_procap (Some controls.Empties) = false
 -- ---- each kind of request
 
 abbrev pub version_tests : ℕ → Tests
-version_tests msize = (nat_lt msize 512, LowSize) ∷ []
+version_tests msize = (nat_lt msize LEAST_SIZE, LowSize) ∷ []
 
 abbrev pub is_tree_name : List ℕ → Bool
 is_tree_name aname = bytes_eq aname [] || bytes_eq aname (codes "ctl")
 
 abbrev pub attach_tests : Connection → ℕ → ℕ → List ℕ → Tests
 attach_tests s fid afid aname =
-    (not (afid == 4294967295), NotServed)
+    (not (afid == NO_FID), NotServed)
     ∷ (not s.is_agreed, VersionFirst)
     ∷ (is_there s fid, FidInUse)
     ∷ (is_full s, TooManyFids)
@@ -129,7 +131,7 @@ walk_tests s fid newfid names =
     ∷ (not (is_there s fid), NoFid)
     ∷ (not (fid == newfid) && is_there s newfid, FidInUse)
     ∷ (not (fid == newfid) && is_full s, TooManyFids)
-    ∷ (nat_lt 16 (length names), TooManyNames)
+    ∷ (nat_lt MOST_NAMES (length names), TooManyNames)
     ∷ (is_open (fid_at s fid), IsOpen)
     ∷ (has_names names && is_at_control (fid_at s fid), NoControl)
     ∷ (has_names names && is_without_login s (fid_at s fid), NotLoggedIn)
@@ -141,7 +143,7 @@ open_tests s fid mode =
     ∷ (not (is_there s fid), NoFid)
     ∷ (is_open (fid_at s fid), IsOpen)
     ∷ (is_at_directory (fid_at s fid), IsDirectory)
-    ∷ (nat_lt 2 mode, OtherMode) ∷ []
+    ∷ (nat_lt LAST_MODE mode, OtherMode) ∷ []
 
 abbrev pub read_tests : Connection → ℕ → Tests
 read_tests s fid =
@@ -157,7 +159,7 @@ write_tests s asked fid =
     ∷ (not (is_there s fid), NoFid)
     ∷ (not (is_writable (fid_at s fid)), NotOpen)
     ∷ (is_at_control (fid_at s fid) && is_none asked, NoControl)
-    ∷ (brings_procap asked && nat_le 64 (length s.purse), PurseFull)
+    ∷ (brings_procap asked && nat_le MOST_PROCAPS (length s.purse), PurseFull)
     ∷ (is_without_login s (fid_at s fid), NotLoggedIn)
     ∷ (is_without_procap s perms.Write (fid_at s fid), NoProcap) ∷ []
 

@@ -8,15 +8,14 @@ ghost use Rattle.nine_fids.specs.Index.{AreRising, IsFidAt, IsGap};
 
 use crate::entry::Entry;
 use crate::fid::Fid;
+use crate::limits::MOST_FIDS;
 use bl_syntax::NoMemory;
 use std::alloc::{AllocFailed, Global};
 use std::cmp::Ordering;
 use std::marker::Model;
 
-/// The greatest number of fids.
-const MOST_FIDS: usize = 1_024;
-
-/// At most 1,024 fids, each under its number. Contracts see them by rising numbers. No call but the first takes memory.
+/// At most `MOST_FIDS` fids, each under its number. Contracts see them by rising numbers. No call but the first takes
+/// memory.
 #[derive(Debug, Drop)]
 pub struct Fids {
     entries: Vec<Entry>,
@@ -26,12 +25,13 @@ impl Model for Fids {
     ghost use Rattle.std.specs.Prelude.{◌≤◌, ℕ, List, vec_capacity};
     ghost use Rattle.nine_fids.specs.declared.fid.Fid.{Fid};
     ghost use Rattle.nine_fids.specs.Fids.{AreFids};
+    ghost use Rattle.nine_fids.specs.declared.limits.TheConstants.{MOST_FIDS};
 
     ghost Value = { List (ℕ × Fid) };
 
     ghost view = { λ f. f.entries.items };
 
-    ghost invariant = { λ f. AreFids f.entries.items × (1024 ≤ vec_capacity f.entries) };
+    ghost invariant = { λ f. AreFids f.entries.items × (MOST_FIDS ≤ vec_capacity f.entries) };
 }
 
 fn compare(entry: &Entry, number: u32) -> Ordering
@@ -110,7 +110,7 @@ impl Fids {
 
     /// Whether there is no room for another fid.
     pub fn is_full(&self) -> bool
-        ensures { result ≡ nat_le 1024 (length self.now) }
+        ensures { result ≡ nat_le MOST_FIDS (length self.now) }
     {
         MOST_FIDS <= self.entries.len()
     }

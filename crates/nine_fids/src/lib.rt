@@ -15,6 +15,7 @@ mod fid;
 mod fids;
 mod front;
 pub mod laws;
+pub mod limits;
 mod nonce;
 mod purse;
 mod serving;

@@ -3,15 +3,13 @@
 ghost use Rattle.std.specs.Prelude.{◌≡◌, ◌<◌, [], ◌∷◌, ◌++◌, length, nat_le, is_some, option_map, IsSome, IfOk, OnOk, OnErr};
 ghost use Rattle.nine_fids.specs.Purse.{is_fitting, fitting};
 
+use crate::limits::MOST_PROCAPS;
 use bl_syntax::{NoMemory, NodeId, Perm, Principal, Sequence};
 use procap::Procap;
 use std::alloc::Global;
 use std::marker::Model;
 
-/// The greatest number of procaps.
-const MOST_PROCAPS: usize = 64;
-
-/// At most 64 procaps. Contracts see them in the order in which they came.
+/// At most `MOST_PROCAPS` procaps. Contracts see them in the order in which they came.
 #[derive(Debug, Drop)]
 pub struct Purse {
     procaps: Sequence<Procap>,
@@ -20,12 +18,13 @@ pub struct Purse {
 impl Model for Purse {
     ghost use Rattle.std.specs.Prelude.{◌≤◌, List, length};
     ghost use Rattle.procap.specs.declared.procap.Procap.{Procap};
+    ghost use Rattle.nine_fids.specs.declared.limits.TheConstants.{MOST_PROCAPS};
 
     ghost Value = { List Procap };
 
     ghost view = { λ p. p.procaps };
 
-    ghost invariant = { λ p. length p.procaps ≤ 64 };
+    ghost invariant = { λ p. length p.procaps ≤ MOST_PROCAPS };
 }
 
 // Whether the procap names the principal, the file and the permission. Each part of the goal is asked for alone, so that of
@@ -60,14 +59,14 @@ impl Purse {
 
     /// Whether there is no room for another procap.
     pub fn is_full(&self) -> bool
-        ensures { result ≡ nat_le 64 (length self.now) }
+        ensures { result ≡ nat_le MOST_PROCAPS (length self.now) }
     {
         MOST_PROCAPS <= self.procaps.len()
     }
 
     /// Adds a procap after the others.
     pub fn push(&mut self, p: Procap) -> Result<(), NoMemory>
-        requires { length self.old < 64 }
+        requires { length self.old < MOST_PROCAPS }
         ensures ok { OnOk result (self.new ≡ self.old ++ p ∷ []) }
         ensures err { OnErr result (self.new ≡ self.old) }
     {

@@ -9,17 +9,9 @@ use crate::connection::Connection;
 use crate::control::Control;
 use crate::error::{NineError, first_holding};
 use crate::fid::{Fid, FidFile, is_control_file, is_directory_file, may_read, may_write};
+use crate::limits::{LAST_MODE, MOST_NAMES, NO_FID};
 use bl_syntax::Perm;
 use nine_messages::Names;
-
-/// The fid of an authentication that there is not.
-const NO_FID: u32 = 4_294_967_295;
-
-/// The greatest number of names of a walk.
-const MOST_NAMES: usize = 16;
-
-/// The greatest mode of a Topen.
-const LAST_MODE: u8 = 2;
 
 pub(crate) fn is_at_control(fid: Option<Fid>) -> bool
     ensures { result ≡ is_at_control fid }

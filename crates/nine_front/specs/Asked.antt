@@ -10,7 +10,7 @@ use Rattle.procap.specs.declared.procap.Procap.{Procap}
 use Rattle.policy_statement.specs.Messages.{login_message}
 use Rattle.policy_statement.specs.Ring.{is_accepted}
 use Rattle.journal_records.specs.declared.event.Event.{Event}
-use Rattle.journal_records.specs.declared.event.Event.TheVariants.{Registered, Issued, Withdrawn, Acted}
+use Rattle.journal_records.specs.declared.event.Event.TheVariants.{Acted}
 use Rattle.pcfs_store.specs.Entries.{StoreEntry, happened, checkpointed, stopped, state_of_entries}
 use Rattle.session_history.specs.declared.request.TurnRequest.{TurnRequest}
 use Rattle.session_history.specs.declared.request.TurnRequest.TheVariants.{Login}
@@ -111,9 +111,7 @@ module _ (gives : List StoreEntry → ℤ → Type 0) (p : StorePass) (history :
   -- an operation is by somebody whom one of these messages logged in; nothing else is kept
   abbrev pub IsEventByLogin : Event → Type 0
   IsEventByLogin (Acted pass caller op procaps moment) = HasLoggedIn gives p history nonce from messages caller
-  IsEventByLogin (Registered pass statement signature) = ⊥
-  IsEventByLogin (Issued pass cited proof grant) = ⊥
-  IsEventByLogin (Withdrawn pass number signature) = ⊥
+  IsEventByLogin _ = ⊥
 
   -- and so is what was being kept when a disk failed
   abbrev pub IsMetByLogin : Option Event → Type 0

@@ -2,6 +2,7 @@
 -- history that others grow too. If the input does not tell what it has, or the output what it
 -- holds, nothing is said of that (this project's own).
 use Rattle.std.specs.Prelude.{◌≡◌, ℕ, ℤ, List}
+use Rattle.pcfs_ports.specs.declared.streams.TheConstants.{INPUT_LIMIT}
 use Rattle.pcfs_ports.specs.Faults.{HasRisen}
 use Rattle.pcfs_ports.specs.Observable.{with_back, TakesFirst}
 use Rattle.tree_lock.specs.Seen.{PassView}
@@ -38,7 +39,7 @@ module _ {D : Type 0} (faults : D → ℕ) (gives : List StoreEntry → ℤ → 
         Speaks faults gives nonce old new messages replies →
         NineReplies old new before after ends.ReadFault messages replies
     input_too_long : (messages : List MessageView) (replies : List ReplyView) →
-        TakesFirst 1073741824 before.left after.left →
+        TakesFirst INPUT_LIMIT before.left after.left →
         AreAllTaken before.left after.left messages →
         Speaks faults gives nonce old new messages replies →
         NineReplies old new before after ends.InputTooLong messages replies

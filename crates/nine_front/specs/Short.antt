@@ -1,5 +1,6 @@
 -- Which replies an Rerror can hold, whose text has fewer than 65,536 bytes (this project's own).
 use Rattle.std.specs.Prelude.{◌≤◌, ℕ, length, Bool, true, false}
+use Rattle.bl_syntax.specs.declared.limits.TheConstants.{LONGEST_TEXT}
 use Rattle.bl_syntax.specs.declared.terms.Term.{Term}
 use Rattle.bl_syntax.specs.declared.terms.Term.TheVariants as terms
 use Rattle.bl_syntax.specs.declared.terms.StatePred.{StatePred}
@@ -25,11 +26,11 @@ use Rattle.session_history.specs.declared.reply.TurnReply.TheVariants as turn_re
 -- ---- names and texts in a condition
 
 abbrev pub IsShortTerm : Term → Type 0
-IsShortTerm (terms.Prin name) = length name ≤ 128
+IsShortTerm (terms.Prin name) = length name ≤ LONGEST_TEXT
 IsShortTerm (terms.File number) = Unit {0}
 IsShortTerm (terms.Perm permission) = Unit {0}
 IsShortTerm (terms.Time point) = Unit {0}
-IsShortTerm (terms.Text constant) = length constant ≤ 128
+IsShortTerm (terms.Text constant) = length constant ≤ LONGEST_TEXT
 IsShortTerm terms.Ctime = Unit {0}
 IsShortTerm (terms.Param n) = Unit {0}
 IsShortTerm (terms.Bound n) = Unit {0}

@@ -3,27 +3,26 @@
 ghost use Rattle.std.specs.Prelude.{◌≡◌, ◌<◌, [], ◌∷◌, ◌++◌, length};
 
 use nine_fids::FidFile;
+use nine_fids::limits::MOST_NAMES;
 use std::marker::Model;
 
-/// The greatest number of names of a walk.
-const MOST_NAMES: usize = 16;
-
-/// At most 16 files. Contracts see them in their order. It takes no memory.
+/// At most as many files as a walk may have names. Contracts see them in their order. It takes no memory.
 #[derive(Debug, Drop)]
 pub struct Found {
-    files: [FidFile; 16],
+    files: [FidFile; MOST_NAMES],
     count: usize,
 }
 
 impl Model for Found {
     ghost use Rattle.std.specs.Prelude.{◌≤◌, List, take};
     ghost use Rattle.nine_fids.specs.declared.fid.FidFile.{FidFile};
+    ghost use Rattle.nine_fids.specs.declared.limits.TheConstants.{MOST_NAMES};
 
     ghost Value = { List FidFile };
 
     ghost view = { λ f. take f.count f.files };
 
-    ghost invariant = { λ f. f.count ≤ 16 };
+    ghost invariant = { λ f. f.count ≤ MOST_NAMES };
 }
 
 impl Found {
@@ -32,14 +31,14 @@ impl Found {
         ensures { result ≡ [] }
     {
         Found {
-            files: [FidFile::Control; 16],
+            files: [FidFile::Control; MOST_NAMES],
             count: 0,
         }
     }
 
     /// Adds a file after the others.
     pub(crate) fn push(&mut self, file: FidFile)
-        requires { length self.old < 16 }
+        requires { length self.old < MOST_NAMES }
         ensures { self.new ≡ self.old ++ file ∷ [] }
     {
         if self.count < MOST_NAMES {

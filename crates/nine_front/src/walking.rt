@@ -8,6 +8,7 @@ ghost use Rattle.shared_store.specs.Asking.{HasSeenFault};
 ghost use Rattle.shared_store.specs.Looking.{node_named};
 ghost use Rattle.nine_messages.specs.Requests.{IsText};
 ghost use Rattle.nine_fids.specs.declared.fid.FidFile.{FidFile as File};
+ghost use Rattle.nine_fids.specs.declared.limits.TheConstants.{MOST_NAMES};
 ghost use Rattle.bl_syntax.specs.declared.terms.Perm.TheVariants as perms;
 ghost use Rattle.nine_fids.specs.Purse.{fitting};
 ghost use Rattle.nine_front.specs.Short.{IsShortReply};
@@ -117,13 +118,13 @@ pub(crate) fn walk_names<R: Wait, D: Disk, C: TurnClock>(
 ) -> Option<WalkError>
     requires lock { pass.old.lock ≡ lock.now }
     requires caller { connection.now.caller ≡ Some who }
-    requires few { length found.old + length names.now ≤ 16 }
+    requires few { length found.old + length names.now ≤ MOST_NAMES }
     ensures walked { (files : List File) × (found.new ≡ found.old ++ files)
         × HasWalked (C.gives clock.now) connection.now.purse who pass.old pass.new node names.now files (walk_end result) }
     ensures stopped { walk_end result ≡ Some (reply_text lines.Stopped) →
         HasSeenFault D.faults pass.new }
     ensures writable { IfSome result (λ error. IsText (walk_error_text error)) }
-    ensures few { length found.new ≤ 16 }
+    ensures few { length found.new ≤ MOST_NAMES }
     ensures same_lock { pass.new.lock ≡ lock.now }
 {
     match names.split_first() {

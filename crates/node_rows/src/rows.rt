@@ -6,6 +6,7 @@ ghost use Rattle.node_rows.specs.declared.rows.RowsFault.TheVariants.{NoMemory a
 use bl_syntax::{Bytes, NoMemory, NodeId, Principal, Sequence, Short, Text};
 use file_world::Kind;
 use std::alloc::{AllocError, AllocFailed};
+use thiserror::Error;
 
 /// What the tree keeps of a node.
 #[derive(Debug, Drop)]
@@ -42,11 +43,13 @@ pub struct MetaRow {
 pub type MetaRows = Sequence<MetaRow>;
 
 /// Why a half of a world was not made of rows.
-#[derive(Debug, Clone, Copy, PartialEq, Eq)]
+#[derive(Clone, Copy, Debug, PartialEq, Eq, Error)]
 pub enum RowsFault {
     /// They are the rows of no tree within the limits, or of no owners and attributes.
+    #[error("they are the rows of no tree within the limits, or of no owners and attributes")]
     NotTree,
     /// A growth was refused.
+    #[error("out of memory")]
     NoMemory,
 }
 

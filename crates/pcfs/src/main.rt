@@ -110,8 +110,9 @@ fn refuse<R: Print + Eprint>(rt: &R, lacking: Lacking) -> u8 {
             BAD_SECRETS
         }
         Lacking::BadLine(number) => {
+            let fault = SecretFault::BadLine(number);
             let _ = println!(rt; "secrets line {number}");
-            let _ = eprintln!(rt; "{SECRETS_FILE}: line {number} is bad");
+            let _ = eprintln!(rt; "{SECRETS_FILE}: {fault}");
             BAD_SECRETS
         }
         Lacking::NoMemory => OUT_OF_MEMORY,

@@ -1,10 +1,10 @@
 //! A history for auditors: `pcfs_history AREA..` writes the events of areas and archives of a store, each with what its procaps
 //! rest on: the issue, its proof, and the statements with who signed them.
 //!
-//! It ends with status 0 if all was written; 1, an area does not go on from the one before; 2, an area is damaged or not open;
-//! 3, the words are wrong; 4, a file cannot be read; 5, a line of the secrets is wrong; 6, the output failed; 9, out of memory.
-//! What is written is a definition of `history_text` over the history that was opened. The files are read, and nothing is
-//! written or locked.
+//! It ends with status 0 if all was written; 1, an area does not go on from the one before; 2, an area is damaged or not
+//! open; 3, the words are wrong, or no statement has the number of `--rests-on`; 4, a file cannot be read, or the mark of a
+//! failed sync is there; 5, a line of the secrets is wrong; 6, the output failed; 9, out of memory. What is written is a
+//! definition of `history_text` over the history that was opened. The files are read, and nothing is written or locked.
 #![tactic(auto)]
 
 ghost use Rattle.std.specs.Prelude.{◌≡◌, IfOk};
@@ -38,10 +38,10 @@ const BROKEN: u8 = 1;
 /// An area is damaged or not open.
 const UNOPENED: u8 = 2;
 
-/// The words are wrong.
+/// The words are wrong, or no statement has the number of `--rests-on`.
 const BAD_WORDS: u8 = 3;
 
-/// A file cannot be read.
+/// A file cannot be read, or the mark of a failed sync is there.
 const UNREADABLE: u8 = 4;
 
 /// A line of the secrets is wrong.

@@ -1,10 +1,9 @@
 //! What the words of the command ask for.
 
-use bl_syntax::byte_classes::is_digit;
 use bl_syntax::decimal::put_text;
-use bl_syntax::{Bytes, NoMemory, NodeId, Perm, Principal, TimePoint};
-use bl_text::parse_time;
+use bl_syntax::{Bytes, NoMemory, NodeId, Perm, Principal};
 use history_table::Filter;
+use line_words::numerals;
 use std::alloc::Global;
 
 /// A permission on a node.
@@ -72,53 +71,16 @@ fn copied(alloc: Global, word: &str) -> Result<String, NoMemory> {
     }
 }
 
-fn number_of(word: &str) -> Option<u64> {
-    if word.is_empty() || !word.as_bytes().iter().all(|byte| is_digit(*byte)) {
-        return None;
-    }
-    match word.parse::<u64>() {
-        Ok(number) => Some(number),
-        Err(_) => None,
-    }
-}
-
 fn statement_of(word: Option<&String>) -> Option<u32> {
-    let word = match word {
-        Some(word) => word.as_str(),
-        None => return None,
-    };
-    match number_of(word) {
-        Some(number) => match u32::try_from(number) {
-            Ok(number) => Some(number),
-            Err(_) => None,
-        },
-        None => None,
-    }
+    numerals::number(word?.as_str().as_bytes())
 }
 
 fn second_of(word: Option<&String>) -> Option<i64> {
-    let word = match word {
-        Some(word) => word.as_str(),
-        None => return None,
-    };
-    match parse_time(word.as_bytes()) {
-        Ok(TimePoint::At(second)) => Some(second),
-        _ => None,
-    }
+    numerals::second(word?.as_str().as_bytes())
 }
 
 fn file_of(word: Option<&String>) -> Option<NodeId> {
-    let word = match word {
-        Some(word) => word.as_str(),
-        None => return None,
-    };
-    match word.strip_prefix("#") {
-        Some(digits) => match number_of(digits) {
-            Some(number) => Some(NodeId(number)),
-            None => None,
-        },
-        None => None,
-    }
+    numerals::file(word?.as_str().as_bytes())
 }
 
 fn perm_of(word: Option<&String>) -> Option<Perm> {

@@ -3,6 +3,7 @@ use Rattle.std.specs.Prelude.{◌≡◌, ℕ, List, drop, codes, Bool, true, Opt
 use Rattle.bl_syntax.specs.declared.grant.Goal.{Goal}
 use Rattle.bl_syntax.specs.Grant.{GrantView}
 use Rattle.bl_syntax.specs.Statement.{StatementView}
+use Rattle.pcfs_ports.specs.declared.streams.TheConstants.{INPUT_LIMIT}
 use Rattle.pcfs_ports.specs.Faults.{raise}
 use Rattle.pcfs_ports.specs.Observable.{ReadsToEnd, TakesFirst}
 use Rattle.proof_term.specs.Proof.{ProofView}
@@ -39,5 +40,5 @@ pub data InquiryEnds (left left_after : Option (List ℕ)) (faults faults_after 
       faults_after ≡ faults → InquiryEnds left left_after faults faults_after broken 2 (codes "bad 3")
   read_fault : faults_after ≡ raise faults → broken ≡ true →
       InquiryEnds left left_after faults faults_after broken 6 (codes "readfault")
-  too_long : TakesFirst 1073741824 left left_after → faults_after ≡ faults →
+  too_long : TakesFirst INPUT_LIMIT left left_after → faults_after ≡ faults →
       InquiryEnds left left_after faults faults_after broken 13 (codes "toolong")

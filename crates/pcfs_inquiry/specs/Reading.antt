@@ -6,6 +6,7 @@ use Rattle.line_forms.specs.declared.fault.LineFault.{LineFault}
 use Rattle.line_forms.specs.declared.fault.LineFault.TheVariants.{BadWord, BadCount, BadText, NoMemory}
 use Rattle.line_forms.specs.declared.mode.Mode.TheVariants.{Inquiry}
 use Rattle.line_forms.specs.Lines.{IsLineIn}
+use Rattle.bl_syntax.specs.declared.limits.TheConstants.{MOST_CITED}
 use Rattle.bl_syntax.specs.declared.grant.Goal.{Goal}
 use Rattle.bl_syntax.specs.Statement.{StatementView}
 use Rattle.proof_term.specs.Proof.{ProofView}
@@ -53,5 +54,5 @@ pub record IsEnding (lines : List (List ℕ)) (cites : List Cite) (goal : Goal) 
   pub parts : lines ≡ said ++ last ∷ others
   pub are_said : AreSaid said statements
   pub cites_are : cites ≡ numbered_from 1 statements
-  pub few : length statements ≤ 64
+  pub few : length statements ≤ MOST_CITED
   pub asked_after : IsAskedAfter (length said) last (asked.Goal goal proof)

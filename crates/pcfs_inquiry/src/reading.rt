@@ -14,6 +14,7 @@ use line_words::first_word;
 use proof_term::ProofTree;
 use proof_verifier::{Cite, Cites};
 use std::alloc::{AllocFailed, Global};
+use thiserror::Error;
 
 /// An inquiry: statements by their numbers from 1, a goal, and a proof of it from all of them.
 #[derive(Debug, Drop)]
@@ -24,11 +25,13 @@ pub struct Inquiry {
 }
 
 /// Why there is no inquiry.
-#[derive(Clone, Copy, Debug, PartialEq, Eq)]
+#[derive(Clone, Copy, Debug, PartialEq, Eq, Error)]
 pub enum InquiryFault {
     /// The line of this number, from 1, is the first that is wrong, and has this fault.
+    #[error("line {0}: {1}")]
     Bad(usize, LineFault),
     /// A growth was refused.
+    #[error("out of memory")]
     NoMemory,
 }
 

@@ -21,6 +21,7 @@ use Rattle.pcfs_ports.specs.declared.streams.TakeFault.TheVariants.{Failed, TooL
 use Rattle.pcfs_modes.specs.Answers.{ComesTo, ModesEnds, StatesTable, answered, bad_line, of_table, stated, too_many, twice}
 use Rattle.pcfs_modes.specs.ModesText.{fault_line, register_lines}
 use Rattle.pcfs_modes.specs.declared.answering.ModesEnd.{ModesEnd}
+use Rattle.pcfs_modes.specs.declared.answering.TheConstants.{LAST_SECOND}
 
 -- an end with this status and these lines
 pub ends_with : (r : Result ModesEnd OutOfMemory) (status : ℕ) (written : List ℕ) (Ends : ℕ → List ℕ → Type 0) → IfOk r (λ (end : ModesEnd). end.status ≡ status) → IfOk r (λ (end : ModesEnd). end.lines ≡ written) → Ends status written →
@@ -35,7 +36,7 @@ ends_faulty (Ok end) fault Ends status_is lines_are other ends = subst (λ (n : 
 ends_faulty (Err refused) fault Ends status_is lines_are other ends = tt
 
 -- a second from 1970 to 9999 is a moment
-pub in_range_at : (z : ℤ) (second : ℕ) → z ≡ pos second → second ≤ 253402300799 → IsInRange (At z)
+pub in_range_at : (z : ℤ) (second : ℕ) → z ≡ pos second → second ≤ LAST_SECOND → IsInRange (At z)
 in_range_at z second is few = subst (λ (y : ℤ). IsInRange (At y)) (sym is) (record { not_before = omega (arith, ints); not_after = omega (arith, ints, few) })
 
 module _ (from to : TimePoint) where

@@ -9,6 +9,7 @@ use Rattle.mode_policy.specs.declared.fault.ModeFault.TheVariants.{BadLine, Twic
 use Rattle.mode_policy.specs.Lines.{AreOfTable, IsBad, IsFirst, IsTwice}
 use Rattle.mode_policy.specs.Statements.{statements_of}
 use Rattle.mode_policy.specs.Table.{TableView}
+use Rattle.pcfs_ports.specs.declared.streams.TheConstants.{INPUT_LIMIT}
 use Rattle.pcfs_ports.specs.Faults.{raise}
 use Rattle.pcfs_ports.specs.Observable.{ReadsToEnd, TakesFirst}
 use Rattle.pcfs_modes.specs.ModesText.{fault_line, register_lines}
@@ -40,5 +41,5 @@ pub data ModesEnds (from to : ℕ) (left left_after : Option (List ℕ)) (faults
       faults_after ≡ faults → ModesEnds from to left left_after faults faults_after broken status written
   read_fault : faults_after ≡ raise faults → broken ≡ true →
       ModesEnds from to left left_after faults faults_after broken 6 (codes "readfault\n")
-  too_long : TakesFirst 1073741824 left left_after → faults_after ≡ faults →
+  too_long : TakesFirst INPUT_LIMIT left left_after → faults_after ≡ faults →
       ModesEnds from to left left_after faults faults_after broken 13 (codes "toolong\n")

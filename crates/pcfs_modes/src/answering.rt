@@ -10,6 +10,7 @@ ghost use Rattle.pcfs_modes.specs.ModesText.{fault_line, register_lines};
 
 use crate::writing::{put_fault, put_statements};
 use bl_syntax::decimal::put_text;
+use bl_syntax::limits::LAST_MOMENT;
 use bl_syntax::{Bytes, NoMemory, TimePoint};
 use mode_policy::{ModeFault, ModeTable, Statements};
 use pcfs_ports::{Source, TakeFault, read_to_end};
@@ -27,6 +28,9 @@ const TOO_LONG: u8 = 13;
 /// A line is wrong, or the statements are too many.
 const BAD_MODES: u8 = 15;
 
+/// The last second that a statement may name, as a number.
+pub const LAST_SECOND: u64 = LAST_MOMENT as u64;
+
 /// What the table in an input comes to: the status, and what is to be written.
 #[derive(Debug, Drop)]
 pub struct ModesEnd {
@@ -34,9 +38,9 @@ pub struct ModesEnd {
     pub lines: Bytes,
 }
 
-// A second from 1970-01-01T00:00:00Z to 9999-12-31T23:59:59Z as a point in time.
+// A second from 1970-01-01T00:00:00Z to the last one as a point in time.
 fn point_at(second: u64) -> TimePoint
-    requires { second ≤ 253402300799 }
+    requires { second ≤ LAST_SECOND }
     ensures same { result ≡ At (pos second) }
     ensures in_range { IsInRange result }
 {
@@ -125,8 +129,8 @@ pub fn answer_table<I: Source>(
     to: u64,
     input: &mut I,
 ) -> Result<ModesEnd, NoMemory>
-    requires from { from ≤ 253402300799 }
-    requires to { to ≤ 253402300799 }
+    requires from { from ≤ LAST_SECOND }
+    requires to { to ≤ LAST_SECOND }
     ensures ends { IfOk result (λ end. ModesEnds from to (I.left input.old) (I.left input.new) (I.faults input.old) (I.faults input.new)
         (I.broken input.new) end.status end.lines) }
     ensures steady { OnErr result (I.faults input.new ≡ I.faults input.old) }

@@ -9,4 +9,4 @@ mod answering;
 pub mod laws;
 mod writing;
 
-pub use answering::{ModesEnd, answer_table};
+pub use answering::{LAST_SECOND, ModesEnd, answer_table};

@@ -29,7 +29,7 @@ pub use faults::Failed;
 pub use listener::{Listener, MemoryListener};
 pub use memory_disk::MemoryDisk;
 pub use nonces::{ListNonces, NONCE_LEN, Nonces, UrandomNonces};
-pub use pieces::{new_piece, read_piece};
+pub use pieces::{PIECE_LEN, new_piece, read_piece};
 pub use signatures::Signatures;
 pub use sinks::{MemorySink, Sink, StdSink};
 pub use sources::{MemorySource, Source, StdSource};

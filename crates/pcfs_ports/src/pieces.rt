@@ -9,11 +9,11 @@ use super::sources::Source;
 use std::alloc::{AllocError, Global};
 
 /// How many bytes a piece has room for.
-pub(crate) const PIECE_LEN: usize = 65_536;
+pub const PIECE_LEN: usize = 65_536;
 
-/// The room for a piece: 65,536 zeros.
+/// The room for a piece, filled with zeros.
 pub fn new_piece(alloc: Global) -> Result<Vec<u8>, AllocError>
-    ensures { IfOk result (λ piece. length piece.items ≡ 65536) }
+    ensures { IfOk result (λ piece. length piece.items ≡ PIECE_LEN) }
 {
     vec![in alloc; 0u8; PIECE_LEN]
 }

@@ -11,18 +11,22 @@ use super::sinks::Sink;
 use super::sources::Source;
 use bl_syntax::{Bytes, NoMemory};
 use std::alloc::{AllocError, Global};
+use thiserror::Error;
 
 /// An input is shorter than this many bytes, 1 GiB.
 pub const INPUT_LIMIT: usize = 1_073_741_824;
 
 /// Why an input was not read to its end.
-#[derive(Clone, Copy, Debug, PartialEq, Eq)]
+#[derive(Clone, Copy, Debug, PartialEq, Eq, Error)]
 pub enum TakeFault {
     /// The source failed.
+    #[error("the source failed")]
     Failed,
     /// `INPUT_LIMIT` bytes were taken, and the end was not met before.
+    #[error("the input has {most} bytes or more", most = INPUT_LIMIT)]
     TooLong,
     /// A growth was refused.
+    #[error("out of memory")]
     NoMemory,
 }
 

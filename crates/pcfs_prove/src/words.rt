@@ -1,9 +1,8 @@
 //! What the words of the command ask for.
 
-use bl_syntax::byte_classes::is_digit;
 use bl_syntax::decimal::put_text;
-use bl_syntax::{Bytes, Goal, NoMemory, NodeId, Perm, Principal, TimePoint};
-use bl_text::parse_time;
+use bl_syntax::{Bytes, Goal, NoMemory, NodeId, Perm, Principal};
+use line_words::numerals;
 use std::alloc::Global;
 
 /// The steps, if the words name none.
@@ -69,35 +68,12 @@ fn copied(alloc: Global, word: &str) -> Result<String, NoMemory> {
     }
 }
 
-fn number_of(word: &str) -> Option<u64> {
-    if word.is_empty() || !word.as_bytes().iter().all(|byte| is_digit(*byte)) {
-        return None;
-    }
-    match word.parse::<u64>() {
-        Ok(number) => Some(number),
-        Err(_) => None,
-    }
-}
-
 fn second_of(word: Option<&String>) -> Option<i64> {
-    let word = match word {
-        Some(word) => word.as_str(),
-        None => return None,
-    };
-    match parse_time(word.as_bytes()) {
-        Ok(TimePoint::At(second)) => Some(second),
-        _ => None,
-    }
+    numerals::second(word?.as_str().as_bytes())
 }
 
 fn file_of(word: &str) -> Option<NodeId> {
-    match word.strip_prefix("#") {
-        Some(digits) => match number_of(digits) {
-            Some(number) => Some(NodeId(number)),
-            None => None,
-        },
-        None => None,
-    }
+    numerals::file(word.as_bytes())
 }
 
 fn perm_of(word: &str) -> Option<Perm> {
@@ -146,7 +122,7 @@ fn take_facts(alloc: Global, given: &mut Given, word: Option<&String>) -> Result
 
 fn take_steps(given: &mut Given, word: Option<&String>) -> Taken {
     let number = match word {
-        Some(word) => number_of(word.as_str()),
+        Some(word) => numerals::long_number(word.as_str().as_bytes()),
         None => None,
     };
     match number {

@@ -209,13 +209,13 @@ module _ (secrets : Secrets) (words : List (String Global)) (before after : Serv
 
   by_cause : (rests : Rests) (status : ℕ) (line : List ℕ) → ((port count : ℕ) → IsServe words port count → ⊥) → ((port count : ℕ) → IsServe9 words port count → ⊥) → HasCause secrets words rests before.ports.disks after.ports.disks status line → Ends status
   by_cause rests _ _ alone apart (runs.usage none same) = healthy.asks_nothing none alone apart
-  by_cause rests _ _ alone apart (runs.made asks is b) = healthy.done
+  by_cause rests _ _ alone apart (runs.made asks is b stood) = healthy.done
   by_cause rests _ _ alone apart (runs.exists asks is_open same) = healthy.is_there_already asks is_open
   by_cause rests _ _ alone apart (runs.not_made asks failed kept) = absurd (no_disk_failed failed)
   by_cause rests _ _ alone apart (runs.no_store asks none same) = healthy.unopened 4 (inl asks) (absent none)
   by_cause rests _ _ alone apart (runs.damaged number damage asks found same) = healthy.unopened 3 (inl asks) (damaged number damage found)
   by_cause rests _ _ alone apart (runs.not_opened asks failed kept) = absurd (no_disk_failed failed)
-  by_cause rests _ _ alone apart (runs.checkpointed generation image start asks opened fits stays made) = healthy.done
+  by_cause rests _ _ alone apart (runs.checkpointed generation image start asks opened fits stays stood made) = healthy.done
   by_cause rests _ _ alone apart (runs.full generation image start asks opened none same rest) = healthy.has_no_room generation image start asks opened none
   by_cause rests _ _ alone apart (runs.not_checkpointed generation image start asks opened fits failed stays survives) = absurd (no_disk_failed failed)
   by_cause rests _ _ alone apart (runs.audited pieces generation image start report asks opened found same rest) = of_report pieces generation image start report report.rows refl asks opened found

@@ -6,4 +6,5 @@ pub mod WordsLemmas
 pub mod UnsaidLemmas
 pub mod NineLawLemmas
 pub mod HealthyLemmas
+pub mod DiskEndLemmas
 mod GoneLemmas

@@ -29,9 +29,9 @@ use Rattle.recover.specs.Opening as opening
 use Rattle.shared_store.specs.GoesOn.{HasGoneOn}
 use Rattle.pcfs_tools.specs.Broken.{Broken}
 use Rattle.pcfs_tools.specs.LastLine.{Wrote}
-use Rattle.pcfs_top.specs.Ports.{Rests, AreBytesKept}
+use Rattle.pcfs_top.specs.Ports.{Rests, AreDisksKept}
 use Rattle.pcfs_top.specs.Run.{IsNewestOf, TellsUnopened, damaged_text}
-use Rattle.pcfs_top.proofs.EndsWithLemmas.{disks_of, rests_of, newest_of, counts_now, closed_of, pinned_at, other_is, added_all, place_kept, place_moved, has_no_area}
+use Rattle.pcfs_top.proofs.EndsWithLemmas.{disks_of, rests_of, newest_of, counts_now, closed_of, pinned_at, none_failed_since, other_is, added_all, place_kept, place_moved, has_no_area}
 use Rattle.pcfs_run.specs.Passes.{PassEntries, AreOfPasses, IsGrown, stop_among}
 use Rattle.pcfs_run.specs.Served.{Net, ServePorts, IsNetKept, AreAttended, root_under, IsServed, TellsServed, ServeWrites, EndsServing, all_served, net_failed}
 use Rattle.pcfs_run.specs.Served as serving
@@ -237,6 +237,7 @@ module _ {D : Type 0} (is_of : PassEntries) (clock : D → ℕ) (left_since : D 
           let now = counts_now clock left_since image faults s store (opened.current x y is_x is_y) x y (opened.first_read.same ∙ is_x) (opened.second_read.same ∙ is_y) in
           counts_now clock left_since image faults s' store' (goes.current (opened.current x y is_x is_y) (is ∙ runs)) x' y' is_x' is_y'
           ∙ ap Some (place_moved goes.checkpoints_go_on.0 s'.checkpoints s.second_active second s'.second_active added_to (same_place s.second_active second (sym now ∙ counts)) goes.place_is);
+      none_failed = λ runs. none_failed_since clock left_since image faults secrets a b s s' opened (goes.none_failed (is ∙ runs));
       risen = λ pass stops. risen_since s s' opened (goes.failed pass (is ∙ stops));
       follows = λ pass event stops same. under (λ key ring base. IsLawful (authority_with key ring) base (s'.events ++ event ∷ [])) (goes.follows pass event (is ∙ stops) same lawful_then);
       survives = λ pass stops x y is_x is_y gate x' y' is_x' is_y'.
@@ -309,8 +310,11 @@ module _ {D : Type 0} (is_of : PassEntries) (clock : D → ℕ) (left_since : D 
     tells status line result writes (inl told) = subst Ends (sym told.0) (serving.told status line writes told.1 told.2)
     tells status line result writes (inr failed) = subst Ends (sym failed.0) (serving.cut_short status line writes failed.1 failed.2)
 
-    kept : (fault : OpenFault) → (fault ≡ opens.Disk → ⊥) → IsNotOpened clock left_since image faults a b (authority_with secrets.seal_key secrets.ring) fault a' b' → AreBytesKept (disks_of clock left_since image faults a b) (disks_of clock left_since image faults a' b')
-    kept fault not_disk n = record { a_stays = n.first_same not_disk; b_stays = n.second_same not_disk }
+    kept : (fault : OpenFault) → (fault ≡ opens.Disk → ⊥) → IsNotOpened clock left_since image faults a b (authority_with secrets.seal_key secrets.ring) fault a' b' → AreDisksKept (disks_of clock left_since image faults a b) (disks_of clock left_since image faults a' b')
+    kept fault not_disk n = record {
+      bytes = record { a_stays = n.first_same not_disk; b_stays = n.second_same not_disk };
+      none_failed = record { a_stands = n.first_no_fault not_disk; b_stands = n.second_no_fault not_disk };
+    }
 
     pub EndsServing-unopened : (fault : OpenFault) (result : ℕ) → IsNotOpened clock left_since image faults a b (authority_with secrets.seal_key secrets.ring) fault a' b' → TellsUnopened fault before.held before.write_faults result after.held after.write_faults broken'.output → Ends result
     EndsServing-unopened opens.NoStore result n told = tells 4 (codes "nostore") result (serving.no_store (λ x y is_x is_y. has_no_area x y (n.cause x y is_x is_y)) (kept opens.NoStore (λ e. absurd cc) n) net_kept) told

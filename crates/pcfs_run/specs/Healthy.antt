@@ -2,6 +2,7 @@
 use Rattle.std.specs.Prelude.{◌≡◌, ◌⊎◌, ◌≤◌, ℕ, List, ◌∷◌, pos, String, Option}
 use Rattle.std.specs.declared.alloc.Global.{Global}
 use Rattle.bl_syntax.specs.declared.terms.TimePoint.TheVariants.{At}
+use Rattle.pcfs_ports.specs.declared.streams.TheConstants.{INPUT_LIMIT}
 use Rattle.pcfs_ports.specs.Faults.{HasRisen}
 use Rattle.pcfs_ports.specs.Observable.{ReadsToEnd, TakesFirst}
 use Rattle.line_text.specs.Lines.{lines_of}
@@ -43,7 +44,7 @@ pub record AreHealthy (before after : ServePorts) : Type 0 where
 pub data IsUnfit (before after : Streams) : ℕ → Type 0 where
   long_line : (lines : List (List ℕ)) → IsCutAtLong before.left after.left lines →
       IsUnfit before after 2
-  too_many_bytes : TakesFirst 1073741824 before.left after.left → IsUnfit before after 13
+  too_many_bytes : TakesFirst INPUT_LIMIT before.left after.left → IsUnfit before after 13
 
 -- Why the store in the areas is not opened: there is none, or the newest one is damaged.
 pub data IsUnopened (secrets : Secrets) (before : Disks) : ℕ → Type 0 where
@@ -87,7 +88,7 @@ pub data EndsHealthy (secrets : Secrets) (words : List (String Global)) (before 
       HasBadFrame before.ports.streams.left after.ports.streams.left messages →
       EndsHealthy secrets words before after 16
   messages_too_many_bytes : AsksFor words Follow →
-      TakesFirst 1073741824 before.ports.streams.left after.ports.streams.left →
+      TakesFirst INPUT_LIMIT before.ports.streams.left after.ports.streams.left →
       EndsHealthy secrets words before after 13
   inquiry_wrong : (bytes : List ℕ) (number : ℕ) (fault : LineFault) → AsksFor words Check →
       ReadsToEnd before.ports.streams.left after.ports.streams.left bytes →
@@ -97,14 +98,14 @@ pub data EndsHealthy (secrets : Secrets) (words : List (String Global)) (before 
       ReadsToEnd before.ports.streams.left after.ports.streams.left bytes →
       HasLongLine (lines_of bytes) → EndsHealthy secrets words before after 2
   inquiry_too_many_bytes : AsksFor words Check →
-      TakesFirst 1073741824 before.ports.streams.left after.ports.streams.left →
+      TakesFirst INPUT_LIMIT before.ports.streams.left after.ports.streams.left →
       EndsHealthy secrets words before after 13
   table_wrong : (from to : ℕ) (bytes written : List ℕ) → AsksFor words (Modes from to) →
       ReadsToEnd before.ports.streams.left after.ports.streams.left bytes →
       ComesTo (At (pos from)) (At (pos to)) (lines_of bytes) 15 written →
       EndsHealthy secrets words before after 15
   table_too_many_bytes : (from to : ℕ) → AsksFor words (Modes from to) →
-      TakesFirst 1073741824 before.ports.streams.left after.ports.streams.left →
+      TakesFirst INPUT_LIMIT before.ports.streams.left after.ports.streams.left →
       EndsHealthy secrets words before after 13
   signing_wrong : (height from : ℕ) (bytes written : List ℕ) →
       AsksFor words (RootSign height from) →
@@ -121,7 +122,7 @@ pub data EndsHealthy (secrets : Secrets) (words : List (String Global)) (before 
       ReadsToEnd before.ports.streams.left after.ports.streams.left bytes →
       HasLongLine (lines_of bytes) → EndsHealthy secrets words before after 2
   signing_too_many_bytes : (height from : ℕ) → AsksFor words (RootSign height from) →
-      TakesFirst 1073741824 before.ports.streams.left after.ports.streams.left →
+      TakesFirst INPUT_LIMIT before.ports.streams.left after.ports.streams.left →
       EndsHealthy secrets words before after 13
 
 -- ---- the law

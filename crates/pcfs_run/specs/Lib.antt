@@ -4,3 +4,4 @@ pub mod Served
 pub mod Laws
 pub mod NineLaws
 pub mod Healthy
+pub mod DiskEnds

@@ -27,7 +27,7 @@ use Rattle.pcfs_store.specs.Newest.{newer, one_of}
 use Rattle.pcfs_store.specs.Ready.{SurvivesStop}
 use Rattle.recover.specs.Opening.{IsNewestHistory, IsNewestDamaged, IsNewestClosed}
 use Rattle.pcfs_tools.specs.LastLine.{Wrote, WroteNothing}
-use Rattle.pcfs_top.specs.Ports.{Disks, Ports, Rests, IfTold, HasDiskFailed, AreBytesKept, IsInputKept}
+use Rattle.pcfs_top.specs.Ports.{Disks, Ports, Rests, IfTold, HasDiskFailed, NoDiskFailed, AreBytesKept, AreDisksKept, IsInputKept}
 use Rattle.pcfs_top.specs.Run.{IsNewestOf, HasNoArea, EndsWith, damaged_text}
 use Rattle.pcfs_run.specs.Passes.{PassEntries, AreOfPasses, stop_among}
 use Rattle.pcfs_run.specs.ServeWords.{IsServe, IsServe9}
@@ -89,19 +89,18 @@ root_under secrets generation image base = record {
 -- The store on the disks was opened, and connections had sessions over it, or spoke 9P2000 with it.
 -- The history that was found is that of the newest area, from its image. Its events at the end are
 -- those, and then the ones that the passes of the connections added, and the checkpoints are those
--- that these passes made, each after its number of events: each of them was added in a turn of a line
--- of its pass's session, or of a message of its connection; the events are lawful, so the headline holds of them. Unless a disk failed, the newest area has the
--- generation of the opened one, and one more for each checkpoint, and stands for the state at the
--- last of these, or for
--- the opened base if there is none, and the events since; it is on the other disk after each of
--- them; and if the opened one had its closed gate, it has too, and nothing is pending. If one
--- failed in a turn of some pass, its count rose; and if the opened area had its closed gate, the
--- newest one stands
--- for these events, or, in a step, for them with the event that the step was keeping, which may
--- follow them: this is in the mark, which is one of the entries of the pass, so that a line of its
--- session, or a message, asks for it. The area that did not count is as it was, if no checkpoint was
--- made; only if
--- one was tried, its disk may have failed, and then the mark has no event.
+-- that these passes made, each after its number of events: each of them was added in a turn of a
+-- line of its pass's session, or of a message of its connection; the events are lawful, so the
+-- headline holds of them. Unless a disk failed in a turn, no call of a disk failed, the newest area
+-- has the generation of the opened one, and one more for each checkpoint, and stands for the state
+-- at the last of these, or for the opened base if there is none, and the events since; it is on the
+-- other disk after each of them; and if the opened one had its closed gate, it has too, and nothing
+-- is pending. If one failed in a turn of some pass, its count rose; and if the opened area had its
+-- closed gate, the newest one stands for these events, or, in a step, for them with the event that
+-- the step was keeping, which may follow them: this is in the mark, which is one of the entries of
+-- the pass, so that a line of its session, or a message, asks for it. The area that did not count
+-- is as it was, if no checkpoint was made; only if one was tried, its disk may have failed, and
+-- then the mark has no event.
 pub record IsServed (is_of : PassEntries) (secrets : Secrets) (rests : Rests) (before after : Disks) (attended count : ℕ) (stop : Option ℕ) : Type 0 where
   pub generation : ℕ
   pub image : List ℕ
@@ -132,6 +131,7 @@ pub record IsServed (is_of : PassEntries) (secrets : Secrets) (rests : Rests) (b
       newer (generation_of x) (generation_of y) ≡ Some second →
       IfTold after (λ u v. newer (generation_of u) (generation_of v)
       ≡ Some (place_after (length checkpoints) second)))
+  pub none_failed : stop ≡ None → NoDiskFailed before after
   pub risen : (pass : ℕ) → stop ≡ Some pass → HasDiskFailed before after
   pub follows : (pass : ℕ) (event : Event) → stop ≡ Some pass → met ≡ Some event →
       IsLawful (authority_under secrets) base (events ++ event ∷ [])
@@ -167,11 +167,11 @@ pub data ServeWrites (is_of : PassEntries) (secrets : Secrets) (count : ℕ) (re
       AreAttended count before.net after.net end →
       ServeWrites is_of secrets count rests before after 5 (codes "stopped")
   no_store : IfTold before.ports.disks HasNoArea →
-      AreBytesKept before.ports.disks after.ports.disks → IsNetKept before.net after.net →
+      AreDisksKept before.ports.disks after.ports.disks → IsNetKept before.net after.net →
       ServeWrites is_of secrets count rests before after 4 (codes "nostore")
   damaged : (number : ℕ) (damage : Damage) →
       IfTold before.ports.disks (IsNewestDamaged (authority_under secrets) number damage) →
-      AreBytesKept before.ports.disks after.ports.disks → IsNetKept before.net after.net →
+      AreDisksKept before.ports.disks after.ports.disks → IsNetKept before.net after.net →
       ServeWrites is_of secrets count rests before after 3 (damaged_text number damage)
   not_opened : HasDiskFailed before.ports.disks after.ports.disks →
       (rests.before → AreBytesKept before.ports.disks after.ports.disks) →
@@ -193,7 +193,7 @@ pub data EndsServing (is_of : PassEntries) (secrets : Secrets) (count : ℕ) (re
       FailedLast before.ports.streams.write_faults after.ports.streams.write_faults after.ports.broken.output →
       HoldsSome before.ports.streams.held after.ports.streams.held (with_line_end line) →
       EndsServing is_of secrets count rests before after 7
-  unopened : AreBytesKept before.ports.disks after.ports.disks → IsNetKept before.net after.net →
+  unopened : AreDisksKept before.ports.disks after.ports.disks → IsNetKept before.net after.net →
       after.ports.streams.held ≡ before.ports.streams.held →
       after.ports.streams.write_faults ≡ before.ports.streams.write_faults →
       EndsServing is_of secrets count rests before after 9

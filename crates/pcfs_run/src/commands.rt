@@ -1,6 +1,7 @@
 //! A run of the program that may serve: its words, its ports, and the status that it ends with.
 
 ghost use Rattle.std.specs.Prelude.{◌≡◌, ◌≤◌, ℕ, List, Bool, MatchOption, Option, Some};
+ghost use Rattle.command_words.specs.declared.given.TheConstants.{MOST_CONNECTIONS};
 ghost use Rattle.command_words.specs.declared.words.Task.TheVariants.{Serve, Serve9};
 ghost use Rattle.pcfs_ports.specs.Disk.{IsPinned};
 ghost use Rattle.session_service.specs.Sessions.{sources_of, inputs_of, AreOfSession};
@@ -63,7 +64,7 @@ fn serve<
     nonces: &mut N,
 ) -> Ended<D>
     requires some { 1 ≤ count }
-    requires few { count ≤ 1000000 }
+    requires few { count ≤ MOST_CONNECTIONS }
     ensures { (left : Option (List ℕ)) (read_faults : ℕ) (read_broken : Bool) →
         EndsServing (AreOfSession (sources_of (C.gives clock.now) L.In.left
         (inputs_of L.In.left (L.queue net.old)) (N.coming nonces.old))) secrets.now count
@@ -142,7 +143,8 @@ fn nine_serving_of(asked: Option<Task>) -> Option<(u16, u64)>
 /// Returns the disks and the status to end with. With `serve` and `serve9` that is 0, so many were attended or no more come,
 /// and the last line is `served` with their number; 3, 4, 7 or 9 as for `run_alone`; 5, a disk failed: `stopped`, also if the
 /// listener failed too; 8, the listener failed or there was no nonce: `netfault`. A denial, a refusal and a fault of a
-/// connection's own input or output leave the status as it is.
+/// connection's own input or output leave the status as it is. No call of a disk failed, unless `stopped` is the last line,
+/// or was to be at 7.
 pub fn run<
     R: Threads + Wait + Sync + Eprint,
     I: Source,

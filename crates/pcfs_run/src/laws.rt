@@ -7,6 +7,7 @@ ghost use Rattle.session_service.specs.Sessions.{sources_of, AreOfSession};
 ghost use Rattle.nine_service.specs.Passes.{nine_sources_of, AreOfNine};
 ghost use Rattle.pcfs_run.specs.Laws.{GoneAdmitNothing, AddsNothing, NothingIsAddedUnsaid, EachEntryHasItsLine};
 ghost use Rattle.pcfs_run.specs.Healthy.{HealthyRunsEndSo};
+ghost use Rattle.pcfs_run.specs.DiskEnds.{DisksFailAtFewEnds};
 
 use pcfs_ports::{Disk, Listener, Source};
 use session_history::TurnClock;
@@ -51,6 +52,24 @@ pub fn healthy_runs_end_so<I: Source, D: Disk, C: TurnClock, L: Listener>(
 )
     ensures { (inputs : Option (List (Option (List ℕ)))) (nonces : Option (List ℕ)) →
         HealthyRunsEndSo (AreOfSession (sources_of (C.gives clock.now) I.left inputs nonces))
+        (AreOfNine (nine_sources_of (C.gives clock.now) I.left inputs nonces)) (IsPinned D.clock D.left_since D.image) L.over }
+{
+    let _ = input;
+    let _ = disk;
+    let _ = clock;
+    let _ = net;
+}
+
+/// Of a run no call of a disk failed; or a count of faults rose, and it ends with 5, or with 7 or 9 if the output failed or
+/// memory ran out when that was to be told.
+pub fn disks_fail_at_few_ends<I: Source, D: Disk, C: TurnClock, L: Listener>(
+    input: &I,
+    disk: &D,
+    clock: &C,
+    net: &L,
+)
+    ensures { (inputs : Option (List (Option (List ℕ)))) (nonces : Option (List ℕ)) →
+        DisksFailAtFewEnds (AreOfSession (sources_of (C.gives clock.now) I.left inputs nonces))
         (AreOfNine (nine_sources_of (C.gives clock.now) I.left inputs nonces)) (IsPinned D.clock D.left_since D.image) L.over }
 {
     let _ = input;

@@ -2,6 +2,7 @@
 
 ghost use Rattle.std.specs.Prelude.{◌≡◌, ◌≤◌, ℕ, List, [], Bool, Option, None};
 ghost use Rattle.std.specs.List.{AllByRecursion};
+ghost use Rattle.command_words.specs.declared.given.TheConstants.{MOST_CONNECTIONS};
 ghost use Rattle.journal_records.specs.EventSpelling.{IsReadEvent};
 ghost use Rattle.pcfs_server.specs.Ends.{number_of};
 ghost use Rattle.session_service.specs.Connections.{AreOfConnections};
@@ -14,6 +15,7 @@ ghost use Rattle.pcfs_run.specs.Served.{AreAttended, EndsServing, net_of};
 ghost use Rattle.pcfs_top.specs.Ports.{ports_beside, rests_of};
 
 use crate::commands::warn_of_clock;
+use crate::serving::AT_ONCE;
 use crate::status_lines::write_end;
 use nine_service::{NineDoor, NineService};
 use pcfs_ports::{Disk, Listener, Nonces, Sink};
@@ -30,9 +32,6 @@ use std::io::Eprint;
 use std::sync::Wait;
 use std::thread::Threads;
 use tree_lock::{Doorman, TreeLock};
-
-/// How many connections are attended at once, at most.
-const AT_ONCE: usize = 64;
 
 // Attends connections by this door, and returns how that ended. The door has the same nonces afterwards.
 fn attend_all<
@@ -55,7 +54,7 @@ fn attend_all<
     requires unmade { front.old.door.made ≡ 0 }
     requires none { front.old.door.retired ≡ [] }
     requires unserved { front.old.served ≡ 0 }
-    requires few { count ≤ 1000000 }
+    requires few { count ≤ MOST_CONNECTIONS }
     requires nonces { service.now.nonces.value ≡ front.old.nonces.now }
     requires net { service.now.net.value ≡ net.old }
     ensures same_reference { front.new.nonces.ghost_name ≡ front.old.nonces.ghost_name }
@@ -96,7 +95,7 @@ fn serve_under<
     requires lock { door.lock ≡ lock.now }
     requires unmade { door.made ≡ 0 }
     requires none { door.retired ≡ [] }
-    requires few { count ≤ 1000000 }
+    requires few { count ≤ MOST_CONNECTIONS }
     ensures lock { result.1.lock ≡ lock.now }
     ensures out { result.1.out ≡ door.out }
     ensures opening { result.1.opening ≡ door.opening }
@@ -149,7 +148,7 @@ fn serve_nine_store<
     requires each { AllByRecursion IsReadEvent store.events }
     requires unsettled { store.checkpoints ≡ [] }
     requires some { 1 ≤ count }
-    requires few { count ≤ 1000000 }
+    requires few { count ≤ MOST_CONNECTIONS }
     ensures gone_on { HasGoneOn D.clock D.left_since D.image D.faults store result.1 }
     ensures grown { IsGrown (AreOfNine (nine_sources_of (C.gives clock.now) L.In.left
         (inputs_of L.In.left (L.queue net.old)) (N.coming nonces.old))) (number_of result.0) count
@@ -191,7 +190,7 @@ pub(crate) fn serve9<
     nonces: &mut N,
 ) -> Ended<D>
     requires some { 1 ≤ count }
-    requires few { count ≤ 1000000 }
+    requires few { count ≤ MOST_CONNECTIONS }
     ensures { (left : Option (List ℕ)) (read_faults : ℕ) (read_broken : Bool) →
         EndsServing (AreOfNine (nine_sources_of (C.gives clock.now) L.In.left
         (inputs_of L.In.left (L.queue net.old)) (N.coming nonces.old))) secrets.now count

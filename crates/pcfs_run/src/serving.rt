@@ -2,6 +2,7 @@
 
 ghost use Rattle.std.specs.Prelude.{◌≡◌, ◌≤◌, [], None};
 ghost use Rattle.std.specs.List.{AllByRecursion};
+ghost use Rattle.command_words.specs.declared.given.TheConstants.{MOST_CONNECTIONS};
 ghost use Rattle.journal_records.specs.EventSpelling.{IsReadEvent};
 ghost use Rattle.pcfs_server.specs.Ends.{number_of};
 ghost use Rattle.session_service.specs.Connections.{AreOfConnections};
@@ -22,7 +23,7 @@ use std::thread::Threads;
 use tree_lock::{Doorman, TreeLock};
 
 /// How many connections are attended at once, at most.
-const AT_ONCE: usize = 64;
+pub const AT_ONCE: usize = 64;
 
 // Attends connections by this door, and returns how that ended. The door has the same nonces afterwards.
 fn attend_all<
@@ -45,7 +46,7 @@ fn attend_all<
     requires unmade { front.old.door.made ≡ 0 }
     requires none { front.old.door.retired ≡ [] }
     requires unserved { front.old.served ≡ 0 }
-    requires few { count ≤ 1000000 }
+    requires few { count ≤ MOST_CONNECTIONS }
     requires nonces { service.now.nonces.value ≡ front.old.nonces.now }
     requires net { service.now.net.value ≡ net.old }
     ensures same_reference { front.new.nonces.ghost_name ≡ front.old.nonces.ghost_name }
@@ -86,7 +87,7 @@ fn serve_under<
     requires lock { door.lock ≡ lock.now }
     requires unmade { door.made ≡ 0 }
     requires none { door.retired ≡ [] }
-    requires few { count ≤ 1000000 }
+    requires few { count ≤ MOST_CONNECTIONS }
     ensures lock { result.1.lock ≡ lock.now }
     ensures out { result.1.out ≡ door.out }
     ensures opening { result.1.opening ≡ door.opening }
@@ -139,7 +140,7 @@ pub fn serve_store<
     requires each { AllByRecursion IsReadEvent store.events }
     requires unsettled { store.checkpoints ≡ [] }
     requires some { 1 ≤ count }
-    requires few { count ≤ 1000000 }
+    requires few { count ≤ MOST_CONNECTIONS }
     ensures gone_on { HasGoneOn D.clock D.left_since D.image D.faults store result.1 }
     ensures grown { IsGrown (AreOfSession (sources_of (C.gives clock.now) L.In.left
         (inputs_of L.In.left (L.queue net.old)) (N.coming nonces.old))) (number_of result.0) count

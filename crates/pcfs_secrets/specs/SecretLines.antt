@@ -3,11 +3,12 @@ use Rattle.std.specs.Prelude.{◌≡◌, ◌≤◌, ℕ, ◌+◌, zero, suc, Lis
 use Rattle.bl_syntax.specs.Names.{is_principal_name}
 use Rattle.line_text.specs.HexWord.{IsHex}
 use Rattle.policy_statement.specs.Ring.{Credential, keyed, rooted, KeyView, IsKnown}
+use Rattle.pcfs_secrets.specs.declared.lines.TheConstants.{MOST_KEY_BYTES}
 
--- the word writes a key in hexadecimal: at most 1,024 bytes
+-- the word writes a key in hexadecimal, which is not too long
 pub record IsKeyWord (word key : List ℕ) : Type 0 where
   pub hex : IsHex word key
-  pub short : length key ≤ 1024
+  pub short : length key ≤ MOST_KEY_BYTES
 
 -- a line with the key of the seal
 pub data IsSealLine : List ℕ → List ℕ → Type 0 where

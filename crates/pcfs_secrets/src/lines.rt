@@ -11,7 +11,7 @@ use policy_statement::{KeyFault, Keyring};
 use std::alloc::Global;
 
 /// The most bytes of a key.
-const MOST_KEY_BYTES: usize = 1024;
+pub const MOST_KEY_BYTES: usize = 1024;
 
 // The key that the word writes.
 fn read_key(alloc: Global, word: &[u8]) -> Result<Option<Bytes>, NoMemory>

@@ -3,7 +3,8 @@
 //!
 //! `serve_conns` returns how it ended and how many connections were attended: what the service's own count rose by. Each
 //! token that the service admitted was attended at most once and has left; and it was attended with the connection of its
-//! number, as that was accepted: so no other input is read under it, and no other output written.
+//! number, as that was accepted: what the service expects of the connection of that number holds of it, as far as the
+//! listener tells its connections.
 #![tactic(auto)]
 
 mod end;

@@ -6,13 +6,16 @@ ghost use Rattle.pcfs_ports.specs.Faults.{HasRisen, raise};
 use pcfs_ports::{Sink, Source};
 use std::alloc::Global;
 use std::sync::Wait;
+use thiserror::Error;
 
 /// Why a connection was not admitted.
-#[derive(Clone, Copy, Debug, PartialEq, Eq)]
+#[derive(Clone, Copy, Debug, PartialEq, Eq, Error)]
 pub enum AdmitFault {
     /// The door failed.
+    #[error("the door failed")]
     Failed,
     /// A growth was refused.
+    #[error("out of memory")]
     NoMemory,
 }
 
@@ -66,8 +69,9 @@ pub trait Service<I: Source, O: Sink> {
     // What no call changes of the door.
     ghost kept: { Self.Door → Self.Kept };
 
-    /// Admits a connection. `Failed` comes only if the door's count of faults rose, by one, by the last call that can fail; at
-    /// each other answer it stands still. At `Ok` the last such call did not fail; at `NoMemory` neither, or none was made.
+    /// Admits a connection. `Failed` comes only if the door's count of faults rose, by one, by the last call that can fail;
+    /// at each other answer it stands still. At `Ok` the last such call did not fail; at `NoMemory` neither, or whether the
+    /// last failed is as before.
     fn admit(&self, alloc: Global, door: &mut Self::Door) -> Result<Self::Token, AdmitFault>
         requires belongs { is_door self.now door.old }
         requires room { 0 < room door.old }

@@ -247,19 +247,18 @@ where
 ///
 /// By the order of the code each connection is attended in a thread of its own, at most `most` at a time: where none can be
 /// started, or `most` is 1, the caller attends it itself, and while as many as `most` are at hand, the next connection is
-/// accepted only after one has ended. Before it returns
-/// it waits until all have ended, so each token has left: as many are out as before, and the number in the end is what the
-/// door's count of tokens that were attended and left rose by.
+/// accepted only after one has ended. Before it returns it waits until all have ended, so each token has left: as many are
+/// out as before, and the number in the end is what the door's count of tokens that were attended and left rose by.
 ///
 /// The tokens have numbers, one after another, and each was attended with the connection of its number, as that was when it
 /// was accepted: with the first that the listener gave, the second, and so on. What the service expects of the connection of
 /// a number has to hold of each that the listener tells; of one that it does not tell it has to hold whatever that is.
 ///
-/// `Done` comes only if `count` were attended or the listener is over and gave all that it tells; at every other end fewer were. `NetFault` comes only if the listener's count of
-/// faults or the door's rose: exactly one call failed, of one of the two, and nothing more was asked of that one. At each
-/// other end no call of either failed. `NoMemory` may come at any time before that. By the order of the code memory that is
-/// refused for a thread is no end, as the caller then attends the connection itself; a connection that was accepted and not
-/// admitted is dropped; and with a `count` of 0 it does not listen.
+/// `Done` comes only if `count` were attended or the listener is over and gave all that it tells; at every other end fewer
+/// were. `NetFault` comes only if the listener's count of faults or the door's rose: exactly one call failed, of one of the
+/// two, and nothing more was asked of that one. At each other end no call of either failed. `NoMemory` may come at any time
+/// before that. By the order of the code memory that is refused for a thread is no end, as the caller then attends the
+/// connection itself; a connection that was accepted and not admitted is dropped; and with a `count` of 0 it does not listen.
 pub fn serve_conns<R: Threads + Wait + Sync, L: Listener, H: Service<L::In, L::Out> + Sync>(
     rt: &R,
     alloc: Global,

@@ -16,6 +16,7 @@ use Rattle.access_history.proofs.FreshLemmas.{IsLawful-fresh}
 use Rattle.access_history.proofs.LawfulLemmas.{IsLawfulBase-lawful}
 use Rattle.access_history.proofs.MayFollowLemmas.{MayFollow-answered}
 use Rattle.access_history.proofs.ReplayLemmas.{count-replay}
+use Rattle.line_forms.proofs.LimitLemmas.{caller_of_line, second_of_line}
 use Rattle.line_forms.specs.declared.command.Command.{Command}
 use Rattle.line_forms.specs.declared.command.Command.TheVariants.{At, As, Register, Withdraw, Procap, Checkpoint, Verify, Check, Do}
 use Rattle.line_forms.specs.Lines.{IsLine}
@@ -30,7 +31,6 @@ use Rattle.pcfs_session.specs.LineAnswer.{authority_under, AnswersCommand, at_on
 use Rattle.pcfs_session.specs.Laws.{GoesLawfullyTo}
 use Rattle.pcfs_session.specs.ScriptRun.{ScriptState, state_of_standing, standing_after, IsLawfulStanding, HasRoom, Becomes, kept, full, stopped, IsReplied, answered, without_memory, ScriptRun, ended, fresh_start}
 use Rattle.pcfs_session.specs.ScriptRun as script
-use Rattle.pcfs_session.proofs.AllowedLemmas.{IsAllowed-line}
 use Rattle.pcfs_session.proofs.FormedLemmas.{IsWellFormed-line}
 
 -- the event, if there is one, may come next; a checkpoint may be made at any time
@@ -54,8 +54,8 @@ answer_follows secrets state asker line command _ _ is_asker base is (decided re
 
 -- who asks after a line still asks at a moment, as a principal
 asker_stays : (asker : ScriptContext) (line : List ℕ) (command : Command) → IsAsker asker → IsLine line command → IsAsker (asker_after asker command)
-asker_stays asker line (At second) is_asker is = record { moment = IsAllowed-line line (At second) is; named = is_asker.named }
-asker_stays asker line (As who) is_asker is = record { moment = is_asker.moment; named = IsAllowed-line line (As who) is }
+asker_stays asker line (At second) is_asker is = record { moment = second_of_line line second is; named = is_asker.named }
+asker_stays asker line (As who) is_asker is = record { moment = is_asker.moment; named = caller_of_line line who is }
 asker_stays asker line (Register signature statement) is_asker is = is_asker
 asker_stays asker line (Withdraw number signature) is_asker is = is_asker
 asker_stays asker line (Procap number) is_asker is = is_asker

@@ -1,4 +1,3 @@
-pub mod AllowedLemmas
 pub mod AnsweredLemmas
 pub mod BroughtLemmas
 pub mod ExactLemmas

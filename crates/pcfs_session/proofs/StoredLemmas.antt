@@ -21,6 +21,7 @@ use Rattle.pcfs_store.specs.declared.reply.CheckpointReply.TheVariants as checkp
 use Rattle.pcfs_store.specs.Checkpoints.{IsFullForCheckpoint, with_checkpoint, place_after, SurvivesMet, MakesCheckpoint, Checkpoints}
 use Rattle.pcfs_store.specs.Checkpoints as makes
 use Rattle.pcfs_store.specs.Entries.{StoreEntry, happened, checkpointed}
+use Rattle.pcfs_store.proofs.CountLemmas.{NoneFailed-same, NoneFailed-on, NoneFailed-step, NoneFailed-checkpoint}
 use Rattle.pcfs_session.specs.Interpreter.{IsFollowed, IsToldOfCheckpoint}
 use Rattle.pcfs_session.specs.LineAnswer as line_answer
 use Rattle.pcfs_session.specs.ScriptContext.{ScriptContext}
@@ -62,7 +63,7 @@ risen_other faults active old other true risen = inl risen
 -- no disk failed in a step that is answered otherwise
 still_runs : {D : Type 0} (faults : D → ℕ) (old new : StoreView D) (pass : ℕ) (clock : ℤ) (request : StepRequest) (reply : StoreReply) → reply ≢ stores.Stopped → Steps faults old pass clock request reply new → new.stop ≡ None
 still_runs faults old _ pass clock request _ going (steps.answered reply is answer) = is
-still_runs faults old _ pass clock request _ going (steps.kept reply event active is answer room) = is
+still_runs faults old _ pass clock request _ going (steps.kept reply event active is answer room stood) = is
 still_runs faults old _ pass clock request _ going (steps.full reply event is answer is_full) = is
 still_runs faults old _ pass clock request _ going (steps.failed reply event active is answer room risen) = absurd (going refl)
 still_runs faults old _ pass clock request _ going (steps.stopped earlier is) = absurd (going refl)
@@ -78,7 +79,7 @@ record StaysInPlace {D : Type 0} (old new : StoreView D) : Type 0 where
 
 stays_in_place : {D : Type 0} (faults : D → ℕ) (old new : StoreView D) (pass : ℕ) (clock : ℤ) (request : StepRequest) (reply : StoreReply) → Steps faults old pass clock request reply new → StaysInPlace old new
 stays_in_place faults old _ pass clock request _ (steps.answered reply is answer) = record { generation = refl; place = refl; other = refl; checkpoints = refl; opened = refl }
-stays_in_place faults old _ pass clock request _ (steps.kept reply event active is answer room) = record { generation = refl; place = refl; other = refl; checkpoints = refl; opened = refl }
+stays_in_place faults old _ pass clock request _ (steps.kept reply event active is answer room stood) = record { generation = refl; place = refl; other = refl; checkpoints = refl; opened = refl }
 stays_in_place faults old _ pass clock request _ (steps.full reply event is answer is_full) = record { generation = refl; place = refl; other = refl; checkpoints = refl; opened = refl }
 stays_in_place faults old _ pass clock request _ (steps.failed reply event active is answer room risen) = record { generation = refl; place = refl; other = refl; checkpoints = refl; opened = refl }
 stays_in_place faults old _ pass clock request _ (steps.stopped earlier is) = record { generation = refl; place = refl; other = refl; checkpoints = refl; opened = refl }
@@ -130,13 +131,14 @@ module _ {D : Type 0} (clock : D → ℕ) (left_since : D → ℕ → List ℕ �
     current = λ is none. s.stays_current is going;
     first_never_falls = s.first_never_falls;
     second_never_falls = s.second_never_falls;
+    none_failed = λ none. NoneFailed-step faults old new asker.pass asker.clock request result s.answer (still_runs faults old new asker.pass asker.clock request result going s.answer);
     failed = λ event same. none_some event same;
   }
 
   -- a step is answered
   decided_step : (old new : StoreView D) (asker : ScriptContext) (request : StepRequest) (reply : StepReply) → Steps faults old asker.pass asker.clock request (stores.Step reply) new → IsDecidedAs request (standing_of (seen old asker) None) (replies.Step reply) (standing_of (seen new asker) None)
   decided_step old _ asker request _ (steps.answered reply running answer) = record { told = reply; event = None; answer = answer; becomes = kept None tt }
-  decided_step old _ asker request _ (steps.kept reply event active running answer room) = record { told = reply; event = Some event; answer = answer; becomes = kept (Some (happened event)) room }
+  decided_step old _ asker request _ (steps.kept reply event active running answer room stood) = record { told = reply; event = Some event; answer = answer; becomes = kept (Some (happened event)) room }
 
   pub LeadsTo-step : (old new : StoreView D) (asker : ScriptContext) (request : StepRequest) (reply : StepReply) → Stepped old asker request (stores.Step reply) new → LeadsTo clock left_since image faults (IsDecidedAs request) (seen old asker) (replies.Step reply) (seen new asker)
   LeadsTo-step old new asker request reply s = record {
@@ -175,6 +177,7 @@ module _ {D : Type 0} (clock : D → ℕ) (left_since : D → ℕ → List ℕ �
       current = λ is_current none. none_some (happened event) (sym none);
       first_never_falls = s.first_never_falls;
       second_never_falls = s.second_never_falls;
+      none_failed = λ none. none_some (happened event) (sym none);
       failed = λ e same. risen_at faults old.active active old.other old.second_active risen;
     };
   }
@@ -212,6 +215,7 @@ module _ {D : Type 0} (clock : D → ℕ) (left_since : D → ℕ → List ℕ �
     current = λ is none. is;
     first_never_falls = omega arith;
     second_never_falls = omega arith;
+    none_failed = λ none. NoneFailed-same faults s;
     failed = λ event same. none_some event same;
   }
 
@@ -230,12 +234,13 @@ module _ {D : Type 0} (clock : D → ℕ) (left_since : D → ℕ → List ℕ �
     current = λ is none. s.stays_current is (λ same. absurd cc);
     first_never_falls = s.first_never_falls;
     second_never_falls = s.second_never_falls;
+    none_failed = λ none. NoneFailed-checkpoint faults old (with_checkpoint old asker.pass active) asker.pass checkpoint_replies.Checkpointed s.answer running;
     failed = λ entry same. none_some entry same;
   }
 
   by_checkpoint : (old new : StoreView D) (asker : ScriptContext) (reply : CheckpointReply) (told : LineReply) → old.stop ≡ None → IsToldOfCheckpoint reply told → Checkpoints clock left_since image faults old asker.pass reply new → MakesCheckpoint faults old asker.pass reply new →
       LeadsTo clock left_since image faults (IsFollowed commands.Checkpoint) (seen old asker) told (seen new asker)
-  by_checkpoint old _ asker _ told running is s (makes.made active goes fits) =
+  by_checkpoint old _ asker _ told running is s (makes.made active goes fits stood) =
       subst (λ (t : LineReply). LeadsTo clock left_since image faults (IsFollowed commands.Checkpoint) (seen old asker) t (seen (with_checkpoint old asker.pass active) asker)) (sym is)
       (record {
         met = None;
@@ -266,6 +271,7 @@ module _ {D : Type 0} (clock : D → ℕ) (left_since : D → ℕ → List ℕ �
           current = λ is_current none. none_some (checkpointed asker.pass) (sym none);
           first_never_falls = s.first_never_falls;
           second_never_falls = s.second_never_falls;
+          none_failed = λ none. none_some (checkpointed asker.pass) (sym none);
           failed = λ e same. risen_other faults old.active old.other other old.second_active risen;
         };
       })
@@ -331,6 +337,7 @@ module _ {D : Type 0} (clock : D → ℕ) (left_since : D → ℕ → List ℕ �
     current = λ is none. other.current (one.current is refl) none;
     first_never_falls = omega (arith, one.first_never_falls, other.first_never_falls);
     second_never_falls = omega (arith, one.second_never_falls, other.second_never_falls);
+    none_failed = λ none. NoneFailed-on faults old mid new (one.none_failed refl) (other.none_failed none);
     failed = λ event same. elim (other.failed event same) [
       | inl first ↦ inl (HasRisen-earlier (faults (first_disk old)) (faults (first_disk mid)) (faults (first_disk new)) one.first_never_falls first)
       | inr second ↦ inr (HasRisen-earlier (faults (second_disk old)) (faults (second_disk mid)) (faults (second_disk new)) one.second_never_falls second)

@@ -1,17 +1,10 @@
 -- What an interpreter does with requests and commands.
-use Rattle.std.specs.Prelude.{◌≡◌, ◌≤◌, length, Option, IsTrue}
-use Rattle.bl_syntax.specs.Names.{is_principal_name}
-use Rattle.bl_syntax.specs.Statement.{IsStatement}
-use Rattle.bl_syntax.specs.TimeOrder.{IsMoment}
-use Rattle.file_world.specs.Effect.{IsOperation}
-use Rattle.file_world.specs.Needs.{slots, bytes_to_write}
+use Rattle.std.specs.Prelude.{◌≡◌, Option}
 use Rattle.journal_records.specs.declared.event.Event.{Event}
 use Rattle.access_history.specs.declared.request.StepRequest.{StepRequest}
 use Rattle.access_history.specs.declared.reply.StepReply.{StepReply}
 use Rattle.access_history.specs.Answer.{Answers}
-use Rattle.bl_syntax.specs.Citable.{AreCitable}
 use Rattle.line_forms.specs.declared.command.Command.{Command}
-use Rattle.line_forms.specs.declared.command.Command.TheVariants.{At, As, Register, Withdraw, Procap, Checkpoint, Verify, Check, Do}
 use Rattle.line_forms.specs.declared.fault.LineFault.{LineFault}
 use Rattle.line_forms.specs.declared.fault.LineFault.TheVariants as line_faults
 use Rattle.line_wire.specs.declared.reply.LineReply.{LineReply}
@@ -19,7 +12,6 @@ use Rattle.line_wire.specs.declared.reply.LineReply.TheVariants as replies
 use Rattle.pcfs_store.specs.declared.reply.StoreReply.{StoreReply}
 use Rattle.pcfs_store.specs.declared.reply.StoreReply.TheVariants as stores
 use Rattle.std.specs.Option.{option_map}
-use Rattle.bl_syntax.specs.declared.limits.TheConstants.{MOST_BYTES_AT_ONCE}
 use Rattle.pcfs_store.specs.declared.reply.CheckpointReply.{CheckpointReply}
 use Rattle.pcfs_store.specs.declared.reply.CheckpointReply.TheVariants as checkpoints
 use Rattle.pcfs_store.specs.Entries.{StoreEntry, happened}
@@ -62,18 +54,3 @@ unread_reply line_faults.NoMemory = replies.NoMemory
 unread_reply (line_faults.BadWord place) = replies.Faulty (line_faults.BadWord place)
 unread_reply line_faults.BadCount = replies.Faulty line_faults.BadCount
 unread_reply (line_faults.BadText fault) = replies.Faulty (line_faults.BadText fault)
-
--- what a line can ask for: a moment for the clock, a principal for the caller, a statement within
--- its rules, numbers that can be cited, and an operation with a procap for each place of its needs
--- and not too many
--- bytes
-abbrev pub IsAllowed : Command → Type 0
-IsAllowed (At second) = IsMoment second
-IsAllowed (As who) = IsTrue (is_principal_name who)
-IsAllowed (Register signature statement) = IsStatement statement
-IsAllowed (Withdraw number signature) = Unit {0}
-IsAllowed (Verify goal numbers proof) = AreCitable numbers
-IsAllowed (Check goal numbers proof) = AreCitable numbers
-IsAllowed (Procap number) = Unit {0}
-IsAllowed Checkpoint = Unit {0}
-IsAllowed (Do op words) = IsOperation op × (length words ≡ slots op) × (bytes_to_write op ≤ MOST_BYTES_AT_ONCE)

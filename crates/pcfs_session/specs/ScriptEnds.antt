@@ -1,7 +1,8 @@
 -- How a script ends that is taken from an input and answered from a start: what was taken and what
--- was written. If the input does not tell what it has, or the output what it holds,
--- nothing is said of that (this project's own).
+-- was written. If the input does not tell what it has, or the output what it holds, nothing is said
+-- of that (this project's own).
 use Rattle.std.specs.Prelude.{◌≡◌, ℕ, List, [], ◌∷◌, ◌++◌, Some, None}
+use Rattle.pcfs_ports.specs.declared.streams.TheConstants.{INPUT_LIMIT}
 use Rattle.pcfs_ports.specs.Faults.{HasRisen}
 use Rattle.pcfs_ports.specs.Observable.{with_back, ReadsToEnd, TakesFirst, HoldsSome}
 use Rattle.line_text.specs.Lines.{lines_of}
@@ -48,8 +49,7 @@ long_line_told = with_line_end (reply_text replies.TooLong)
 
 -- what a script that ends so has to write: the replies to all lines of the input; the replies to
 -- all lines that were taken with their ends, and if the next one is too long, that it is; or the
--- replies to the
--- first lines, of which the last met the fault of a disk
+-- replies to the first lines, of which the last met the fault of a disk
 pub data ScriptWrites (start end : ScriptState) (before after : Streams) : ScriptEnd → List ℕ →
     Type 0 where
   done : (bytes written : List ℕ) → ReadsToEnd before.left after.left bytes → AreShort bytes →
@@ -63,7 +63,7 @@ pub data ScriptWrites (start end : ScriptState) (before after : Streams) : Scrip
       RunsOver start lines end written → end.met ≡ None →
       ScriptWrites start end before after ReadFault written
   input_too_long : (lines : List (List ℕ)) (written : List ℕ) →
-      TakesFirst 1073741824 before.left after.left → AreAllTaken before.left after.left lines →
+      TakesFirst INPUT_LIMIT before.left after.left → AreAllTaken before.left after.left lines →
       RunsOver start lines end written → end.met ≡ None →
       ScriptWrites start end before after InputTooLong written
   stopped : (written : List ℕ) (met : StoreEntry) → IsUnderWay start end before after written →

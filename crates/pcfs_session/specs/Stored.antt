@@ -3,7 +3,7 @@ use Rattle.std.specs.Prelude.{◌≡◌, ◌⊎◌, ℕ, ◌+◌, ◌≤◌, len
 use Rattle.pcfs_ports.specs.Faults.{HasRisen}
 use mathlib.Core.List.{IsPrefix}
 use Rattle.line_wire.specs.declared.reply.LineReply.{LineReply}
-use Rattle.pcfs_store.specs.StoreView.{StoreView, first_disk, second_disk}
+use Rattle.pcfs_store.specs.StoreView.{StoreView, first_disk, second_disk, NoneFailed}
 use Rattle.pcfs_store.specs.Ready.{IsReady, IsCurrent, StopsNow}
 use Rattle.pcfs_store.specs.Checkpoints.{place_after, SurvivesMet}
 use Rattle.pcfs_store.specs.Entries.{StoreEntry, checkpointed}
@@ -22,16 +22,14 @@ IsStopFor (Some pass) (Some entry) = Unit {0}
 
 -- Below, of a disk d `clock d` is the present moment, `left_since d t bytes` says that a crash at
 -- some moment since t may have left these bytes, `image d` is what a read gives, if d tells it, and
--- `faults d`
--- counts its faults.
+-- `faults d` counts its faults.
 module _ {D : Type 0} (clock : D → ℕ) (left_since : D → ℕ → List ℕ → Type 0) (image : D → Option (List ℕ)) (faults : D → ℕ) where
   -- From one moment of a store to a later one, at which a disk has failed for this event or this
   -- checkpoint, if one has. Checkpoints were added at the end: with each the generation grew by
-  -- one, and the disks changed their places; as long as
-  -- none was tried, the other disk is not touched. While no disk has failed, a store that was ready
+  -- one, and the disks changed their places; as long as none was tried, the other disk is not
+  -- touched. While no disk has failed for one, no call of a disk has failed, a store that was ready
   -- is ready, and what a read gives stands for its history. If one has, a count rose; and of a
-  -- store that was ready a crash leaves the history,
-  -- or, if it was for an event, with it the event.
+  -- store that was ready a crash leaves the history, or, if it was for an event, with it the event.
   pub record StoreGoesOn (old new : StoreView D) (met : Option StoreEntry) : Type 0 where
     pub stop_for : IsStopFor new.stop met
     pub opened_stays : new.opened ≡ old.opened
@@ -47,6 +45,7 @@ module _ {D : Type 0} (clock : D → ℕ) (left_since : D → ℕ → List ℕ �
         IsCurrent clock left_since image new
     pub first_never_falls : faults (first_disk old) ≤ faults (first_disk new)
     pub second_never_falls : faults (second_disk old) ≤ faults (second_disk new)
+    pub none_failed : met ≡ None → NoneFailed faults old new
     pub failed : (entry : StoreEntry) → met ≡ Some entry →
         HasRisen (faults (first_disk old)) (faults (first_disk new)) ⊎
         HasRisen (faults (second_disk old)) (faults (second_disk new))

@@ -62,7 +62,8 @@ impl<D: Disk> Interpreter<D> {
     ghost use Rattle.pcfs_session.specs.ScriptRun.{IsLawfulStanding, IsReplied, script_pass};
     ghost use Rattle.pcfs_session.specs.InterpreterView.{standing_of};
     ghost use Rattle.pcfs_session.specs.Stored.{LeadsTo};
-    ghost use Rattle.pcfs_session.specs.Interpreter.{IsDecidedAs, IsFollowed, IsAllowed};
+    ghost use Rattle.line_forms.specs.Said.{IsWithin};
+    ghost use Rattle.pcfs_session.specs.Interpreter.{IsDecidedAs, IsFollowed};
 
     /// An interpreter over this store, where an operator's script begins.
     pub fn over(store: Store<D>) -> Interpreter<D>
@@ -225,7 +226,7 @@ impl<D: Disk> Interpreter<D> {
     fn follow(&mut self, alloc: Global, command: Command) -> Result<LineReply, NoMemory>
         requires running { self.old.store.stop ≡ None }
         requires lawful { IsLawfulStanding (standing_of self.old None) }
-        requires allowed { IsAllowed command }
+        requires within { IsWithin command }
         ensures ok { IfOk result (λ reply. LeadsTo D.clock D.left_since D.image D.faults (IsFollowed command) self.old reply self.new) }
         ensures err { OnErr result (self.new ≡ self.old) }
     {

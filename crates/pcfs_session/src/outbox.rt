@@ -11,13 +11,16 @@ use bl_syntax::Bytes;
 use line_wire::{LineReply, write_reply};
 use pcfs_ports::{Failed, Sink, write_all};
 use std::alloc::Global;
+use thiserror::Error;
 
 /// Why a reply was not sent.
-#[derive(Clone, Copy, Debug, PartialEq, Eq)]
+#[derive(Clone, Copy, Debug, PartialEq, Eq, Error)]
 pub enum SendFault {
     /// The output failed.
+    #[error("the output failed")]
     Write,
     /// There was no memory for its text.
+    #[error("out of memory")]
     NoMemory,
 }
 

@@ -211,9 +211,9 @@ fn read_pieces<D: Disk, I: Source, O: Sink>(
 }
 
 /// Runs the script in the input over the store, as an operator's. The input is taken in pieces, and a line is answered once
-/// it has come; of the input no more is kept than a line and a piece. By the order of the code, and no clause, replies are
-/// written once they have `enough` bytes, and before more is taken. At the end all are out, but after a fault of the output
-/// or of memory, when some first part is.
+/// it has come. By the order of the code, and no clause, no more of the input is kept than a line and a piece, and replies
+/// are written once they have `enough` bytes, and before more is taken. At the end all are out, but after a fault of the
+/// output or of memory, when some first part is.
 ///
 /// Returns how the script ended, and the store.
 pub fn script_session<D: Disk, I: Source, O: Sink>(

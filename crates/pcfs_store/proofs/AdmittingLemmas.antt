@@ -125,7 +125,7 @@ module _ {D : Type 0} (clock : D → ℕ) (left_since : D → ℕ → List ℕ �
           subst (Ends Kept) (sym (kept_is k.0 k.2))
           (ends Kept (with_event before event area_after.disk)
           (was_written clock left_since image faults before event area_after keeping.store k.0.writes k.0 (Admits faults before event) (LeavesAdmitting before event) Stopped Kept unlike running
-          (kept area_after.disk running may k.1) (both_leave may)))
+          (kept area_after.disk running may k.1 k.0.no_fault) (both_leave may)))
         where
           unlike : Kept ≡ Stopped → ⊥
           unlike is = cc

@@ -34,7 +34,7 @@ none_some o pass none some = cc
 -- ---- full
 
 pub full_checkpoint : {D : Type 0} (faults : D → ℕ) (old new : StoreView D) (pass : ℕ) (told : CheckpointReply) → old.stop ≡ None → IsFullForCheckpoint old → MakesCheckpoint faults old pass told new → (told ≡ Full) ⊎ (told ≡ NoMemory)
-full_checkpoint faults old _ pass _ running is_full (made active goes fits) = absurd (fits is_full)
+full_checkpoint faults old _ pass _ running is_full (made active goes fits stood) = absurd (fits is_full)
 full_checkpoint faults old _ pass _ running is_full (full goes over) = inl refl
 full_checkpoint faults old _ pass _ running is_full (failed other goes fits risen) = absurd (fits is_full)
 full_checkpoint faults old _ pass _ running is_full (stopped earlier stop) = absurd (none_some old.stop earlier running stop)
@@ -302,9 +302,9 @@ module _ {D : Type 0} (clock : D → ℕ) (left_since : D → ℕ → List ℕ �
       second_is : one_of old.active disk (not old.second_active) ≡ one_of disk old.active old.second_active
       second_is = exchanged old.second_active old.active disk
 
-      pub was_made : Checkpoints clock left_since image faults old pass Checkpointed new
-      was_made = record {
-        answer = made disk running room;
+      pub was_made : faults disk ≡ faults old.other → Checkpoints clock left_since image faults old pass Checkpointed new
+      was_made stood = record {
+        answer = made disk running room stood;
         stays_ready = λ is_ready _. next_ready is_ready;
         stays_kept = λ keeps. stays keeps;
         stays_current = λ current _. next_current current;

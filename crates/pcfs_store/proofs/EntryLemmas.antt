@@ -237,7 +237,7 @@ module _ {D : Type 0} (faults : D → ℕ) (old : StoreView D) (pass : ℕ) (clo
 
   by : (told : StoreReply) (new : StoreView D) → Steps faults old pass clock request told new → (told ≡ Full) ⊎ (told ≡ NoMemory)
   by _ _ (answered other goes there) = absurd (not_none event (same other None there))
-  by _ _ (kept other found active goes there fits) = absurd (fits (subst (IsFullFor old) (some_event event found (same other (Some found) there)) is_full))
+  by _ _ (kept other found active goes there fits stood) = absurd (fits (subst (IsFullFor old) (some_event event found (same other (Some found) there)) is_full))
   by _ _ (full other found goes there fits) = inl refl
   by _ _ (failed other found active goes there fits risen) = absurd (fits (subst (IsFullFor old) (some_event event found (same other (Some found) there)) is_full))
   by _ _ (stopped earlier stop) = absurd (none_some old.stop earlier running stop)

@@ -7,4 +7,5 @@ pub mod IssueLemmas
 pub mod EndLemmas
 pub mod AdmittingLemmas
 pub mod CheckpointLemmas
+pub mod CountLemmas
 pub mod PlacingLemmas

@@ -81,7 +81,7 @@ module _ {D : Type 0} (clock : D → ℕ) (left_since : D → ℕ → List ℕ �
     made_end =
         subst (Ends Checkpointed) (sym made_is)
         (ends Checkpointed (with_checkpoint before pass area_after.disk)
-        (was_made clock left_since image faults before keeping.store is_image few area_after.disk moved.overwrites pass running moved.now moved.pinned))
+        (was_made clock left_since image faults before keeping.store is_image few area_after.disk moved.overwrites pass running moved.now moved.pinned moved.no_fault))
 
     pub made_keeps : IsKeeping area_after other_after second_after generation_after opened gate checkpoints_after stop
     made_keeps = record {

@@ -225,7 +225,7 @@ module _ {D : Type 0} (clock : D → ℕ) (left_since : D → ℕ → List ℕ �
       pub was_kept : (pass : ℕ) (at : ℤ) (request : StepRequest) (reply : StepReply) → old.stop ≡ None → AnswersIn old pass at request reply (Some event) → (IsFullFor old event → ⊥) →
           Clauses old pass at request (Step reply) (with_event old event after.disk)
       was_kept pass at request reply running answers fits =
-          was_written (Steps faults old pass at request) (LeavesStep old pass at request) Stopped (Step reply) unlike running (kept reply event after.disk running answers fits) (step_leaves pass at request reply answers)
+          was_written (Steps faults old pass at request) (LeavesStep old pass at request) Stopped (Step reply) unlike running (kept reply event after.disk running answers fits written.no_fault) (step_leaves pass at request reply answers)
         where
           unlike : Step reply ≡ Stopped → ⊥
           unlike e = cc

@@ -21,8 +21,9 @@ MayEnter s event = MayComeNext (authority_of_store s) (state_of_store s) event
 
 -- What is answered to the event, and the store after it. Nothing else comes.
 pub data Admits {D : Type 0} (faults : D → ℕ) (old : StoreView D) (event : Event) : Admitted → StoreView D → Type 0 where
-  -- it was kept on the disk, and then here
+  -- it was kept on the disk, no call of which failed, and then here
   kept : (active : D) → old.stop ≡ None → MayEnter old event → (IsFullFor old event → ⊥) →
+      faults active ≡ faults old.active →
       Admits faults old event Kept (with_event old event active)
   -- it may not come next: its first damage
   damaged : (damage : Damage) → old.stop ≡ None →

@@ -46,8 +46,10 @@ SurvivesMet base events (stop_mark pass met) first second = SurvivesWholeClosed 
 
 -- What a checkpoint answers, and the store after it. Nothing else comes.
 pub data MakesCheckpoint {D : Type 0} (faults : D → ℕ) (old : StoreView D) (pass : ℕ) : CheckpointReply → StoreView D → Type 0 where
-  -- the image of the state is on what was the other disk, and the area that counts is there
+  -- the image of the state is on what was the other disk, no call of which failed, and the area
+  -- that counts is there
   made : (active : D) → old.stop ≡ None → (IsFullForCheckpoint old → ⊥) →
+      faults active ≡ faults old.other →
       MakesCheckpoint faults old pass Checkpointed (with_checkpoint old pass active)
   -- it does not fit
   full : old.stop ≡ None → IsFullForCheckpoint old → MakesCheckpoint faults old pass Full old

@@ -21,9 +21,8 @@ pub record Root : Type 0 where
 
 -- An entry: an event, with its pass; a checkpoint, with its pass; or the mark Stop, which ends the
 -- list, with the pass of the step or checkpoint in which a disk failed, and with the event that the
--- step was
--- keeping. Of a store with this mark the disks' counts of faults are those at the mark, since it
--- touches no disk any more.
+-- step was keeping. Of a store with this mark the disks' counts of faults are those at the mark,
+-- since it touches no disk any more.
 pub data StoreEntry : Type 0 where
   happened : Event → StoreEntry
   checkpointed : ℕ → StoreEntry
@@ -72,8 +71,7 @@ bytes_for event = 5 + length (event_spelling event)
 
 -- how many bytes an area has before its closed gate after these entries, if it had `used` at that
 -- state: a record more with each event; and with each checkpoint it is an area of the header and
--- the image of the
--- state alone
+-- the image of the state alone
 abbrev pub used_after : BaseView → ℕ → List StoreEntry → ℕ
 used_after state used [] = used
 used_after state used (happened event ∷ entries) = used_after (next_state state event) (used + bytes_for event) entries

@@ -37,9 +37,10 @@ module _ {D : Type 0} (clock : D → ℕ) (left_since : D → ℕ → List ℕ �
     pub told : is_some (image new.disk) ≡ is_some (image old.disk)
     pub never_falls : faults old.disk ≤ faults new.disk
 
-  -- The record was written.
+  -- The record was written, and no call of the disk failed.
   pub record HasWritten (old new : AreaView D) (event : Event) : Type 0 where
     pub writes : Writes old new event
+    pub no_fault : faults new.disk ≡ faults old.disk
     pub end : new.end ≡ old.end + length (event_spelling event) + 5
     pub rests : (body bytes : List ℕ) → length body ≡ old.end → image old.disk ≡ Some bytes →
         StandsForBody body bytes →

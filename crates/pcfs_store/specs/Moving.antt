@@ -21,12 +21,14 @@ module _ {D : Type 0} (clock : D → ℕ) (left_since : D → ℕ → List ℕ �
     pub told : is_some (image new) ≡ is_some (image old)
     pub never_falls : faults old ≤ faults new
 
-  -- The area has moved: its disk is what was the other one, and the other is what was its own.
+  -- The area has moved: its disk is what was the other one, of which no call failed, and the other
+  -- is what was its own.
   pub record HasMoved (old : AreaView D) (other : D) (generation : ℕ) (bytes : List ℕ) (new : AreaView D) (after : D) : Type 0 where
     pub overwrites : Overwrites other new.disk generation bytes
     pub end : new.end ≡ 24 + length bytes
     pub now : image new.disk ≡ option_map (written 0 (area_bytes generation bytes [] ++ 0 ∷ [])) (image other)
     pub pinned : IsPinned clock left_since image new.disk
+    pub no_fault : faults new.disk ≡ faults other
     pub other_is : after ≡ old.disk
 
   -- The other disk failed.

@@ -25,9 +25,10 @@ pub data Steps {D : Type 0} (faults : D → ℕ) (old : StoreView D) (pass : ℕ
   -- the answer keeps nothing
   answered : (reply : StepReply) → old.stop ≡ None → AnswersIn old pass clock request reply None →
       Steps faults old pass clock request (Step reply) old
-  -- the answer's event was kept on the disk, and then here
+  -- the answer's event was kept on the disk, no call of which failed, and then here
   kept : (reply : StepReply) (event : Event) (active : D) → old.stop ≡ None →
       AnswersIn old pass clock request reply (Some event) → (IsFullFor old event → ⊥) →
+      faults active ≡ faults old.active →
       Steps faults old pass clock request (Step reply) (with_event old event active)
   -- the answer's event does not fit
   full : (reply : StepReply) (event : Event) → old.stop ≡ None →

@@ -17,13 +17,12 @@ use Rattle.pcfs_store.specs.StoredHistory.{AreSpellable, state_after, area_since
 use Rattle.pcfs_store.specs.Newest.{one_of}
 
 -- the disk with the area that counts, and the other one; whether it is the second; the area's
--- generation, and how many bytes stand in it before its closed gate;
--- the key of the seal and the ring of those whose signatures are accepted; the base, the image of
--- it with which the store was opened, and the events since,
--- each with its pass, which is 0 if it was read from an area; the checkpoints that were made of
--- them; and, if a disk failed, the pass of the step or checkpoint in which it did, and, if that was
--- a step, the
--- event that was being kept, of which only the disk knows whether it was
+-- generation, and how many bytes stand in it before its closed gate; the key of the seal and the
+-- ring of those whose signatures are accepted; the base, the image of it with which the store was
+-- opened, and the events since, each with its pass, which is 0 if it was read from an area; the
+-- checkpoints that were made of them; and, if a disk failed, the pass of the step or checkpoint in
+-- which it did, and, if that was a step, the event that was being kept, of which only the disk
+-- knows whether it was
 pub record StoreView (D : Type 0) : Type 0 where
   pub active : D
   pub other : D
@@ -45,6 +44,12 @@ first_disk s = one_of s.active s.other s.second_active
 
 abbrev pub second_disk : {D : Type 0} → StoreView D → D
 second_disk s = one_of s.other s.active s.second_active
+
+-- no call of a disk failed from one moment of the store to a later one: their counts of faults,
+-- which `faults` tells, stand
+pub record NoneFailed {D : Type 0} (faults : D → ℕ) (old new : StoreView D) : Type 0 where
+  pub first : faults (first_disk new) ≡ faults (first_disk old)
+  pub second : faults (second_disk new) ≡ faults (second_disk old)
 
 abbrev pub authority_of_store : {D : Type 0} → StoreView D → Authority
 authority_of_store s = authority_with s.key s.ring

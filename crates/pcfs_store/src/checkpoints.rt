@@ -17,8 +17,8 @@ pub struct Checkpoint {
     pub pass: u64,
 }
 
-/// Moves an area to the other disk, with this image and no records, and adds the checkpoint; or leaves both as they are.
-/// All memory is taken before the first write.
+/// Moves an area to the other disk, with this image and no records, and adds the checkpoint; or leaves both as they are. By
+/// the order of the code all memory is taken before the first write.
 pub fn move_area<D: Disk>(
     alloc: Global,
     area: &mut Area<D>,

@@ -18,15 +18,19 @@ use op_gate::Gate;
 use pcfs_ports::{Disk, Failed};
 use policy_statement::Keyring;
 use std::alloc::Global;
+use thiserror::Error;
 
 /// Why no store was made.
-#[derive(Clone, Copy, Debug, PartialEq, Eq)]
+#[derive(Clone, Copy, Debug, PartialEq, Eq, Error)]
 pub enum FormatFault {
     /// The area of one of the disks is open.
+    #[error("the area of one of the disks is open")]
     AlreadyStore,
     /// A disk failed.
+    #[error("a disk failed")]
     Disk,
     /// A growth was refused.
+    #[error("out of memory")]
     NoMemory,
 }
 
@@ -41,7 +45,9 @@ fn sync_both<D: Disk>(a: &mut D, b: &mut D) -> Result<(), Failed>
     ensures b_told { is_some (D.image b.new) ≡ is_some (D.image b.old) }
     ensures b_time { Idles D.clock D.left_since b.old b.new }
     ensures risen { OnErr result (HasRisen (D.faults a.old) (D.faults a.new) ⊎ HasRisen (D.faults b.old) (D.faults b.new)) }
+    ensures a_no_fault { OnOk result (D.faults a.new ≡ D.faults a.old) }
     ensures a_never_falls { D.faults a.old ≤ D.faults a.new }
+    ensures b_no_fault { OnOk result (D.faults b.new ≡ D.faults b.old) }
     ensures b_never_falls { D.faults b.old ≤ D.faults b.new }
 {
     a.sync()?;
@@ -60,7 +66,9 @@ fn peek_both<D: Disk>(a: &mut D, b: &mut D) -> Result<bool, Failed>
     ensures b_told { is_some (D.image b.new) ≡ is_some (D.image b.old) }
     ensures b_time { Idles D.clock D.left_since b.old b.new }
     ensures risen { OnErr result (HasRisen (D.faults a.old) (D.faults a.new) ⊎ HasRisen (D.faults b.old) (D.faults b.new)) }
+    ensures a_no_fault { OnOk result (D.faults a.new ≡ D.faults a.old) }
     ensures a_never_falls { D.faults a.old ≤ D.faults a.new }
+    ensures b_no_fault { OnOk result (D.faults b.new ≡ D.faults b.old) }
     ensures b_never_falls { D.faults b.old ≤ D.faults b.new }
 {
     let first = peek(a)?;
@@ -84,7 +92,9 @@ fn is_either_open<D: Disk>(a: &mut D, b: &mut D) -> Result<bool, Failed>
     ensures b_told { is_some (D.image b.new) ≡ is_some (D.image b.old) }
     ensures b_time { Idles D.clock D.left_since b.old b.new }
     ensures risen { OnErr result (HasRisen (D.faults a.old) (D.faults a.new) ⊎ HasRisen (D.faults b.old) (D.faults b.new)) }
+    ensures a_no_fault { OnOk result (D.faults a.new ≡ D.faults a.old) }
     ensures a_never_falls { D.faults a.old ≤ D.faults a.new }
+    ensures b_no_fault { OnOk result (D.faults b.new ≡ D.faults b.old) }
     ensures b_never_falls { D.faults b.old ≤ D.faults b.new }
 {
     sync_both(a, b)?;
@@ -125,6 +135,7 @@ fn format_first<D: Disk>(
         (λ s. LeavesOnly D.clock D.left_since a s.active (IsOldOrShutOrNew first (area_bytes 1 fresh_image [])))
         (λ e. LeavesOnly D.clock D.left_since a e.1 (IsOldOrShutOrNew first (area_bytes 1 fresh_image []))) }
     ensures told { MatchResult result (λ s. is_some (D.image s.active) ≡ is_some (D.image a)) (λ e. is_some (D.image e.1) ≡ is_some (D.image a)) }
+    ensures no_fault { MatchResult result (λ s. D.faults s.active ≡ D.faults a) (λ e. e.0 ≢ FormatFault.Disk → D.faults e.1 ≡ D.faults a) }
     ensures risen { IfErr result (λ e. e.0 ≡ FormatFault.Disk → HasRisen (D.faults a) (D.faults e.1)) }
     ensures never_falls { MatchResult result (λ s. D.faults a ≤ D.faults s.active) (λ e. D.faults a ≤ D.faults e.1) }
 {
@@ -138,7 +149,7 @@ fn format_first<D: Disk>(
 /// synced first. Procaps will be sealed under the key, and the signatures accepted that the ring accepts.
 ///
 /// `AlreadyStore` is returned exactly if either area is open, and `Disk` only if a disk's count of faults rose. After
-/// `AlreadyStore` and `NoMemory` the bytes are as they were.
+/// `AlreadyStore` and `NoMemory` the bytes are as they were; then, and if a store is made, no call of a disk failed.
 pub fn format_store<D: Disk>(
     alloc: Global,
     a: D,
@@ -153,6 +164,8 @@ pub fn format_store<D: Disk>(
         IsShut first × IsShut second → ⊥) }
     ensures same { IfErr result (λ e. e.0 ≢ FormatFault.Disk → (D.image e.1 ≡ D.image a) × (D.image e.2 ≡ D.image b)) }
     ensures b_same { IfOk result (λ s. D.image s.other ≡ D.image b) }
+    ensures a_no_fault { MatchResult result (λ s. D.faults s.active ≡ D.faults a) (λ e. e.0 ≢ FormatFault.Disk → D.faults e.1 ≡ D.faults a) }
+    ensures b_no_fault { MatchResult result (λ s. D.faults s.other ≡ D.faults b) (λ e. e.0 ≢ FormatFault.Disk → D.faults e.2 ≡ D.faults b) }
     ensures risen { IfErr result (λ e. e.0 ≡ FormatFault.Disk → HasRisen (D.faults a) (D.faults e.1) ⊎ HasRisen (D.faults b) (D.faults e.2)) }
     ensures a_told { MatchResult result (λ s. is_some (D.image s.active) ≡ is_some (D.image a)) (λ e. is_some (D.image e.1) ≡ is_some (D.image a)) }
     ensures b_told { MatchResult result (λ s. is_some (D.image s.other) ≡ is_some (D.image b)) (λ e. is_some (D.image e.2) ≡ is_some (D.image b)) }

@@ -93,9 +93,9 @@ fn append_pending<D: Disk>(alloc: Global, area: &mut Area<D>, gate: &Gate) -> Re
     }
 }
 
-/// Keeps the pending event on the disk and then in the history, or forgets it. `AreaFull` is returned exactly if it does
-/// not fit, and `Disk` only if the disk failed: the event is pending still, since only the disk knows whether it has it.
-/// All memory is taken before the first write.
+/// Keeps the pending event on the disk and then in the history, or forgets it. `AreaFull` is returned exactly if it does not
+/// fit, and `Disk` only if the disk failed: the event is pending still, since only the disk knows whether it has it. By the
+/// order of the code all memory is taken before the first write.
 pub fn keep_pending<D: Disk>(
     alloc: Global,
     area: &mut Area<D>,

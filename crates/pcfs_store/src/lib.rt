@@ -1,10 +1,10 @@
 //! The store: a history that survives the loss of power, on two disks.
 //!
-//! A step answers by the definition of answers, and what it keeps is on the disk before the answer is returned.
-//! Whenever a crash comes, the newest of the two areas stands for the history as it was, or for that and the one event
-//! that was being kept. An event that came from outside is kept likewise, if it may come next. A checkpoint writes the image of the state on the other disk, which counts from then on, and
-//! leaves the history as it is, also if a crash comes within it. After a fault of a disk a store is stopped, and touches
-//! no disk any more.
+//! A step answers by the definition of answers, and what it keeps is on the disk before the answer is returned. Whenever a
+//! crash comes, the newest of the two areas stands for the history as it was, or for that and the one event that was being
+//! kept. An event that came from outside is kept likewise, if it may come next. A checkpoint writes the image of the state on
+//! the other disk, which counts from then on, and leaves the history as it is, also if a crash comes within it. After a fault
+//! of a disk a store is stopped, and touches no disk any more.
 #![tactic(auto)]
 
 mod areas;

@@ -23,7 +23,7 @@ use std::alloc::Global;
 use std::marker::Model;
 
 /// A history on two disks: its area is on the one of them that counts, which is closed at every moment, and the history is
-/// in memory too. A step of it costs, beside its decision, two syncs if it keeps an event.
+/// in memory too. By the order of the code a step costs, beside its decision, two syncs if it keeps an event.
 #[derive(Drop)]
 pub struct Store<D: Disk> {
     active: Area<D>,
@@ -122,8 +122,8 @@ impl<D: Disk> Store<D> {
         self.stop.is_some()
     }
 
-    /// The gate, with the history. If a disk failed in a step, the event that the step was keeping is pending; otherwise
-    /// nothing is.
+    /// The gate, with the history. If a disk failed in a step, the event that the step was keeping is pending. That nothing
+    /// else is has no clause.
     pub fn gate(&self) -> &Gate
         ensures { result.now ≡ record { key = self.now.key; ring = self.now.ring; base = self.now.base; events = self.now.events; pending = self.now.met } }
     {
@@ -148,7 +148,7 @@ impl<D: Disk> Store<D> {
     ///
     /// `Full` comes exactly if the answer's event does not fit. `Stopped` comes if a disk failed in an earlier step, and then
     /// no disk is touched; or if it fails in this one, and only if its count of faults rose. After these and `NoMemory` the
-    /// history is as it was, and after `Full` and `NoMemory` so are the disks.
+    /// history is as it was, and after `Full` and `NoMemory` so are the disks. If an event is kept, no call of the disk failed.
     pub fn step(&mut self, alloc: Global, pass: u64, request: StepRequest, clock: i64) -> StoreReply
         requires in_range { IsMoment clock }
         requires well_formed { IsWellFormed request }
@@ -265,8 +265,8 @@ impl<D: Disk> Store<D> {
     }
 
     /// Makes a checkpoint: the image of the state is written on the disk that does not count, under the next generation, and
-    /// from then on that disk counts, and the records of later events follow this image. The history stays as it is. All
-    /// memory is taken before the first of the six calls of that disk.
+    /// from then on that disk counts, and the records of later events follow this image. The history stays as it is. By the
+    /// order of the code all memory is taken before the first of the six calls of that disk.
     ///
     /// `Full` comes exactly if the image does not fit or there is no next generation. `Stopped` comes if a disk failed
     /// earlier, and then no disk is touched; or if the other disk fails now, and only if its count of faults rose. After

@@ -61,9 +61,9 @@ fn write_end<O: Sink>(output: &mut O, end: ScriptEnd) -> u8
     }
 }
 
-/// Runs the script in the input over the store, and returns the status to end with, and the store. Replies are written
-/// once they have `enough` bytes, and before more of the input is taken. Nothing is read after a read that failed, and nothing
-/// written after a write that failed.
+/// Runs the script in the input over the store, and returns the status to end with, and the store. By the order of the code
+/// replies are written once they have `enough` bytes, and before more of the input is taken. Nothing is read after a read
+/// that failed, and nothing written after a write that failed.
 pub fn run_over<D: Disk, I: Source, O: Sink>(
     alloc: Global,
     store: Store<D>,

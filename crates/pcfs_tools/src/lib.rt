@@ -10,6 +10,7 @@ mod auditing;
 mod inquiring;
 mod loading;
 mod memory;
+mod plain_disk;
 mod signing;
 mod stating;
 

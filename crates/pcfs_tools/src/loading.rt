@@ -1,6 +1,7 @@
 //! A large run: a generated script over a store in memory, and how many replies of each kind it had.
 
 ghost use Rattle.std.specs.Prelude.{◌≡◌, ◌≤◌, ◌<◌, ◌+◌, ◌-◌, ◌^◌, ◌++◌, ◌⊎◌, [], ℕ, List, None, IfOk, OnOk, length, if◌then◌else◌};
+ghost use Rattle.generated_script.specs.declared.script.TheConstants.{MOST_ROUNDS};
 ghost use Rattle.line_text.specs.Lines.{lines_of};
 ghost use Rattle.pcfs_session.specs.ScriptContext.{first_asker};
 ghost use Rattle.pcfs_session.specs.InterpreterView.{standing_over};
@@ -171,7 +172,7 @@ fn run_script<D: Disk + Drop>(
 
 // Runs the generated script over a store in memory, and returns the line that tells of it.
 fn run_generated(alloc: Global, rounds: u64, seed: u64) -> Result<Bytes, NoMemory>
-    requires { rounds ≤ 20000 }
+    requires { rounds ≤ MOST_ROUNDS }
     ensures { IfOk result (λ line. (told : List ℕ) × (line ≡ with_line_end told) × IsLoaded rounds seed told) }
 {
     let script = generated_script(alloc, rounds, seed)?;
@@ -185,7 +186,7 @@ fn run_generated(alloc: Global, rounds: u64, seed: u64) -> Result<Bytes, NoMemor
 /// Runs the script that so many rounds and this seed generate over a store in memory, writes how many replies of each kind
 /// it had, and returns the status to end with.
 pub fn load<O: Sink>(alloc: Global, rounds: u64, seed: u64, output: &mut O) -> u8
-    requires { rounds ≤ 20000 }
+    requires { rounds ≤ MOST_ROUNDS }
     ensures { ((told : List ℕ) × IsLoaded rounds seed told × Wrote 0 told (O.held output.old)
         (O.faults output.old) result (O.held output.new) (O.faults output.new) (O.broken output.new))
         ⊎ WroteNothing (O.held output.old) (O.faults output.old) result (O.held output.new) (O.faults output.new) }

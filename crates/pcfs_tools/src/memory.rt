@@ -7,21 +7,23 @@ ghost use Rattle.pcfs_tools.specs.Memory.{MemoryEnds};
 ghost use Rattle.pcfs_session.specs.Streams.{streams_of};
 
 use crate::answering::{DISK_FAULT, OUT_OF_MEMORY, run_over};
-use bl_syntax::{Bytes, NoMemory, Numbers};
-use pcfs_ports::{MemoryDisk, Sink, Source};
+use crate::plain_disk::PlainDisk;
+use bl_syntax::NoMemory;
+use pcfs_ports::{Sink, Source};
 use pcfs_secrets::Secrets;
 use pcfs_store::{Store, format_store};
 use std::alloc::Global;
 
-/// Replies of a script in memory are written once they have this many bytes or more, and before more of the input is taken.
+/// By the order of the code replies of a script in memory are written once they have this many bytes or more, and before more
+/// of the input is taken.
 pub const ENOUGH: usize = 65_536;
 
 /// A store before its first event on disks in memory.
-pub fn memory_store(alloc: Global, secrets: &Secrets) -> Result<Store<MemoryDisk>, NoMemory>
+pub fn memory_store(alloc: Global, secrets: &Secrets) -> Result<Store<PlainDisk>, NoMemory>
     ensures { IfOk result (IsNewStore secrets.now.seal_key secrets.now.ring) }
 {
-    let a = MemoryDisk::new(alloc, Bytes::new(alloc), Numbers::new(alloc))?;
-    let b = MemoryDisk::new(alloc, Bytes::new(alloc), Numbers::new(alloc))?;
+    let a = PlainDisk::new(alloc);
+    let b = PlainDisk::new(alloc);
     let ring = secrets.ring.copy(alloc)?;
     match format_store(alloc, a, b, secrets.seal_key.as_slice(), ring) {
         Ok(store) => Ok(store),

@@ -1,6 +1,7 @@
 //! The table of modes in an input, and the lines that register its statements.
 
 ghost use Rattle.std.specs.Prelude.{◌≤◌};
+ghost use Rattle.pcfs_modes.specs.declared.answering.TheConstants.{LAST_SECOND};
 ghost use Rattle.pcfs_tools.specs.Broken.{broken_of};
 ghost use Rattle.pcfs_tools.specs.Stated.{TellsModes};
 ghost use Rattle.pcfs_session.specs.Streams.{streams_of};
@@ -19,8 +20,8 @@ pub fn state_table<I: Source, O: Sink>(
     input: &mut I,
     output: &mut O,
 ) -> u8
-    requires from { from ≤ 253402300799 }
-    requires to { to ≤ 253402300799 }
+    requires from { from ≤ LAST_SECOND }
+    requires to { to ≤ LAST_SECOND }
     ensures { TellsModes from to
         (streams_of I.left I.faults O.held O.faults input.old output.old)
         (streams_of I.left I.faults O.held O.faults input.new output.new)

@@ -18,7 +18,7 @@ use Rattle.pcfs_store.specs.Image.{fresh_image}
 use Rattle.pcfs_store.specs.StoredHistory.{area_since, payloads_of, state_after}
 use Rattle.pcfs_store.specs.Entries.{StoreEntry}
 use Rattle.pcfs_store.specs.Newest.{newer, newest, one_of}
-use Rattle.pcfs_store.specs.StoreView.{StoreView, first_disk, second_disk, IsStore, body_of, head_of, image_since, image_of, last_after, records_of, settled_of, state_of_store}
+use Rattle.pcfs_store.specs.StoreView.{StoreView, first_disk, second_disk, NoneFailed, IsStore, body_of, head_of, image_since, image_of, last_after, records_of, settled_of, state_of_store}
 use Rattle.pcfs_store.specs.Ready.{IsReady, IsCurrent, IsBehind}
 use Rattle.pcfs_store.specs.declared.format.FormatFault.{FormatFault}
 use Rattle.pcfs_store.specs.declared.format.FormatFault.TheVariants as formats
@@ -27,6 +27,7 @@ use Rattle.pcfs_store.specs.declared.reply.CheckpointReply.{CheckpointReply}
 use Rattle.pcfs_store.specs.declared.reply.CheckpointReply.TheVariants as checkpoints
 use Rattle.pcfs_store.specs.Checkpoints.{Checkpoints, IsFullForCheckpoint, IsNewestCheckpoint, MakesCheckpoint, place_after}
 use Rattle.pcfs_store.specs.Checkpoints as makes
+use Rattle.pcfs_store.proofs.CountLemmas.{NoneFailed-checkpoint}
 use Rattle.pcfs_store.proofs.SurvivalLemmas.{at_some, told_pairs, tellable_store, generation_since, newest_active, ready_current, current_stands}
 use Rattle.recover.specs.declared.fault.OpenFault.{OpenFault}
 use Rattle.recover.specs.declared.fault.OpenFault.TheVariants as opens
@@ -48,7 +49,7 @@ use Rattle.pcfs_tools.specs.LastLine.{Wrote, WroteNothing}
 use Rattle.pcfs_tools.specs.Load.{IsLoaded}
 use Rattle.pcfs_tools.specs.ScriptStatus.{AnswersInput}
 use Rattle.pcfs_tools.proofs.MemoryLemmas.{secrets_of}
-use Rattle.pcfs_top.specs.Ports.{Disks, Ports, Rests, AreBytesKept, IsInputKept, IfTold}
+use Rattle.pcfs_top.specs.Ports.{Disks, Ports, Rests, NoDiskFailed, AreBytesKept, AreDisksKept, IsInputKept, IfTold}
 use Rattle.pcfs_top.specs.Run.{AreOfStore, of_script, of_checkpoint, of_follow, HasNoArea, IsNotLost, IsOpened, IsNewestOf, IsNewestImage, NewestStays, Returns, HasCause, EndsWith, TellsCheckpoint, TellsUnopened, TellsUnmade, damaged_text}
 use Rattle.pcfs_top.specs.Run as run
 use Rattle.pcfs_session.specs.ScriptRun.{IsLawfulStanding, script_pass}
@@ -229,14 +230,19 @@ module _ {D : Type 0} (clock : D → ℕ) (left_since : D → ℕ → List ℕ �
 
     pub EndsWith-made : (before after : Streams) (broken broken' : Broken) (result : ℕ) (s : StoreView D) (a' b' : D) → IsNewStore secrets.seal_key secrets.ring s →
         ((first second : List ℕ) → image a ≡ Some first → image b ≡ Some second → IsReady clock left_since image s) → ((first second : List ℕ) → image a ≡ Some first → image b ≡ Some second → IsShut first × IsShut second) → image s.other ≡ image b →
+        faults s.active ≡ faults a → faults s.other ≡ faults b →
         a' ≡ first_disk s → b' ≡ second_disk s → IsInputKept before after → Wrote 0 (codes "ok") before.held before.write_faults result after.held after.write_faults broken'.output →
         EndsWith secrets words (rests_of a b a' b') (record { streams = before; broken = broken; disks = disks_of a b }) (record { streams = after; broken = broken'; disks = disks_of a' b' }) result
-    EndsWith-made before after broken broken' result s a' b' new ready shut b_same a_is b_is input tells =
+    EndsWith-made before after broken broken' result s a' b' new ready shut b_same a_stood b_stood a_is b_is input tells =
         told_as words secrets (rests_of a b a' b') (record { streams = before; broken = broken; disks = disks_of a b }) (record { streams = after; broken = broken'; disks = disks_of a' b' }) 0 (codes "ok") result
-        (run.made is (λ x y is_x is_y. (shut x y is_x is_y, (pinned_at s a' b' a_is b_is (ready x y is_x is_y), has_area s a' new a_is (ready x y is_x is_y)))) (ap image (b_is ∙ on_second s new.on_first) ∙ b_same)) input tells
+        (run.made is (λ x y is_x is_y. (shut x y is_x is_y, (pinned_at s a' b' a_is b_is (ready x y is_x is_y), has_area s a' new a_is (ready x y is_x is_y)))) (ap image (b_is ∙ on_second s new.on_first) ∙ b_same)
+        (record { a_stands = ap faults (a_is ∙ on_first s new.on_first) ∙ a_stood; b_stands = ap faults (b_is ∙ on_second s new.on_first) ∙ b_stood })) input tells
 
     kept : (a' b' : D) → (image a' ≡ image a) × (image b' ≡ image b) → AreBytesKept (disks_of a b) (disks_of a' b')
     kept a' b' same = record { a_stays = same.0; b_stays = same.1 }
+
+    all_kept : (a' b' : D) → (image a' ≡ image a) × (image b' ≡ image b) → faults a' ≡ faults a → faults b' ≡ faults b → AreDisksKept (disks_of a b) (disks_of a' b')
+    all_kept a' b' same a_stood b_stood = record { bytes = kept a' b' same; none_failed = record { a_stands = a_stood; b_stands = b_stood } }
 
     -- what is left of the disks after a fault
     pub not_lost : (laws : DiskLaws) (a' b' : D) → ((first second : List ℕ) → image a ≡ Some first → image b ≡ Some second → (IsShut first × IsShut second → ⊥) → IsPinned clock left_since image a → IsPinned clock left_since image b → (image a' ≡ image a) × (image b' ≡ image b)) →
@@ -253,16 +259,17 @@ module _ {D : Type 0} (clock : D → ℕ) (left_since : D → ℕ → List ℕ �
 
     pub EndsWith-unmade : (before after : Streams) (broken broken' : Broken) (result : ℕ) (fault : FormatFault) (a' b' : D) →
         (fault ≡ formats.AlreadyStore → (first second : List ℕ) → image a ≡ Some first → image b ≡ Some second → IsShut first × IsShut second → ⊥) → ((fault ≡ formats.Disk → ⊥) → (image a' ≡ image a) × (image b' ≡ image b)) →
+        ((fault ≡ formats.Disk → ⊥) → faults a' ≡ faults a) → ((fault ≡ formats.Disk → ⊥) → faults b' ≡ faults b) →
         (fault ≡ formats.Disk → HasRisen (faults a) (faults a') ⊎ HasRisen (faults b) (faults b')) → (AtRest a b → IsNotLost (disks_of a b) (disks_of a' b')) → IsInputKept before after →
         TellsUnmade fault before.held before.write_faults result after.held after.write_faults broken'.output →
         EndsWith secrets words (rests_of a b a' b') (record { streams = before; broken = broken; disks = disks_of a b }) (record { streams = after; broken = broken'; disks = disks_of a' b' }) result
-    EndsWith-unmade before after broken broken' result formats.AlreadyStore a' b' already same risen lost input tells =
+    EndsWith-unmade before after broken broken' result formats.AlreadyStore a' b' already same a_stood b_stood risen lost input tells =
         told_as words secrets (rests_of a b a' b') (record { streams = before; broken = broken; disks = disks_of a b }) (record { streams = after; broken = broken'; disks = disks_of a' b' }) 10 (codes "exists") result
-        (run.exists is (λ x y is_x is_y. already refl x y is_x is_y) (kept a' b' (same (λ e. absurd cc)))) input tells
-    EndsWith-unmade before after broken broken' result formats.Disk a' b' already same risen lost input tells =
+        (run.exists is (λ x y is_x is_y. already refl x y is_x is_y) (all_kept a' b' (same (λ e. absurd cc)) (a_stood (λ e. absurd cc)) (b_stood (λ e. absurd cc)))) input tells
+    EndsWith-unmade before after broken broken' result formats.Disk a' b' already same a_stood b_stood risen lost input tells =
         told_as words secrets (rests_of a b a' b') (record { streams = before; broken = broken; disks = disks_of a b }) (record { streams = after; broken = broken'; disks = disks_of a' b' }) 5 (codes "stopped") result (run.not_made is (risen refl) lost) input tells
-    EndsWith-unmade before after broken broken' result formats.NoMemory a' b' already same risen lost input tells =
-        untold_as words secrets (rests_of a b a' b') (record { streams = before; broken = broken; disks = disks_of a b }) (record { streams = after; broken = broken'; disks = disks_of a' b' }) result (run.in_init is (kept a' b' (same (λ e. absurd cc)))) input tells
+    EndsWith-unmade before after broken broken' result formats.NoMemory a' b' already same a_stood b_stood risen lost input tells =
+        untold_as words secrets (rests_of a b a' b') (record { streams = before; broken = broken; disks = disks_of a b }) (record { streams = after; broken = broken'; disks = disks_of a' b' }) result (run.in_init is (all_kept a' b' (same (λ e. absurd cc)) (a_stood (λ e. absurd cc)) (b_stood (λ e. absurd cc)))) input tells
 
     -- memory ran out at first
     pub EndsWith-unbegun : (before after : Streams) (broken broken' : Broken) → IsInputKept before after → after.held ≡ before.held → after.write_faults ≡ before.write_faults → EndsWith secrets words (rests_of a b a b) (record { streams = before; broken = broken; disks = disks_of a b }) (record { streams = after; broken = broken'; disks = disks_of a b }) 9
@@ -276,6 +283,17 @@ module _ {D : Type 0} (clock : D → ℕ) (left_since : D → ℕ → List ℕ �
       HasRisen (faults a) (faults (first_disk s')) ⊎ HasRisen (faults b) (faults (second_disk s'))
   risen_since secrets a b s s' opened (inl risen) = inl (HasRisen-earlier (faults a) (faults (first_disk s)) (faults (first_disk s')) opened.first_read.handled.never_falls risen)
   risen_since secrets a b s s' opened (inr risen) = inr (HasRisen-earlier (faults b) (faults (second_disk s)) (faults (second_disk s')) opened.second_read.handled.never_falls risen)
+
+  -- if no call of a disk failed since then, none did since the start
+  pub none_failed_since : (secrets : Secrets) (a b : D) (s s' : StoreView D) → opening.IsOpened clock left_since image faults a b secrets.seal_key secrets.ring s → NoneFailed faults s s' → NoDiskFailed (disks_of a b) (disks_of (first_disk s') (second_disk s'))
+  none_failed_since secrets a b s s' opened none = record { a_stands = none.first ∙ opened.first_read.no_fault; b_stands = none.second ∙ opened.second_read.no_fault }
+
+  -- a store that was only read
+  kept_since : (secrets : Secrets) (a b : D) (s : StoreView D) (a' b' : D) → opening.IsOpened clock left_since image faults a b secrets.seal_key secrets.ring s → a' ≡ first_disk s → b' ≡ second_disk s → AreDisksKept (disks_of a b) (disks_of a' b')
+  kept_since secrets a b s a' b' opened a_is b_is = record {
+    bytes = record { a_stays = ap image a_is ∙ opened.first_read.same; b_stays = ap image b_is ∙ opened.second_read.same };
+    none_failed = record { a_stands = ap faults a_is ∙ opened.first_read.no_fault; b_stands = ap faults b_is ∙ opened.second_read.no_fault };
+  }
 
   -- the disk that does not count is the same while no checkpoint exchanges the two
   pub other_is : (secrets : Secrets) (a b : D) (s s' : StoreView D) → opening.IsOpened clock left_since image faults a b secrets.seal_key secrets.ring s → s'.other ≡ s.other → s'.second_active ≡ s.second_active →
@@ -292,24 +310,27 @@ module _ {D : Type 0} (clock : D → ℕ) (left_since : D → ℕ → List ℕ �
       (subst (λ (r : List KeyView). IsLawful (authority_with secrets.seal_key r) s.base s.events) (sym opened.ring_is) opened.lawful))
 
   module _ (words : List (String Global)) (secrets : Secrets) (a b : D) (over : AreOfStore words) where
-    same_bytes : (fault : OpenFault) (a' b' : D) → (fault ≡ opens.Disk → ⊥) → IsNotOpened clock left_since image faults a b (authority_with secrets.seal_key secrets.ring) fault a' b' → AreBytesKept (disks_of a b) (disks_of a' b')
-    same_bytes fault a' b' not_disk n = record { a_stays = n.first_same not_disk; b_stays = n.second_same not_disk }
+    same_disks : (fault : OpenFault) (a' b' : D) → (fault ≡ opens.Disk → ⊥) → IsNotOpened clock left_since image faults a b (authority_with secrets.seal_key secrets.ring) fault a' b' → AreDisksKept (disks_of a b) (disks_of a' b')
+    same_disks fault a' b' not_disk n = record {
+      bytes = record { a_stays = n.first_same not_disk; b_stays = n.second_same not_disk };
+      none_failed = record { a_stands = n.first_no_fault not_disk; b_stands = n.second_no_fault not_disk };
+    }
 
     pub EndsWith-unopened : (before after : Streams) (broken broken' : Broken) (result : ℕ) (fault : OpenFault) (a' b' : D) → IsNotOpened clock left_since image faults a b (authority_with secrets.seal_key secrets.ring) fault a' b' → IsInputKept before after → TellsUnopened fault before.held before.write_faults result after.held after.write_faults broken'.output →
         EndsWith secrets words (rests_of a b a' b') (record { streams = before; broken = broken; disks = disks_of a b }) (record { streams = after; broken = broken'; disks = disks_of a' b' }) result
     EndsWith-unopened before after broken broken' result opens.NoStore a' b' n input tells =
         told_as words secrets (rests_of a b a' b') (record { streams = before; broken = broken; disks = disks_of a b }) (record { streams = after; broken = broken'; disks = disks_of a' b' }) 4 (codes "nostore") result
-        (run.no_store over (λ x y is_x is_y. has_no_area x y (n.cause x y is_x is_y)) (same_bytes opens.NoStore a' b' (λ e. absurd cc) n)) input tells
+        (run.no_store over (λ x y is_x is_y. has_no_area x y (n.cause x y is_x is_y)) (same_disks opens.NoStore a' b' (λ e. absurd cc) n)) input tells
     EndsWith-unopened before after broken broken' result (opens.Damaged number damage) a' b' n input (inl tells) =
         told_as words secrets (rests_of a b a' b') (record { streams = before; broken = broken; disks = disks_of a b }) (record { streams = after; broken = broken'; disks = disks_of a' b' }) 3 (damaged_text number damage) result
-        (run.damaged number damage over n.cause (same_bytes (opens.Damaged number damage) a' b' (λ e. absurd cc) n)) input tells
+        (run.damaged number damage over n.cause (same_disks (opens.Damaged number damage) a' b' (λ e. absurd cc) n)) input tells
     EndsWith-unopened before after broken broken' result (opens.Damaged number damage) a' b' n input (inr tells) =
-        untold_as words secrets (rests_of a b a' b') (record { streams = before; broken = broken; disks = disks_of a b }) (record { streams = after; broken = broken'; disks = disks_of a' b' }) result (run.over_store over (same_bytes (opens.Damaged number damage) a' b' (λ e. absurd cc) n)) input tells
+        untold_as words secrets (rests_of a b a' b') (record { streams = before; broken = broken; disks = disks_of a b }) (record { streams = after; broken = broken'; disks = disks_of a' b' }) result (run.over_store over (same_disks (opens.Damaged number damage) a' b' (λ e. absurd cc) n)) input tells
     EndsWith-unopened before after broken broken' result opens.Disk a' b' n input tells =
         told_as words secrets (rests_of a b a' b') (record { streams = before; broken = broken; disks = disks_of a b }) (record { streams = after; broken = broken'; disks = disks_of a' b' }) 5 (codes "stopped") result
         (run.not_opened over n.cause (λ rest. record { a_stays = n.first_handled.stays rest.0; b_stays = n.second_handled.stays rest.1 })) input tells
     EndsWith-unopened before after broken broken' result opens.NoMemory a' b' n input tells =
-        untold_as words secrets (rests_of a b a' b') (record { streams = before; broken = broken; disks = disks_of a b }) (record { streams = after; broken = broken'; disks = disks_of a' b' }) result (run.over_store over (same_bytes opens.NoMemory a' b' (λ e. absurd cc) n)) input tells
+        untold_as words secrets (rests_of a b a' b') (record { streams = before; broken = broken; disks = disks_of a b }) (record { streams = after; broken = broken'; disks = disks_of a' b' }) result (run.over_store over (same_disks opens.NoMemory a' b' (λ e. absurd cc) n)) input tells
 
     pub EndsWith-unread : (before after : Streams) (broken broken' : Broken) → IsInputKept before after → after.held ≡ before.held → after.write_faults ≡ before.write_faults → EndsWith secrets words (rests_of a b a b) (record { streams = before; broken = broken; disks = disks_of a b }) (record { streams = after; broken = broken'; disks = disks_of a b }) 9
     EndsWith-unread before after broken broken' input held writes =
@@ -333,18 +354,18 @@ module _ {D : Type 0} (clock : D → ℕ) (left_since : D → ℕ → List ℕ �
         EndsWith secrets words (rests_of a b a' b') (record { streams = before; broken = broken; disks = disks_of a b }) (record { streams = after; broken = broken'; disks = disks_of a' b' }) result
     EndsWith-audited pieces before after broken broken' result s a' b' asks store opened (reported report is tells) input a_is b_is =
         told_as words secrets (rests_of a b a' b') (record { streams = before; broken = broken; disks = disks_of a b }) (record { streams = after; broken = broken'; disks = disks_of a' b' }) (audit_status report.rows) (report_text report) result
-        (run.audited pieces s.generation s.opened (standing_over s None (first_asker script_pass)) report asks (is_opened s store opened) is (record { a_stays = ap image a_is ∙ opened.first_read.same; b_stays = ap image b_is ∙ opened.second_read.same })
+        (run.audited pieces s.generation s.opened (standing_over s None (first_asker script_pass)) report asks (is_opened s store opened) is (kept_since secrets a b s a' b' opened a_is b_is)
         (subst (IsPinned clock left_since image) (sym a_is) opened.first_read.pinned, subst (IsPinned clock left_since image) (sym b_is) opened.second_read.pinned)) input tells
     EndsWith-audited pieces before after broken broken' result s a' b' asks store opened (unreported untold) input a_is b_is =
         untold_as words secrets (rests_of a b a' b') (record { streams = before; broken = broken; disks = disks_of a b }) (record { streams = after; broken = broken'; disks = disks_of a' b' }) result
-        (run.over_store over (record { a_stays = ap image a_is ∙ opened.first_read.same; b_stays = ap image b_is ∙ opened.second_read.same })) input untold
+        (run.over_store over (kept_since secrets a b s a' b' opened a_is b_is)) input untold
 
     -- an export leaves the disks as they were
     pub EndsWith-exported : (from : ℕ) (before after : Streams) (broken broken' : Broken) (result : ℕ) (s : StoreView D) (a' b' : D) → AsksFor words (Export from) → IsStore s → opening.IsOpened clock left_since image faults a b secrets.seal_key secrets.ring s →
         TellsExport s.base s.events from before.held before.write_faults result after.held after.write_faults broken'.output → IsInputKept before after → a' ≡ first_disk s → b' ≡ second_disk s →
         EndsWith secrets words (rests_of a b a' b') (record { streams = before; broken = broken; disks = disks_of a b }) (record { streams = after; broken = broken'; disks = disks_of a' b' }) result
     EndsWith-exported from before after broken broken' result s a' b' asks store opened tells input a_is b_is =
-        run.exported from result s.generation s.opened (standing_over s None (first_asker script_pass)) asks (is_opened s store opened) (record { a_stays = ap image a_is ∙ opened.first_read.same; b_stays = ap image b_is ∙ opened.second_read.same })
+        run.exported from result s.generation s.opened (standing_over s None (first_asker script_pass)) asks (is_opened s store opened) (kept_since secrets a b s a' b' opened a_is b_is)
         (subst (IsPinned clock left_since image) (sym a_is) opened.first_read.pinned, subst (IsPinned clock left_since image) (sym b_is) opened.second_read.pinned) input tells
 
   -- ---- a checkpoint
@@ -368,7 +389,10 @@ module _ {D : Type 0} (clock : D → ℕ) (left_since : D → ℕ → List ℕ �
   full_same s _ pass (makes.full running is_full) = (refl, is_full)
 
   made_fits : (s s' : StoreView D) (pass : ℕ) → MakesCheckpoint faults s pass checkpoints.Checkpointed s' → IsFullForCheckpoint s → ⊥
-  made_fits s _ pass (makes.made active running room) = room
+  made_fits s _ pass (makes.made active running room stood) = room
+
+  made_stood : (s s' : StoreView D) (pass : ℕ) → MakesCheckpoint faults s pass checkpoints.Checkpointed s' → NoneFailed faults s s'
+  made_stood s _ pass (makes.made active running room stood) = NoneFailed-checkpoint faults s (makes.with_checkpoint s pass active) pass checkpoints.Checkpointed (makes.made active running room stood) running
 
   stopped_fits : (s s' : StoreView D) (pass : ℕ) → s.stop ≡ None → MakesCheckpoint faults s pass checkpoints.Stopped s' → IsFullForCheckpoint s → ⊥
   stopped_fits s _ pass running (makes.failed other runs room risen) = room
@@ -395,7 +419,7 @@ module _ {D : Type 0} (clock : D → ℕ) (left_since : D → ℕ → List ℕ �
   stopped_place true active new = refl
 
   made_stays : (s s' : StoreView D) (pass : ℕ) → MakesCheckpoint faults s pass checkpoints.Checkpointed s' → one_of (image (first_disk s')) (image (second_disk s')) s.second_active ≡ image s.active
-  made_stays s _ pass (makes.made active running room) = made_place s.second_active s.active active
+  made_stays s _ pass (makes.made active running room stood) = made_place s.second_active s.active active
 
   stopped_stays : (s s' : StoreView D) (pass : ℕ) → s.stop ≡ None → MakesCheckpoint faults s pass checkpoints.Stopped s' → one_of (image (first_disk s')) (image (second_disk s')) s.second_active ≡ image s.active
   stopped_stays s _ pass running (makes.failed other runs room risen) = stopped_place s.second_active s.active other
@@ -410,11 +434,8 @@ module _ {D : Type 0} (clock : D → ℕ) (left_since : D → ℕ → List ℕ �
     is_start = is_opened words secrets a b (of_checkpoint is) s store opened
 
     -- the bytes are as they were, and nothing is pending
-    kept_by : s' ≡ s → AreBytesKept (disks_of a b) (disks_of (first_disk s') (second_disk s'))
-    kept_by same = record {
-      a_stays = ap (λ (n : StoreView D). image (first_disk n)) same ∙ opened.first_read.same;
-      b_stays = ap (λ (n : StoreView D). image (second_disk n)) same ∙ opened.second_read.same;
-    }
+    kept_by : s' ≡ s → AreDisksKept (disks_of a b) (disks_of (first_disk s') (second_disk s'))
+    kept_by same = kept_since secrets a b s (first_disk s') (second_disk s') opened (ap (λ (n : StoreView D). first_disk n) same) (ap (λ (n : StoreView D). second_disk n) same)
 
     rests_by : s' ≡ s → AtRest (first_disk s') (second_disk s')
     rests_by same = (
@@ -440,7 +461,7 @@ module _ {D : Type 0} (clock : D → ℕ) (left_since : D → ℕ → List ℕ �
         EndsWith secrets words (rests_of a b (first_disk s') (second_disk s')) (record { streams = before; broken = broken; disks = disks_of a b }) (record { streams = after; broken = broken'; disks = disks_of (first_disk s') (second_disk s') }) result
     ends before after broken broken' result checkpoints.Checkpointed made input tells =
         told_as words secrets (rests_of a b (first_disk s') (second_disk s')) (record { streams = before; broken = broken; disks = disks_of a b }) (record { streams = after; broken = broken'; disks = disks_of (first_disk s') (second_disk s') }) 0 (codes "ok checkpoint") result
-        (run.checkpointed s.generation s.opened (standing_over s None (first_asker script_pass)) is is_start (made_fits s s' pass made.answer) (stays_by (made_stays s s' pass made.answer)) (λ x y is_x is_y. (
+        (run.checkpointed s.generation s.opened (standing_over s None (first_asker script_pass)) is is_start (made_fits s s' pass made.answer) (stays_by (made_stays s s' pass made.answer)) (none_failed_since secrets a b s s' opened (made_stood s s' pass made.answer)) (λ x y is_x is_y. (
           pinned_at s' (first_disk s') (second_disk s') refl refl (is_ready made x y is_x is_y),
           λ x' y' is_x' is_y'. newest_image s x' y' (made.newest (opened.current x y is_x is_y) refl x' y' is_x' is_y'),
         ))) input tells
@@ -483,6 +504,7 @@ module _ {D : Type 0} (clock : D → ℕ) (left_since : D → ℕ → List ℕ �
               let now = counts_now s store (opened.current x y is_x is_y) x y (opened.first_read.same ∙ is_x) (opened.second_read.same ∙ is_y) in
               counts_now s' store' (goes.current (opened.current x y is_x is_y) none) x' y' is_x' is_y'
               ∙ ap Some (place_moved added s'.checkpoints s.second_active second s'.second_active all (same_place s.second_active second (sym now ∙ counts)) goes.place_is);
+          none_failed = λ none. none_failed_since secrets a b s s' opened (goes.none_failed none);
           failed = λ entry same. risen_since secrets a b s s' opened (goes.failed entry same);
           survives = λ x y is_x is_y closed entry same x' y' is_x' is_y'.
               goes.halts (opened.ready x y is_x is_y closed) entry same x' y' (may_stay (first_disk s') x' is_x') (may_stay (second_disk s') y' is_y');

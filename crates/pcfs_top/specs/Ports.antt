@@ -31,10 +31,20 @@ abbrev pub HasDiskFailed : Disks → Disks → Type 0
 HasDiskFailed before after = HasRisen before.a_faults after.a_faults ⊎
     HasRisen before.b_faults after.b_faults
 
+-- no call of a disk failed: both counts of faults stand
+pub record NoDiskFailed (before after : Disks) : Type 0 where
+  pub a_stands : after.a_faults ≡ before.a_faults
+  pub b_stands : after.b_faults ≡ before.b_faults
+
 -- the bytes are as they were
 pub record AreBytesKept (before after : Disks) : Type 0 where
   pub a_stays : after.a ≡ before.a
   pub b_stays : after.b ≡ before.b
+
+-- the bytes are as they were, and no call of a disk failed
+pub record AreDisksKept (before after : Disks) : Type 0 where
+  pub bytes : AreBytesKept before after
+  pub none_failed : NoDiskFailed before after
 
 -- whether nothing is pending on the disks, before and after
 pub record Rests : Type 1 where

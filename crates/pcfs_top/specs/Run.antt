@@ -47,7 +47,7 @@ use Rattle.pcfs_tools.specs.Memory.{MemoryEnds}
 use Rattle.pcfs_tools.specs.ScriptStatus.{ScriptStatus}
 use Rattle.pcfs_tools.specs.Signed.{TellsSigning}
 use Rattle.pcfs_tools.specs.Stated.{TellsModes}
-use Rattle.pcfs_top.specs.Ports.{Disks, Ports, Rests, IfTold, HasDiskFailed, AreBytesKept, IsInputKept}
+use Rattle.pcfs_top.specs.Ports.{Disks, Ports, Rests, IfTold, HasDiskFailed, NoDiskFailed, AreBytesKept, AreDisksKept, IsInputKept}
 
 -- the words ask for a script over the store in the areas, for a checkpoint or an audit of it, for
 -- an export of its events, or that it takes those of another one
@@ -67,9 +67,8 @@ abbrev pub HasNoArea : List ℕ → List ℕ → Type 0
 HasNoArea x y = IsShut x × IsShut y
 
 -- a store was opened whose area has this generation and begins with this image, and a script, a
--- checkpoint or an audit begins over it: its history is that of the newest area, and lawful, and
--- the area has so many bytes before
--- its closed gate
+-- checkpoint, an audit, an export or a taking of messages begins over it: its history is that of
+-- the newest area, and lawful, and the area has so many bytes before its closed gate
 pub record IsOpened (secrets : Secrets) (generation : ℕ) (image : List ℕ) (before : Disks) (start : ScriptState) : Type 0 where
   pub secrets_are : start.secrets ≡ secrets
   pub asker_is : start.asker ≡ first_asker script_pass
@@ -101,16 +100,15 @@ records_in s = drop (settled_in s) s.events
 abbrev pub image_in : List ℕ → ScriptState → List ℕ
 image_in opened s = image_since opened (head_in s) s.checkpoints
 
--- What comes back of the disks of a store that was opened, where a script ended. Its generation is
--- that of the opened area, and one more for each checkpoint. Unless a disk failed, the newest area
--- has this generation, and stands for the state at
--- the last checkpoint, or for the opened base if there was none, and the events since; it is on the
--- other disk after each checkpoint; and if the opened one had its closed gate, it has too, and
--- nothing is pending. If one failed, its count rose; and if the opened area had its closed gate,
--- the
--- newest one that comes back stands for the history at the end, or, if an event met the fault, for
--- it with this event. The area that did not count is as it was, if no checkpoint was made, and none
--- met the fault.
+-- What comes back of the disks of a store that was opened, where a script, or messages that were
+-- taken, ended. Its generation is that of the opened area, and one more for each checkpoint. Unless
+-- an event or a checkpoint met the fault of a disk, no call of a disk failed, the newest area has
+-- this generation, and stands for the state at the last checkpoint, or for the opened base if there
+-- was none, and the events since; it is on the other disk after each checkpoint; and if the opened
+-- one had its closed gate, it has too, and nothing is pending. If one failed, its count rose; and
+-- if the opened area had its closed gate, the newest one that comes back stands for the history at
+-- the end, or, if an event met the fault, for it with this event. The area that did not count is as
+-- it was, if no checkpoint was made, and none met the fault.
 pub record Returns (rests : Rests) (generation : ℕ) (image : List ℕ) (before after : Disks) (start end : ScriptState) : Type 0 where
   pub grown : end.generation ≡ generation + length end.checkpoints
   pub whole : IfTold before (λ x y. end.met ≡ None → IfTold after (IsNewestOf end.generation (head_in end) (records_in end)))
@@ -121,6 +119,7 @@ pub record Returns (rests : Rests) (generation : ℕ) (image : List ℕ) (before
       newer (generation_of x) (generation_of y) ≡ Some second →
       IfTold after (λ u v. newer (generation_of u) (generation_of v)
       ≡ Some (place_after (length end.checkpoints) second)))
+  pub none_failed : end.met ≡ None → NoDiskFailed before after
   pub failed : (met : StoreEntry) → end.met ≡ Some met → HasDiskFailed before after
   pub survives : IfTold before (λ x y. IsNewestClosed generation image start.events x y →
       (met : StoreEntry) → end.met ≡ Some met → IfTold after (SurvivesMet end.base end.events met))
@@ -165,17 +164,18 @@ pub data HasCause (secrets : Secrets) (words : List (String Global)) (rests : Re
       HasCause secrets words rests before after 1 (codes "usage")
   made : AsksFor words Init →
       IfTold before (λ x y. HasNoArea x y × (rests.after × IfSome after.a (Closed (area_bytes 1 fresh_image [])))) →
-      after.b ≡ before.b → HasCause secrets words rests before after 0 (codes "ok")
+      after.b ≡ before.b → NoDiskFailed before after →
+      HasCause secrets words rests before after 0 (codes "ok")
   exists : AsksFor words Init → IfTold before (λ x y. HasNoArea x y → ⊥) →
-      AreBytesKept before after → HasCause secrets words rests before after 10 (codes "exists")
+      AreDisksKept before after → HasCause secrets words rests before after 10 (codes "exists")
   not_made : AsksFor words Init → HasDiskFailed before after →
       (rests.before → IsNotLost before after) →
       HasCause secrets words rests before after 5 (codes "stopped")
-  no_store : AreOfStore words → IfTold before HasNoArea → AreBytesKept before after →
+  no_store : AreOfStore words → IfTold before HasNoArea → AreDisksKept before after →
       HasCause secrets words rests before after 4 (codes "nostore")
   damaged : (number : ℕ) (damage : Damage) → AreOfStore words →
       IfTold before (IsNewestDamaged (authority_under secrets) number damage) →
-      AreBytesKept before after →
+      AreDisksKept before after →
       HasCause secrets words rests before after 3 (damaged_text number damage)
   not_opened : AreOfStore words → HasDiskFailed before after →
       (rests.before → AreBytesKept before after) →
@@ -184,11 +184,12 @@ pub data HasCause (secrets : Secrets) (words : List (String Global)) (rests : Re
       AsksFor words Checkpoint →
       IsOpened secrets generation image before start →
       (HasNoNextArea generation (state_of_start start) → ⊥) → NewestStays before after →
+      NoDiskFailed before after →
       IfTold before (λ x y. rests.after × IfTold after (IsNewestImage (generation + 1) (state_of_start start))) →
       HasCause secrets words rests before after 0 (codes "ok checkpoint")
   full : (generation : ℕ) (image : List ℕ) (start : ScriptState) → AsksFor words Checkpoint →
       IsOpened secrets generation image before start →
-      HasNoNextArea generation (state_of_start start) → AreBytesKept before after → rests.after →
+      HasNoNextArea generation (state_of_start start) → AreDisksKept before after → rests.after →
       HasCause secrets words rests before after 14 (codes "full")
   not_checkpointed : (generation : ℕ) (image : List ℕ) (start : ScriptState) →
       AsksFor words Checkpoint → IsOpened secrets generation image before start →
@@ -199,7 +200,7 @@ pub data HasCause (secrets : Secrets) (words : List (String Global)) (rests : Re
   audited : (pieces : Option ℕ) (generation : ℕ) (image : List ℕ) (start : ScriptState) (report : Report) →
       AsksFor words (Audit pieces) → IsOpened secrets generation image before start →
       IsReport (authority_under secrets) start.base start.events report →
-      AreBytesKept before after → rests.after →
+      AreDisksKept before after → rests.after →
       HasCause secrets words rests before after (audit_status report.rows) (report_text report)
   loaded : (rounds seed : ℕ) (told : List ℕ) → AsksFor words (Load rounds seed) →
       IsLoaded rounds seed told → after ≡ before → HasCause secrets words rests before after 0 told
@@ -232,11 +233,11 @@ TellsUnmade formats.Disk held faults result held_after faults_after broken = Wro
 TellsUnmade formats.NoMemory held faults result held_after faults_after broken = WroteNothing held faults result held_after faults_after
 
 -- Memory ran out, and nothing changed: the disks are as they were, also if a command over them was
--- asked for; or one was, they were read for it, and the bytes are as they were.
+-- asked for; or one was, they were read for it, the bytes are as they were, and no call failed.
 pub data IsUndone (words : List (String Global)) (before after : Disks) : Type 0 where
   untouched : after ≡ before → IsUndone words before after
-  in_init : AsksFor words Init → AreBytesKept before after → IsUndone words before after
-  over_store : AreOfStore words → AreBytesKept before after → IsUndone words before after
+  in_init : AsksFor words Init → AreDisksKept before after → IsUndone words before after
+  over_store : AreOfStore words → AreDisksKept before after → IsUndone words before after
 
 -- The status that a run ends with, and its cause. A script in memory ends as its lines say, and
 -- leaves the disks alone; its own disks are in memory, and fail only if memory runs out. A script
@@ -246,7 +247,8 @@ pub data IsUndone (words : List (String Global)) (before after : Disks) : Type 0
 -- other run writes its line, or the output failed, at its last call, and holds some first part of
 -- it; an audit, the lines of its report. Memory may run out before that, and then nothing changes.
 -- At an end by a fault of the output one call of it failed, and it was the last, and at each other
--- end none; so it is with an input that is read, and of one that is not read no call failed.
+-- end none; so it is with an input that is read, and of one that is not read no call failed. Of the
+-- disks none failed, but at an end at which `stopped` was the last to be written.
 pub data EndsWith (secrets : Secrets) (words : List (String Global)) (rests : Rests) (before after : Ports) : ℕ → Type 0 where
   in_memory : (status : ℕ) → AsksFor words Script → after.disks ≡ before.disks →
       MemoryEnds secrets before.streams after.streams after.broken status →
@@ -264,7 +266,7 @@ pub data EndsWith (secrets : Secrets) (words : List (String Global)) (rests : Re
       EndsWith secrets words rests before after status
   exported : (from status generation : ℕ) (image : List ℕ) (start : ScriptState) →
       AsksFor words (Export from) → IsOpened secrets generation image before.disks start →
-      AreBytesKept before.disks after.disks → rests.after →
+      AreDisksKept before.disks after.disks → rests.after →
       IsInputKept before.streams after.streams →
       TellsExport start.base start.events from before.streams.held before.streams.write_faults
       status after.streams.held after.streams.write_faults after.broken.output →

@@ -82,7 +82,8 @@ pub fn write_unopened<O: Sink>(alloc: Global, output: &mut O, fault: OpenFault) 
     }
 }
 
-// Runs the script in the input over the store on the disks. Each reply is written before the next line is answered.
+// Runs the script in the input over the store on the disks. By the order of the code each reply is written before the
+// next line is answered.
 fn run_stored<I: Source, O: Sink, D: Disk>(
     alloc: Global,
     secrets: &Secrets,
@@ -268,8 +269,8 @@ fn export_stored<O: Sink, D: Disk>(
     }
 }
 
-// Takes the events in the messages of the input by the store on the disks. A line is written for each message before the
-// next one is taken.
+// Takes the events in the messages of the input by the store on the disks. By the order of the code a line is written for
+// each message before the next one is taken.
 fn follow_stored<I: Source, O: Sink, D: Disk>(
     alloc: Global,
     secrets: &Secrets,
@@ -480,7 +481,8 @@ pub fn run_asked<R: Threads + Wait + Sync, I: Source, O: Sink, D: Disk>(
 /// replies of a script to the lines before, and the lines for the messages before, come before that line, and at 12 and 18
 /// what `rootsign` wrote of the lines before.
 ///
-/// Nothing is written after a write that failed, and nothing is read after a read that failed.
+/// Nothing is written after a write that failed, and nothing is read after a read that failed. No call of a disk failed,
+/// unless `stopped` is the last line or reply, or was to be at 7 or 9.
 pub fn run_alone<R: Threads + Wait + Sync, I: Source, O: Sink, D: Disk>(
     rt: &R,
     alloc: Global,

@@ -18,17 +18,22 @@ use bl_syntax::{Bytes, NoMemory, Statement};
 use pcfs_ports::Signatures;
 use std::alloc::Global;
 use std::marker::Model;
+use thiserror::Error;
 
 /// Why a statement may not be registered.
-#[derive(Clone, Copy, Debug, PartialEq, Eq)]
+#[derive(Clone, Copy, Debug, PartialEq, Eq, Error)]
 pub enum RegisterFault {
     /// The signature is not accepted from who says the statement.
+    #[error("the signature is not accepted from who says the statement")]
     BadSignature,
     /// 4,096 statements are registered.
+    #[error("{most} statements are registered", most = MOST_STATEMENTS)]
     RegistryFull,
     /// An equal statement has this number.
+    #[error("an equal statement has the number {0}")]
     Duplicate(u32),
     /// A growth was refused.
+    #[error("out of memory")]
     NoMemory,
 }
 
@@ -41,13 +46,16 @@ impl From<NoMemory> for RegisterFault {
 }
 
 /// Why a statement may not be withdrawn.
-#[derive(Clone, Copy, Debug, PartialEq, Eq)]
+#[derive(Clone, Copy, Debug, PartialEq, Eq, Error)]
 pub enum WithdrawFault {
     /// Nothing has the number, or its statement was withdrawn.
+    #[error("nothing has the number, or its statement was withdrawn")]
     Absent,
     /// The signature of the withdrawal is not accepted from who said the statement.
+    #[error("the signature of the withdrawal is not accepted from who said the statement")]
     BadSignature,
     /// A growth was refused.
+    #[error("out of memory")]
     NoMemory,
 }
 

@@ -12,18 +12,22 @@ use pcfs_hmac::Mac;
 use pcfs_ports::Signatures;
 use std::alloc::{AllocFailed, Global};
 use std::marker::Model;
+use thiserror::Error;
 
 /// The greatest height of a tree of hashes.
 const MOST_HEIGHT: u8 = 8;
 
 /// Why a key or a root was not added.
-#[derive(Clone, Copy, Debug, PartialEq, Eq)]
+#[derive(Clone, Copy, Debug, PartialEq, Eq, Error)]
 pub enum KeyFault {
     /// The name has a key or a root already.
+    #[error("the name has a key or a root already")]
     Known,
     /// The tree is higher than 8.
+    #[error("the tree is higher than {most}", most = MOST_HEIGHT)]
     BadHeight,
     /// A growth was refused.
+    #[error("out of memory")]
     NoMemory,
 }
 

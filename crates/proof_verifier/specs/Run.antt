@@ -1,6 +1,6 @@
 -- How a run of the program over a proof follows the rules.
 use Rattle.std.specs.Prelude.{◌≡◌, ◌≤◌, ◌+◌, ◌*◌, ◌⊎◌, ℕ, List, [], ◌∷◌, ◌++◌, length, map, Some, Result, Ok, Err, MatchResult}
-use Rattle.bl_syntax.specs.declared.limits.TheConstants.{MOST_PROOF_NODES}
+use Rattle.bl_syntax.specs.declared.limits.TheConstants.{MOST_PROOF_NODES, MOST_PROOF_LEVELS, MOST_CITED}
 use Rattle.bl_syntax.specs.declared.terms.Sort.{Sort}
 use Rattle.bl_syntax.specs.declared.terms.Term.{Term}
 use Rattle.bl_syntax.specs.declared.terms.Term.TheVariants.{Param}
@@ -47,12 +47,12 @@ with_claims statements s = record s { hypotheses = s.hypotheses ++ map (λ (said
 -- room for a proof that is kept, after so many further claims at its root
 pub record HasRoomForClaims (checker : Checker) (place : Position) (claims : ℕ) (proof : ProofView) : Type 0 where
   pub counted : place.count ≡ length (hypotheses_by_number place.hypotheses.now)
-  pub hypotheses : place.count + claims ≤ 64
+  pub hypotheses : place.count + claims ≤ MOST_CITED
   pub constraints : checker.constraints ≡ []
   pub sorts : checker.sorts ≡ []
   pub node : place.node ≡ 0
   pub proof_size : size proof ≤ MOST_PROOF_NODES
-  pub proof_depth : depth proof ≤ 200
+  pub proof_depth : depth proof ≤ MOST_PROOF_LEVELS
 
 -- the proof was followed to its end: this is the grant, the next node has that number, and what had
 -- grown is cut back

@@ -1,6 +1,7 @@
 //! What a proof starts from: the cited statements as claims, and what `admin` has to say.
 
 ghost use Rattle.std.specs.Prelude.{◌≡◌, ◌≤◌, ◌+◌, length, Ok, IfOk, IsTrue, MatchResult};
+ghost use Rattle.bl_syntax.specs.declared.limits.TheConstants.{MOST_CITED};
 ghost use Rattle.std.specs.List.{AllByRecursion};
 ghost use Rattle.bl_syntax.specs.Formula.{formula_view, says};
 ghost use Rattle.bl_syntax.specs.Names.{is_principal_name};
@@ -72,7 +73,7 @@ pub fn grant_of(
     goal: &Goal,
     proof: &ProofTree,
 ) -> Result<Grant, CheckFault>
-    requires { length cites.now ≤ 64 }
+    requires { length cites.now ≤ MOST_CITED }
     ensures verdict { MatchResult result (λ grant. verdict (statements_of cites.now) goal.now proof.now ≡ Ok grant)
         (λ fault. IsFault fault (verdict (statements_of cites.now) goal.now proof.now)) }
     ensures statements { IfOk result (λ _. AllByRecursion IsStatement (statements_of cites.now)) }
@@ -90,7 +91,7 @@ fn follow_from_root(
     wanted: &Formula,
     proof: &ProofTree,
 ) -> Result<Grant, CheckFault>
-    requires few { length cites.now ≤ 64 }
+    requires few { length cites.now ≤ MOST_CITED }
     requires wanted { formula_view wanted.now ≡ says admin (access goal.now.who goal.now.file goal.now.perm) }
     ensures verdict { MatchResult result (λ grant. computed_verdict (statements_of cites.now) goal.now proof.now ≡ Ok grant)
         (λ fault. IsFault fault (computed_verdict (statements_of cites.now) goal.now proof.now)) }

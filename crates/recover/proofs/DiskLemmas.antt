@@ -37,8 +37,8 @@ module _ {D : Type 0} (clock : D → ℕ) (left_since : D → ℕ → List ℕ �
   handled_then old mid new first second =
       handled old new (second.told ∙ first.told) (idle_then_idle clock left_since old mid new first.time second.time) (omega (arith, first.never_falls, second.never_falls))
 
-  pub was_read : (old new : D) → is_some (image new) ≡ is_some (image old) → Idles clock left_since old new → faults old ≤ faults new → image new ≡ image old → IsPinned clock left_since image new → IsRead clock left_since image faults old new
-  was_read old new told time falls same pinned = record { handled = handled old new told time falls; same = same; pinned = pinned }
+  pub was_read : (old new : D) → is_some (image new) ≡ is_some (image old) → Idles clock left_since old new → faults old ≤ faults new → image new ≡ image old → IsPinned clock left_since image new → faults new ≡ faults old → IsRead clock left_since image faults old new
+  was_read old new told time falls same pinned no_fault = record { handled = handled old new told time falls; same = same; pinned = pinned; no_fault = no_fault }
 
   pub read_then : (old mid new : D) → IsRead clock left_since image faults old mid → IsRead clock left_since image faults mid new → IsRead clock left_since image faults old new
-  read_then old mid new first second = record { handled = handled_then old mid new first.handled second.handled; same = second.same ∙ first.same; pinned = second.pinned }
+  read_then old mid new first second = record { handled = handled_then old mid new first.handled second.handled; same = second.same ∙ first.same; pinned = second.pinned; no_fault = second.no_fault ∙ first.no_fault }

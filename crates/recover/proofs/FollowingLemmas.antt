@@ -18,9 +18,14 @@ use Rattle.pcfs_store.specs.StoredHistory.{payloads_of, AreSpellable}
 
 -- ---- events without their passes
 
-erased_replay : (state : BaseView) (events : List Event) → replay state (map erase events) ≡ replay state events
+pub erased_replay : (state : BaseView) (events : List Event) → replay state (map erase events) ≡ replay state events
 erased_replay state [] = refl
 erased_replay state (event ∷ events) = ap (λ (s : BaseView). replay s (map erase events)) (erased_next state event) ∙ erased_replay (next_state state event) events
+
+-- what has no passes loses none
+pub erased_again : (events : List Event) → map erase (map erase events) ≡ map erase events
+erased_again [] = refl
+erased_again (event ∷ events) = ap (λ (e : Event). e ∷ map erase (map erase events)) (erase_twice event) ∙ ap (λ (es : List Event). erase event ∷ es) (erased_again events)
 
 pub erased_lawful : (authority : Authority) (base : BaseView) (events : List Event) → AreLawful authority base events → AreLawful authority base (map erase events)
 erased_lawful authority base _ no_event = no_event

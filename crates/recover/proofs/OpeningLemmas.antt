@@ -254,13 +254,15 @@ module _ {D : Type 0} (clock : D → ℕ) (left_since : D → ℕ → List ℕ �
   first_cause a2 NoMemory which why risen = tt
 
   pub not_opened_first : (a2 : D) (fault : OpenFault) → IfSome (image a) (λ x. IfSome (image b) (λ y. Some false ≡ newer (generation_of x) (generation_of y))) → IfSome (image a1) (λ bytes. IsWhy (authority_with key ring) bytes fault) →
-      (fault ≡ Disk → HasRisen (faults a1) (faults a2)) → IsHandled clock left_since image faults a1 a2 → (fault ≢ Disk → image a2 ≡ image a1) → IsNotOpened clock left_since image faults a b (authority_with key ring) fault a2 b1
-  not_opened_first a2 fault which why risen handled_area same = record {
+      (fault ≡ Disk → HasRisen (faults a1) (faults a2)) → IsHandled clock left_since image faults a1 a2 → (fault ≢ Disk → image a2 ≡ image a1) → (fault ≢ Disk → faults a2 ≡ faults a1) → IsNotOpened clock left_since image faults a b (authority_with key ring) fault a2 b1
+  not_opened_first a2 fault which why risen handled_area same no_fault = record {
     cause = first_cause a2 fault which why risen;
     first_handled = handled_then clock left_since image faults earlier may_stay a a1 a2 read_a.handled handled_area;
     second_handled = read_b.handled;
     first_same = λ not_disk. same not_disk ∙ read_a.same;
     second_same = λ not_disk. read_b.same;
+    first_no_fault = λ not_disk. no_fault not_disk ∙ read_a.no_fault;
+    second_no_fault = λ not_disk. read_b.no_fault;
   }
 
   -- the second area counts, and no history was found in it
@@ -276,13 +278,15 @@ module _ {D : Type 0} (clock : D → ℕ) (left_since : D → ℕ → List ℕ �
   second_cause b2 NoMemory which why risen = tt
 
   pub not_opened_second : (b2 : D) (fault : OpenFault) → IfSome (image a) (λ x. IfSome (image b) (λ y. Some true ≡ newer (generation_of x) (generation_of y))) → IfSome (image b1) (λ bytes. IsWhy (authority_with key ring) bytes fault) →
-      (fault ≡ Disk → HasRisen (faults b1) (faults b2)) → IsHandled clock left_since image faults b1 b2 → (fault ≢ Disk → image b2 ≡ image b1) → IsNotOpened clock left_since image faults a b (authority_with key ring) fault a1 b2
-  not_opened_second b2 fault which why risen handled_area same = record {
+      (fault ≡ Disk → HasRisen (faults b1) (faults b2)) → IsHandled clock left_since image faults b1 b2 → (fault ≢ Disk → image b2 ≡ image b1) → (fault ≢ Disk → faults b2 ≡ faults b1) → IsNotOpened clock left_since image faults a b (authority_with key ring) fault a1 b2
+  not_opened_second b2 fault which why risen handled_area same no_fault = record {
     cause = second_cause b2 fault which why risen;
     first_handled = read_a.handled;
     second_handled = handled_then clock left_since image faults earlier may_stay b b1 b2 read_b.handled handled_area;
     first_same = λ not_disk. read_a.same;
     second_same = λ not_disk. same not_disk ∙ read_b.same;
+    first_no_fault = λ not_disk. read_a.no_fault;
+    second_no_fault = λ not_disk. no_fault not_disk ∙ read_b.no_fault;
   }
 
   -- neither area is open
@@ -293,6 +297,8 @@ module _ {D : Type 0} (clock : D → ℕ) (left_since : D → ℕ → List ℕ �
     second_handled = read_b.handled;
     first_same = λ not_disk. read_a.same;
     second_same = λ not_disk. read_b.same;
+    first_no_fault = λ not_disk. read_a.no_fault;
+    second_no_fault = λ not_disk. read_b.no_fault;
   }
 
 -- a disk failed before
@@ -304,4 +310,6 @@ not_opened_failed clock left_since image faults a b a1 b1 key ring risen handled
   second_handled = handled_b;
   first_same = λ not_disk. absurd (not_disk refl);
   second_same = λ not_disk. absurd (not_disk refl);
+  first_no_fault = λ not_disk. absurd (not_disk refl);
+  second_no_fault = λ not_disk. absurd (not_disk refl);
 }

@@ -16,8 +16,7 @@ use Rattle.pcfs_store.specs.StoredHistory.{payloads_of, Resumes, StandsFor}
 use Rattle.recover.specs.AreaDamage.{IsDamagedArea}
 use Rattle.recover.specs.Opening.{IsNewestClosed, IsNewestDamaged, IsNewestHistory}
 use Rattle.journal_records.specs.Passes.{erase}
-use Rattle.access_history.proofs.PassLemmas.{erase_twice}
-use Rattle.recover.proofs.FollowingLemmas.{back_lawful, erased_history, front_lawful}
+use Rattle.recover.proofs.FollowingLemmas.{back_lawful, erased_again, erased_history, front_lawful}
 use Rattle.recover.proofs.LawLemmas.{lawful_area, one_history}
 
 -- what resumes a lawful history is lawful
@@ -30,12 +29,7 @@ resumed_lawful authority base found_base events found kept lawful r =
     subst (λ (b : BaseView). IsLawful authority b (drop r.skipped (take kept events))) (ap (replay base) (take-take r.skipped kept events r.skipped_few) ∙ sym r.base_is) later in
     subst (IsLawful authority found_base) (sym r.events_are) (erased_history authority found_base (drop r.skipped (take kept events)) there)
 
--- what has no passes loses none
-erased_again : (events : List Event) → map erase (map erase events) ≡ map erase events
-erased_again [] = refl
-erased_again (event ∷ events) = ap (λ (e : Event). e ∷ map erase (map erase events)) (erase_twice event) ∙ ap (λ (es : List Event). erase event ∷ es) (erased_again events)
-
--- and what was read has none
+-- what was read has no passes
 erased_as_read : (events : List Event) → AllByRecursion IsReadEvent events → map erase events ≡ events
 erased_as_read [] each = refl
 erased_as_read (event ∷ events) each = ap (λ (e : Event). e ∷ map erase events) each.0.erased ∙ ap (λ (es : List Event). event ∷ es) (erased_as_read events each.1)

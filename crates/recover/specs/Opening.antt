@@ -99,11 +99,12 @@ module _ {D : Type 0} (clock : D → ℕ) (left_since : D → ℕ → List ℕ �
     pub stays : IsPinned clock left_since image old → image new ≡ image old
     pub never_falls : faults old ≤ faults new
 
-  -- The same; the bytes are as they were, and nothing is pending.
+  -- The same; the bytes are as they were, nothing is pending, and no call failed.
   pub record IsRead (old new : D) : Type 0 where
     pub handled : IsHandled old new
     pub same : image new ≡ image old
     pub pinned : IsPinned clock left_since image new
+    pub no_fault : faults new ≡ faults old
 
   -- The store has the history of the newest area on these two disks and the image with which that
   -- begins, under that key and ring, and no checkpoint since; each of its events was read, so it
@@ -137,10 +138,12 @@ module _ {D : Type 0} (clock : D → ℕ) (left_since : D → ℕ → List ℕ �
   HasCause a b authority NoMemory first second = Unit {0}
 
   -- No store was opened, and the disks are given back. Only after a fault of a disk their bytes may
-  -- be others.
+  -- be others; at each other end no call of a disk failed.
   pub record IsNotOpened (a b : D) (authority : Authority) (fault : OpenFault) (first second : D) : Type 0 where
     pub cause : HasCause a b authority fault first second
     pub first_handled : IsHandled a first
     pub second_handled : IsHandled b second
     pub first_same : fault ≢ Disk → image first ≡ image a
     pub second_same : fault ≢ Disk → image second ≡ image b
+    pub first_no_fault : fault ≢ Disk → faults first ≡ faults a
+    pub second_no_fault : fault ≢ Disk → faults second ≡ faults b

@@ -17,6 +17,7 @@ fn settled_generation<D: Disk>(disk: &mut D) -> Result<Option<u64>, Failed>
     ensures pinned { OnOk result (IsPinned D.clock D.left_since D.image disk.new) }
     ensures told { is_some (D.image disk.new) ≡ is_some (D.image disk.old) }
     ensures time { Idles D.clock D.left_since disk.old disk.new }
+    ensures no_fault { OnOk result (D.faults disk.new ≡ D.faults disk.old) }
     ensures risen { OnErr result (HasRisen (D.faults disk.old) (D.faults disk.new)) }
     ensures never_falls { D.faults disk.old ≤ D.faults disk.new }
 {
@@ -34,11 +35,13 @@ pub fn find_newest<D: Disk>(a: &mut D, b: &mut D) -> Result<Option<bool>, Failed
     ensures a_pinned { OnOk result (IsPinned D.clock D.left_since D.image a.new) }
     ensures a_told { is_some (D.image a.new) ≡ is_some (D.image a.old) }
     ensures a_time { Idles D.clock D.left_since a.old a.new }
+    ensures a_no_fault { OnOk result (D.faults a.new ≡ D.faults a.old) }
     ensures a_never_falls { D.faults a.old ≤ D.faults a.new }
     ensures b_same { OnOk result (D.image b.new ≡ D.image b.old) }
     ensures b_pinned { OnOk result (IsPinned D.clock D.left_since D.image b.new) }
     ensures b_told { is_some (D.image b.new) ≡ is_some (D.image b.old) }
     ensures b_time { Idles D.clock D.left_since b.old b.new }
+    ensures b_no_fault { OnOk result (D.faults b.new ≡ D.faults b.old) }
     ensures b_never_falls { D.faults b.old ≤ D.faults b.new }
     ensures risen { OnErr result (HasRisen (D.faults a.old) (D.faults a.new) ⊎ HasRisen (D.faults b.old) (D.faults b.new)) }
 {

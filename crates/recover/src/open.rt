@@ -35,6 +35,7 @@ fn damage_before_break<D: Disk>(alloc: Global, disk: &mut D, key: &[u8], ring: K
     ensures why { (number : ℕ) → IfSome (D.image disk.old) (λ bytes. IsBroken number bytes → IsWhy (authority_with key.now ring) bytes result) }
     ensures risen { result ≡ OpenFault.Disk → HasRisen (D.faults disk.old) (D.faults disk.new) }
     ensures same { result ≢ OpenFault.Disk → D.image disk.new ≡ D.image disk.old }
+    ensures no_fault { result ≢ OpenFault.Disk → D.faults disk.new ≡ D.faults disk.old }
     ensures told { is_some (D.image disk.new) ≡ is_some (D.image disk.old) }
     ensures time { Idles D.clock D.left_since disk.old disk.new }
     ensures never_falls { D.faults disk.old ≤ D.faults disk.new }
@@ -61,6 +62,7 @@ fn why<D: Disk>(
     ensures risen { result ≡ OpenFault.Disk →
         (fault ≡ ScanFault.Disk) ⊎ HasRisen (D.faults disk.old) (D.faults disk.new) }
     ensures same { result ≢ OpenFault.Disk → D.image disk.new ≡ D.image disk.old }
+    ensures no_fault { result ≢ OpenFault.Disk → D.faults disk.new ≡ D.faults disk.old }
     ensures told { is_some (D.image disk.new) ≡ is_some (D.image disk.old) }
     ensures time { Idles D.clock D.left_since disk.old disk.new }
     ensures never_falls { D.faults disk.old ≤ D.faults disk.new }
@@ -88,6 +90,9 @@ fn open_area<D: Disk>(
     ensures same { MatchResult result
         (λ found. D.image found.0.disk ≡ D.image disk)
         (λ e. e.0 ≢ OpenFault.Disk → D.image e.1 ≡ D.image disk) }
+    ensures no_fault { MatchResult result
+        (λ found. D.faults found.0.disk ≡ D.faults disk)
+        (λ e. e.0 ≢ OpenFault.Disk → D.faults e.1 ≡ D.faults disk) }
     ensures told { MatchResult result
         (λ found. is_some (D.image found.0.disk) ≡ is_some (D.image disk))
         (λ e. is_some (D.image e.1) ≡ is_some (D.image disk)) }
@@ -118,7 +123,7 @@ fn open_area<D: Disk>(
 /// A store is returned exactly if the newest area stands for a lawful history, and then its history is that one, each event
 /// with pass 0. `NoStore` is returned exactly if neither area is open, and `Damaged` with the first record that is damaged, 0
 /// for header and image, and its first damage. `Disk` is returned only if a disk's count of faults rose. After any other
-/// answer the bytes are as they were. What the disks hold counts as far as they tell it.
+/// answer the bytes are as they were, and no call of a disk failed. What the disks hold counts as far as they tell it.
 pub fn open_store<D: Disk>(
     alloc: Global,
     a: D,

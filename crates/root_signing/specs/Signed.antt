@@ -11,6 +11,7 @@ use Rattle.line_text.specs.HexWord.{hex_word}
 use Rattle.line_text.specs.Lines.{lines_of}
 use Rattle.merkle_sig.specs.HashTree.{root_of}
 use Rattle.merkle_sig.specs.Signature.{signature_of}
+use Rattle.pcfs_ports.specs.declared.streams.TheConstants.{INPUT_LIMIT}
 use Rattle.pcfs_ports.specs.Faults.{raise}
 use Rattle.pcfs_ports.specs.Observable.{ReadsToEnd, TakesFirst}
 use Rattle.policy_statement.specs.Messages.{statement_message}
@@ -78,5 +79,5 @@ pub data SigningEnds (height from : ℕ) (left left_after : Option (List ℕ)) (
       faults_after ≡ faults → SigningEnds height from left left_after faults faults_after broken 2 (codes "bad 3\n")
   read_fault : faults_after ≡ raise faults → broken ≡ true →
       SigningEnds height from left left_after faults faults_after broken 6 (codes "readfault\n")
-  too_long : TakesFirst 1073741824 left left_after → faults_after ≡ faults →
+  too_long : TakesFirst INPUT_LIMIT left left_after → faults_after ≡ faults →
       SigningEnds height from left left_after faults faults_after broken 13 (codes "toolong\n")

@@ -1,11 +1,12 @@
 //! What was found: the statements that are cited, and the rules in the order of the proof's text.
 
 use crate::naming::Names;
+use bl_syntax::limits::MOST_PROOF_NODES;
 use proof_draft::{Draft, Missing, NOTHING, Part, Rule, Shape, Sort, Term, Use};
 use std::alloc::AllocError;
 
 /// A proof has no more uses of rules than this.
-const MOST_USES: usize = 4096;
+const MOST_USES: usize = MOST_PROOF_NODES as usize;
 
 /// A part of a proof's text: a rule, the number of a hypothesis, or a term.
 #[derive(Clone, Copy)]

@@ -232,15 +232,17 @@ pub record IsUndisturbed (reply : TurnReply) : Type 0 where
   pub had_memory : reply ≢ turn_replies.NoMemory
   pub not_stopped : reply ≢ turn_replies.Stopped
 
--- at a store that is not stopped a turn has an end that is not disturbed, whatever it finds
+-- at a store that is not stopped a turn of what may be asked has an end that is not disturbed,
+-- whatever it finds, if the clock gives some moment over that
 abbrev pub TurnsHaveAnEnd : (List StoreEntry → ℤ → Type 0) → Type 0
 TurnsHaveAnEnd gives = (p : StorePass) (before : List StoreEntry) (request : TurnRequest) (clock : ℤ) →
     gives before clock → IsTurnFormed request → has_stop before ≡ false →
     (reply : TurnReply) × (given : List StoreEntry) × Turn gives p before request reply given ×
     IsUndisturbed reply
 
--- so does a line: after the entries of a lawful history, at a store that is not stopped, it has a
--- reply and entries which place it there
+-- so does a line of nobody or of a principal's name: after the entries of a lawful history, at a
+-- store that is not stopped, it has a reply and entries which place it there, if the clock gives
+-- some moment over the former
 abbrev pub LinesHaveAnEnd : (List StoreEntry → ℤ → Type 0) → Type 0
 LinesHaveAnEnd gives = (p : StorePass) (s : SessionState) (line : List ℕ) (task : LineTask) (before : List StoreEntry) (clock : ℤ) →
     gives before clock → IsNamed s.caller →
@@ -257,8 +259,7 @@ NothingAfterStop gives = (p : StorePass) (before : List StoreEntry) (request : T
     (given ≡ []) × ((reply ≡ turn_replies.Stopped) ⊎ (reply ≡ turn_replies.NoMemory))
 
 -- What becomes of an answer that keeps an event: it is told and the event is kept; unless the event
--- does not fit or has no number, a disk fails
--- under it, or memory runs out.
+-- does not fit or has no number, a disk fails under it, or memory runs out.
 pub data IsKeptUnless (p : StorePass) (before : List StoreEntry) (told : StepReply) (event : Event) : TurnReply → List StoreEntry → Type 0 where
   kept : (IsFullAfter p.root before (happened event) → ⊥) →
       IsKeptUnless p before told event (turn_replies.Step told) (happened event ∷ [])
@@ -268,8 +269,8 @@ pub data IsKeptUnless (p : StorePass) (before : List StoreEntry) (told : StepRep
   unless_out_of_memory : IsKeptUnless p before told event turn_replies.NoMemory []
 
 -- An operation whose procaps match and hold, and to which the world has an effect, gets the reply
--- of the effect and is kept, at a store that is
--- not stopped, unless one of these stands against it. So nobody is denied what a grant gives.
+-- of the effect and is kept, at a store that is not stopped, unless one of these stands against it.
+-- So nobody is denied what a grant gives.
 abbrev pub AdmittedAreDone : Type 0
 AdmittedAreDone = (p : StorePass) (before : List StoreEntry) (clock : ℤ) (caller : List ℕ) (op : Op) (procaps : List Procap) (reply : TurnReply)
     (given : List StoreEntry) → has_stop before ≡ false →

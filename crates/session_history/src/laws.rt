@@ -58,8 +58,8 @@ pub fn lines_have_one_task()
     ensures formed { TasksAreFormed }
 {}
 
-/// At a store that is not stopped a turn has an end that is not disturbed, whatever it finds; and so has a line, after a
-/// lawful history.
+/// At a store that is not stopped a turn of what may be asked has an end that is not disturbed, whatever it finds, if the
+/// clock gives some moment over that; and so has a line of nobody or of a principal's name, after a lawful history.
 pub fn turns_and_lines_have_an_end<C: TurnClock>(clock: &C)
     ensures turns { TurnsHaveAnEnd (C.gives clock.now) }
     ensures lines { LinesHaveAnEnd (C.gives clock.now) }

@@ -56,8 +56,8 @@ fn answer_in_turn<R: Wait, D: Disk, C: TurnClock>(
 /// Answers a line, given without its end, of a session with this nonce and this caller.
 ///
 /// Each turn that it takes is placed, whatever others do, in each history that begins with what the pass has seen then. A
-/// proof is checked between its two turns, outside the lock. If memory runs out, the reply says so. `Stopped` comes only if a
-/// disk failed: the pass has seen the mark, and a count has risen since the store was opened.
+/// proof is checked between its two turns, by the order of the code outside the lock. If memory runs out, the reply says so.
+/// `Stopped` comes only if a disk failed: the pass has seen the mark, and a count has risen since the store was opened.
 pub fn answer_line<R: Wait, D: Disk, C: TurnClock, K: Checker>(
     rt: &R,
     alloc: Global,

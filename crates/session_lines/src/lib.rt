@@ -1,7 +1,7 @@
 //! A line of a session, answered over a shared store.
 //!
-//! What a line asks for is read outside the lock, and a proof is checked outside it. Whatever others do, the reply is placed
-//! in each history that begins with what the pass has seen then.
+//! By the order of the code what a line asks for is read outside the lock, and a proof is checked outside it. Whatever others
+//! do, the reply is placed in each history that begins with what the pass has seen then.
 #![tactic(auto)]
 
 mod answering;

@@ -1,6 +1,7 @@
 -- How a talk ends: what was taken, what was answered, and what was written. If the input does not
 -- tell what it has, or the output what it holds, nothing is said of that (this project's own).
 use Rattle.std.specs.Prelude.{◌≡◌, ℕ, List, ◌++◌}
+use Rattle.pcfs_ports.specs.declared.streams.TheConstants.{INPUT_LIMIT}
 use Rattle.pcfs_ports.specs.Faults.{HasRisen}
 use Rattle.pcfs_ports.specs.Observable.{with_back, TakesFirst}
 use Rattle.session_loop.specs.declared.talk_end.TalkEnd.{TalkEnd}
@@ -50,7 +51,7 @@ module _ {P : Type 0} (t : Talking P) where
         read_fault : HasRisen before.read_faults after.read_faults →
             AreAllTaken t.cutting before.left after.left items → Speaks items replies →
             TalkReplies items replies ends.ReadFault
-        input_too_long : TakesFirst 1073741824 before.left after.left →
+        input_too_long : TakesFirst INPUT_LIMIT before.left after.left →
             AreAllTaken t.cutting before.left after.left items → Speaks items replies →
             TalkReplies items replies ends.InputTooLong
 

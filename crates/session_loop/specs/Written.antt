@@ -1,6 +1,5 @@
 -- What is written for items, each of which has one reply. If an output does not tell what it holds,
--- nothing is said
--- of that (this project's own).
+-- nothing is said of that (this project's own).
 use Rattle.std.specs.Prelude.{ℕ, ◌≤◌, List, [], ◌∷◌, ◌++◌, length, Option}
 use Rattle.pcfs_ports.specs.Observable.{HoldsSome}
 
@@ -23,8 +22,7 @@ module _ {I R : Type 0} (text : I → R → List ℕ) where
     pub earlier : length (output_of items (but_last replies)) ≤ some.count
 
   -- beside what it held, the output holds all replies, and some first part of the bytes that tell
-  -- of
-  -- what is no item
+  -- of what is no item
   pub record HoldsReplies (bad_text : List ℕ) (held held_after : Option (List ℕ)) (items : List I) (replies : List R) : Type 0 where
     pub some : HoldsSome held held_after (output_of items replies ++ bad_text)
     pub earlier : length (output_of items replies) ≤ some.count

@@ -42,7 +42,7 @@ fn send<O: Sink>(bytes: &Bytes, output: &mut O) -> Result<(), Unsent>
     }
 }
 
-// Answers the next item, if it is whole, and writes its reply.
+// Answers the next item, if it is whole, and writes its reply. The room for the reply is used again.
 fn answer_one<R: Wait, L, P, C, T: Talk<L, P, C>, O: Sink>(
     rt: &R,
     alloc: Global,
@@ -50,6 +50,7 @@ fn answer_one<R: Wait, L, P, C, T: Talk<L, P, C>, O: Sink>(
     pass: &mut P,
     clock: &C,
     talk: &mut T,
+    out: &mut Bytes,
     output: &mut O,
 ) -> Result<Step, Unsent>
     requires { T.fits lock.now pass.old }
@@ -75,9 +76,9 @@ fn answer_one<R: Wait, L, P, C, T: Talk<L, P, C>, O: Sink>(
     ensures never_falls { O.faults output.old ≤ O.faults output.new }
     ensures fits { T.fits lock.now pass.new }
 {
-    let mut out = Bytes::new(alloc);
-    match talk.answer_next(rt, alloc, lock, pass, clock, &mut out) {
-        Heard::Answered => match send(&out, output) {
+    out.clear();
+    match talk.answer_next(rt, alloc, lock, pass, clock, out) {
+        Heard::Answered => match send(out, output) {
             Ok(()) => Ok(Step::Answered),
             Err(fault) => Err(fault),
         },
@@ -95,6 +96,7 @@ fn answer_held<R: Wait, L, P, C, T: Talk<L, P, C>, O: Sink>(
     pass: &mut P,
     clock: &C,
     talk: &mut T,
+    out: &mut Bytes,
     output: &mut O,
 ) -> Result<bool, Unsent>
     requires { T.fits lock.now pass.old }
@@ -120,7 +122,7 @@ fn answer_held<R: Wait, L, P, C, T: Talk<L, P, C>, O: Sink>(
     ensures fits { T.fits lock.now pass.new }
 {
     loop {
-        match answer_one(rt, alloc, lock, pass, clock, talk, output) {
+        match answer_one(rt, alloc, lock, pass, clock, talk, out, output) {
             Ok(Step::Answered) => {}
             Ok(Step::Open) => return Ok(false),
             Ok(Step::Bad) => return Ok(true),
@@ -157,7 +159,7 @@ fn end_at_bad<L, P, C, T: Talk<L, P, C>, O: Sink>(
     }
 }
 
-/// Answers the items that are whole with a piece, or returns how the talk ends.
+/// Answers the items that are whole with a piece, or returns how the talk ends. Each reply is spelled in the same room.
 pub(crate) fn answer_piece<R: Wait, L, P, C, T: Talk<L, P, C>, O: Sink>(
     rt: &R,
     alloc: Global,
@@ -166,6 +168,7 @@ pub(crate) fn answer_piece<R: Wait, L, P, C, T: Talk<L, P, C>, O: Sink>(
     clock: &C,
     talk: &mut T,
     piece: &[u8],
+    out: &mut Bytes,
     output: &mut O,
 ) -> Result<(), TalkEnd>
     requires { T.fits lock.now pass.old }
@@ -196,7 +199,7 @@ pub(crate) fn answer_piece<R: Wait, L, P, C, T: Talk<L, P, C>, O: Sink>(
         Ok(()) => {}
         Err(_) => return Err(TalkEnd::NoMemory),
     }
-    match answer_held(rt, alloc, lock, pass, clock, talk, output) {
+    match answer_held(rt, alloc, lock, pass, clock, talk, out, output) {
         Ok(is_bad) => {
             if is_bad {
                 Err(end_at_bad(alloc, clock, talk, output))

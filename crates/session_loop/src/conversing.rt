@@ -8,6 +8,7 @@ ghost use Rattle.session_loop.specs.TalkEnds.{TalkEnds};
 use crate::answering::{answer_last, answer_piece};
 use crate::talk::Talk;
 use crate::talk_end::TalkEnd;
+use bl_syntax::Bytes;
 use pcfs_ports::{INPUT_LIMIT, Sink, Source, new_piece, read_piece};
 use std::alloc::Global;
 use std::sync::Wait;
@@ -46,6 +47,7 @@ pub fn converse<R: Wait, I: Source, O: Sink, L, P, C, T: Talk<L, P, C>>(
         Ok(piece) => piece,
         Err(_) => return TalkEnd::NoMemory,
     };
+    let mut out = Bytes::new(alloc);
     let mut taken: usize = 0;
     while taken < INPUT_LIMIT {
         let count = match read_piece(input, &mut piece, INPUT_LIMIT - taken) {
@@ -55,7 +57,17 @@ pub fn converse<R: Wait, I: Source, O: Sink, L, P, C, T: Talk<L, P, C>>(
         if count == 0 {
             return answer_last(rt, alloc, lock, pass, clock, talk, output);
         }
-        match answer_piece(rt, alloc, lock, pass, clock, talk, &piece[..count], output) {
+        match answer_piece(
+            rt,
+            alloc,
+            lock,
+            pass,
+            clock,
+            talk,
+            &piece[..count],
+            &mut out,
+            output,
+        ) {
             Ok(()) => {}
             Err(end) => return end,
         }

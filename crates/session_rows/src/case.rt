@@ -4,7 +4,7 @@ use crate::board::{Board, Outcome, Step, Turn};
 use crate::command::Command;
 use crate::connection::RowListener;
 use crate::plans::Plans;
-use bl_syntax::{Bytes, NoMemory, Numbers};
+use bl_syntax::{Bytes, NoMemory, Numbers, copy_bytes};
 use pcfs_ports::{ListNonces, MemoryDisk, MemorySink, MemorySource};
 use pcfs_run::run;
 use pcfs_secrets::Secrets;
@@ -200,9 +200,7 @@ fn found_by<R: Threads + Wait + Sync + AllocGlobal + Eprint>(
     let mut output = MemorySink::new(alloc, Numbers::new(alloc));
     let words = ["script", "--stored"];
     let _ = run_over(rt, &words, secrets, script, &mut output, a, b)?;
-    let mut found = Bytes::new(alloc);
-    found.extend(output.held())?;
-    Ok(found)
+    Ok(copy_bytes(alloc, output.held())?)
 }
 
 // Runs the operator's script, the command with the connections, and the script that looks at what is kept. Returns whether the

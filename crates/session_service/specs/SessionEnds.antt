@@ -2,6 +2,7 @@
 -- history that others grow too. If the input does not tell what it has, or the output what it
 -- holds, nothing is said of that (this project's own).
 use Rattle.std.specs.Prelude.{◌≡◌, ◌⊎◌, ℕ, ◌*◌, ◌≤◌, ℤ, List, [], ◌∷◌, ◌++◌, length}
+use Rattle.pcfs_ports.specs.declared.streams.TheConstants.{INPUT_LIMIT}
 use Rattle.pcfs_ports.specs.Faults.{HasRisen}
 use Rattle.pcfs_ports.specs.Observable.{with_back, ReadsToEnd, TakesFirst}
 use Rattle.line_text.specs.Lines.{lines_of}
@@ -32,11 +33,10 @@ use Rattle.session_service.specs.Written.{HoldsButLast, HoldsUpToLast}
 module _ {D : Type 0} (faults : D → ℕ) (gives : List StoreEntry → ℤ → Type 0) (nonce : List ℕ) where
   -- A session with this nonce answered these lines, from one moment of its pass to a later one. In
   -- each history that begins with what the pass has seen then, the replies are placed after all
-  -- that it had seen at first; and
-  -- the pass's own entries grew by those that the replies were given. That the store is stopped is
-  -- told only if the pass has seen that a disk failed. The pass took at least as many turns as the
-  -- replies come of, and at most two a line. And so each line was answered, from one moment of the
-  -- pass to a later one.
+  -- that it had seen at first; and the pass's own entries grew by those that the replies were
+  -- given. That the store is stopped is told only if the pass has seen that a disk failed. The pass
+  -- took at least as many turns as the replies come of, and at most two a line. And so each line
+  -- was answered, from one moment of the pass to a later one.
   pub record Speaks (old new : PassView (LockEntry D)) (lines : List (List ℕ)) (answers : List LineReply) : Type 0 where
     pub end : SessionState
     pub to : ℕ
@@ -73,14 +73,13 @@ module _ {D : Type 0} (faults : D → ℕ) (gives : List StoreEntry → ℤ → 
         HasRisen before.read_faults after.read_faults → AreAllTaken before.left after.left lines →
         Speaks old new lines answers → SessionReplies old new before after ReadFault answers
     input_too_long : (lines : List (List ℕ)) (answers : List LineReply) →
-        TakesFirst 1073741824 before.left after.left → AreAllTaken before.left after.left lines →
+        TakesFirst INPUT_LIMIT before.left after.left → AreAllTaken before.left after.left lines →
         Speaks old new lines answers → SessionReplies old new before after InputTooLong answers
 
   -- How a session ends: the greeting and all those replies were written. Or the output failed or
   -- memory ran out: some first part was written of the greeting, and no line was answered; or the
-  -- greeting was written, and of the lines
-  -- that were answered all replies but the last, of which some first part was, or that the next
-  -- line is too long.
+  -- greeting was written, and of the lines that were answered all replies but the last, of which
+  -- some first part was, or that the next line is too long.
   pub data SessionEnds (old new : PassView (LockEntry D)) (before : Streams) : SessionEnd →
       Streams → Type 0 where
     written : (how : SessionEnd) (after : Streams) (answers : List LineReply) →
@@ -116,8 +115,8 @@ module _ {D : Type 0} (faults : D → ℕ) (gives : List StoreEntry → ℤ → 
         HoldsButLast before.held after.held answers →
         GoesOnToEnd old new before (unsent_end fault) after
 
--- Nothing is asked of the input before the greeting is out: nothing was taken of it and it had no
--- fault, or the output holds the greeting with its end.
+-- If anything was taken of the input, or a call of it failed, the output holds the greeting
+-- with its end.
 abbrev pub GreetsFirst : List ℕ → Streams → Streams → Type 0
 GreetsFirst nonce before after = ((after.left ≡ before.left) × (after.read_faults ≡ before.read_faults)) ⊎
     ((more : List ℕ) × (after.held ≡ with_back before.held ((greeting_text nonce ++ 10 ∷ []) ++ more)))

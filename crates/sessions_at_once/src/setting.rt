@@ -2,7 +2,7 @@
 
 use crate::connection::{Speech, Speeches};
 use crate::meeting::BOTH_ARE_IN;
-use bl_syntax::{Bytes, Numbers};
+use bl_syntax::{Bytes, Numbers, copy_bytes};
 use pcfs_ports::{MemoryDisk, MemorySink, MemorySource};
 use pcfs_secrets::Secrets;
 use pcfs_top::run::{Ended, run_alone};
@@ -31,11 +31,7 @@ pub struct Setting {
 
 /// These bytes; none if there is no memory.
 pub fn bytes_of(alloc: Global, text: &[u8]) -> Option<Bytes> {
-    let mut bytes = Bytes::new(alloc);
-    match bytes.extend(text) {
-        Ok(()) => Some(bytes),
-        Err(_) => None,
-    }
+    copy_bytes(alloc, text).ok()
 }
 
 // These words.

@@ -24,10 +24,12 @@ use Rattle.pcfs_store.specs.StoreView.{StoreView, authority_of_store, first_disk
 use Rattle.pcfs_store.specs.Ready.{IsReady, IsCurrent, StopsNow, SurvivesStop}
 use Rattle.pcfs_store.specs.declared.checkpoints.Checkpoint.{Checkpoint}
 use Rattle.pcfs_store.specs.declared.reply.CheckpointReply.{CheckpointReply}
+use Rattle.pcfs_store.specs.declared.reply.CheckpointReply.TheVariants as checkpoint_replies
 use Rattle.pcfs_store.specs.Checkpoints.{place_after, MakesCheckpoint, Checkpoints}
 use Rattle.pcfs_store.specs.Checkpoints as makes
 use Rattle.pcfs_store.specs.Steps.{Steps}
 use Rattle.pcfs_store.specs.Steps as steps
+use Rattle.pcfs_store.proofs.CountLemmas.{NoneFailed-same, NoneFailed-on, NoneFailed-step, NoneFailed-checkpoint}
 use Rattle.shared_store.specs.GoesOn.{HasGoneOn}
 
 pub none_some : {P : Type 0} (stop : Option ℕ) (pass : ℕ) → stop ≡ None → stop ≡ Some pass → P
@@ -83,6 +85,7 @@ module _ {D : Type 0} (clock : D → ℕ) (left_since : D → ℕ → List ℕ �
     current = λ is none. is;
     halts = λ is pass some. none_some s.stop pass running some;
     follows = λ pass event some. none_some s.stop pass running some;
+    none_failed = λ none. NoneFailed-same faults s;
     failed = λ pass some. none_some s.stop pass running some;
     first_told = refl;
     second_told = refl;
@@ -134,6 +137,7 @@ module _ {D : Type 0} (clock : D → ℕ) (left_since : D → ℕ → List ℕ �
       current = λ first none. s.stays_current (g.current first was) going;
       halts = λ first pass some. none_some new.stop pass is some;
       follows = λ pass event some. none_some new.stop pass is some;
+      none_failed = λ none. NoneFailed-on faults opening old new (g.none_failed was) (NoneFailed-step faults old new pass moment request result s.answer is);
       failed = λ pass some. none_some new.stop pass is some;
       first_told = s.first_told ∙ g.first_told;
       second_told = s.second_told ∙ g.second_told;
@@ -145,7 +149,7 @@ module _ {D : Type 0} (clock : D → ℕ) (left_since : D → ℕ → List ℕ �
         HasGoneOn clock left_since image faults opening new
     by_step old _ pass moment request _ at formed g (steps.answered reply running goes) s =
         running_on old old pass moment request (stores.Step reply) g s running running (λ is. cc) refl refl refl refl g.events_go_on g.lawful refl refl refl refl
-    by_step old _ pass moment request _ at formed g (steps.kept reply event active running goes room) s =
+    by_step old _ pass moment request _ at formed g (steps.kept reply event active running goes room stood) s =
         running_on old (steps.with_event old event active) pass moment request (stores.Step reply) g s running running (λ is. cc) refl refl refl refl (events_stay opening.events old.events g.events_go_on event)
         (λ first. lawful_more (authority_of_store old) old.base old.events pass moment request reply event at formed (λ many. room (inr many)) goes (g.lawful first)) refl refl refl refl
     by_step old _ pass moment request _ at formed g (steps.full reply event running goes is_full) s =
@@ -168,6 +172,7 @@ module _ {D : Type 0} (clock : D → ℕ) (left_since : D → ℕ → List ℕ �
       follows = λ other found some same lawful.
           subst (λ (e : Event). IsLawful (authority_of_store old) old.base (old.events ++ e ∷ [])) (some_event event found same)
           (lawful_more (authority_of_store old) old.base old.events pass moment request reply event at formed (λ many. room (inr many)) goes lawful);
+      none_failed = λ none. none_some (Some pass) pass none refl;
       failed = λ other some. ⊎_elim
           (λ (r : HasRisen (faults (first_disk old)) (faults (one_of active old.other old.second_active))). inl (risen_since (faults (first_disk opening)) (faults (first_disk old)) (faults (one_of active old.other old.second_active)) g.first_never_falls r))
           (λ (r : HasRisen (faults (second_disk old)) (faults (one_of old.other active old.second_active))). inr (risen_since (faults (second_disk opening)) (faults (second_disk old)) (faults (one_of old.other active old.second_active)) g.second_never_falls r))
@@ -208,7 +213,7 @@ module _ {D : Type 0} (clock : D → ℕ) (left_since : D → ℕ → List ℕ �
 
   by_checkpoint : (opening old new : StoreView D) (pass : ℕ) (result : CheckpointReply) → HasGoneOn clock left_since image faults opening old → MakesCheckpoint faults old pass result new → Checkpoints clock left_since image faults old pass result new →
       HasGoneOn clock left_since image faults opening new
-  by_checkpoint opening old _ pass _ g (makes.made active running fits) s = record {
+  by_checkpoint opening old _ pass _ g (makes.made active running fits stood) s = record {
     began = g.began;
     key_stays = g.key_stays;
     ring_stays = g.ring_stays;
@@ -225,6 +230,8 @@ module _ {D : Type 0} (clock : D → ℕ) (left_since : D → ℕ → List ℕ �
     current = λ first none. s.stays_current (g.current first running) (λ is. cc);
     halts = λ first other some. none_some old.stop other running some;
     follows = λ other event some. none_some old.stop other running some;
+    none_failed = λ none. NoneFailed-on faults opening old (makes.with_checkpoint old pass active) (g.none_failed running)
+        (NoneFailed-checkpoint faults old (makes.with_checkpoint old pass active) pass checkpoint_replies.Checkpointed (makes.made active running fits stood) running);
     failed = λ other some. none_some old.stop other running some;
     first_told = s.first_told ∙ g.first_told;
     second_told = s.second_told ∙ g.second_told;
@@ -248,6 +255,7 @@ module _ {D : Type 0} (clock : D → ℕ) (left_since : D → ℕ → List ℕ �
     current = λ first none. none_some (Some pass) pass none refl;
     halts = λ first stopper some. s.halts (g.ready first running) refl;
     follows = λ stopper event some same. let none : ◌≡◌ {A = Option Event} None (Some event) = same in absurd cc;
+    none_failed = λ none. none_some (Some pass) pass none refl;
     failed = λ stopper some. ⊎_elim
         (λ (r : HasRisen (faults (first_disk old)) (faults (one_of old.active other old.second_active))). inl (risen_since (faults (first_disk opening)) (faults (first_disk old)) (faults (one_of old.active other old.second_active)) g.first_never_falls r))
         (λ (r : HasRisen (faults (second_disk old)) (faults (one_of other old.active old.second_active))). inr (risen_since (faults (second_disk opening)) (faults (second_disk old)) (faults (one_of other old.active old.second_active)) g.second_never_falls r))

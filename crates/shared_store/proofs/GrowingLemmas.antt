@@ -17,7 +17,7 @@ use Rattle.shared_store.specs.Growing.{StepGives, nothing, an_event, no_room, th
 pub steps_grow : {D : Type 0} (faults : D → ℕ) (old new : StoreView D) (pass : ℕ) (clock : ℤ) (request : StepRequest) (reply : StoreReply) → IsStore old → Steps faults old pass clock request reply new →
     (given : List StoreEntry) × StepGives old pass clock request reply given × (entries_of new ≡ entries_of old ++ given)
 steps_grow faults old _ pass clock request _ store (steps.answered reply running answers) = ([], nothing reply answers, sym (append-nil (entries_of old)))
-steps_grow faults old _ pass clock request _ store (steps.kept reply event active running answers room) = (happened event ∷ [], an_event reply event answers, entries-kept old running event active store)
+steps_grow faults old _ pass clock request _ store (steps.kept reply event active running answers room stood) = (happened event ∷ [], an_event reply event answers, entries-kept old running event active store)
 steps_grow faults old _ pass clock request _ store (steps.full reply event running answers is_full) = ([], no_room, sym (append-nil (entries_of old)))
 steps_grow faults old _ pass clock request _ store (steps.failed reply event active running answers room risen) = (stopped pass (Some event) ∷ [], the_mark reply event running answers, entries-stopped old running active old.other pass (Some event))
 steps_grow faults old _ pass clock request _ store (steps.stopped earlier is) = ([], had_mark earlier is, sym (append-nil (entries_of old)))
@@ -30,7 +30,7 @@ module _ {D : Type 0} (old : StoreView D) (pass : ℕ) (reply : CheckpointReply)
 
 pub checkpoints_grow : {D : Type 0} (faults : D → ℕ) (old new : StoreView D) (pass : ℕ) (reply : CheckpointReply) → IsStore old → MakesCheckpoint faults old pass reply new →
     entries_of new ≡ entries_of old ++ checkpoint_gives old.stop pass reply
-checkpoints_grow faults old _ pass _ store (makes.made active running fits) =
+checkpoints_grow faults old _ pass _ store (makes.made active running fits stood) =
     by_stop old pass checkpoint_replies.Checkpointed None (entries_of (makes.with_checkpoint old pass active)) running (entries-made old running pass active store)
 checkpoints_grow faults old _ pass _ store (makes.full running over) = by_stop old pass checkpoint_replies.Full None (entries_of old) running (sym (append-nil (entries_of old)))
 checkpoints_grow faults old _ pass _ store (makes.failed other running fits risen) =

@@ -126,7 +126,7 @@ module _ {D : Type 0} (clock : D → ℕ) (left_since : D → ℕ → List ℕ �
     turn = turns.answered moment (turn_replies.Step reply) (runs now (ap is_some running)) refl (turns.steps request reply None (there pass moment request reply None answers));
     stops = λ stopper was is. none_some now.stop stopper was is;
   }
-  by_step _ pass moment request _ store (steps.kept reply event active running answers room) = record {
+  by_step _ pass moment request _ store (steps.kept reply event active running answers room stood) = record {
     given = happened event ∷ [];
     opening_stays = refl;
     grows = entries-kept now running event active store;
@@ -180,7 +180,7 @@ module _ {D : Type 0} (clock : D → ℕ) (left_since : D → ℕ → List ℕ �
 
   by_checkpoint : (pass : ℕ) (new : StoreView D) (moment : ℤ) (reply : CheckpointReply) → IsStore now → MakesCheckpoint faults now pass reply new →
       HasTurned faults (λ _ m. m ≡ moment) requests.Checkpoint (record { store = now; opening = opening }) pass (record { store = new; opening = opening }) (checkpoint_reply reply)
-  by_checkpoint pass _ moment _ store (makes.made active running fits) = record {
+  by_checkpoint pass _ moment _ store (makes.made active running fits stood) = record {
     given = checkpointed pass ∷ [];
     opening_stays = refl;
     grows = entries-made now running pass active store;

@@ -4,7 +4,7 @@ use mathlib.Core.List.{IsPrefix}
 use Rattle.pcfs_ports.specs.Faults.{HasRisen}
 use Rattle.journal_records.specs.declared.event.Event.{Event}
 use Rattle.access_history.specs.Lawful.{IsLawful}
-use Rattle.pcfs_store.specs.StoreView.{StoreView, authority_of_store, first_disk, second_disk}
+use Rattle.pcfs_store.specs.StoreView.{StoreView, authority_of_store, first_disk, second_disk, NoneFailed}
 use Rattle.pcfs_store.specs.Checkpoints.{place_after}
 use Rattle.pcfs_store.specs.Ready.{IsReady, IsCurrent, StopsNow, SurvivesStop}
 
@@ -15,20 +15,18 @@ HasCountRisen faults opening now = HasRisen (faults (first_disk opening)) (fault
 
 -- Below, of a disk d `clock d` is the present moment, `left_since d t bytes` says that a crash at
 -- some moment since t may have left these bytes, `image d` is what a read gives, if d tells it, and
--- `faults d`
--- counts its faults.
+-- `faults d` counts its faults.
 
 module _ {D : Type 0} (clock : D → ℕ) (left_since : D → ℕ → List ℕ → Type 0) (image : D → Option (List ℕ)) (faults : D → ℕ) where
   -- The store was opened as `opening`, and is `now`. Key, ring, base and the image that was opened
   -- are the same, and the events are those of the opening with others after them; if the former are
-  -- lawful, so are all. Checkpoints were added at the end: with each the
-  -- generation grew by one, and the disks changed their places; as long as none was made, the other
-  -- disk is not touched, or one was tried in which it failed: then no event was being kept. While no
-  -- disk has failed, a store
-  -- that was ready is ready, and what a read gives
-  -- stands for its history. If one has, a count rose above the one at the opening; and of a store
-  -- that was ready a crash leaves the history, or, if it failed in a step, with it the event that
-  -- the step was keeping, which may follow.
+  -- lawful, so are all. Checkpoints were added at the end: with each the generation grew by one,
+  -- and the disks changed their places; as long as none was made, the other disk is not touched, or
+  -- one was tried in which it failed: then no event was being kept. While the store is not stopped,
+  -- no call of a disk has failed, a store that was ready is ready, and what a read gives stands for
+  -- its history. If it is, a count rose above the one at the opening; and of a store that was ready
+  -- a crash leaves the history, or, if it failed in a step, with it the event that the step was
+  -- keeping, which may follow.
   pub record HasGoneOn (opening now : StoreView D) : Type 0 where
     pub began : opening.stop ≡ None
     pub key_stays : now.key ≡ opening.key
@@ -53,6 +51,7 @@ module _ {D : Type 0} (clock : D → ℕ) (left_since : D → ℕ → List ℕ �
     pub follows : (pass : ℕ) (event : Event) → now.stop ≡ Some pass → now.met ≡ Some event →
         IsLawful (authority_of_store now) now.base now.events →
         IsLawful (authority_of_store now) now.base (now.events ++ event ∷ [])
+    pub none_failed : now.stop ≡ None → NoneFailed faults opening now
     pub failed : (pass : ℕ) → now.stop ≡ Some pass → HasCountRisen faults opening now
     pub first_told : is_some (image (first_disk now)) ≡ is_some (image (first_disk opening))
     pub second_told : is_some (image (second_disk now)) ≡ is_some (image (second_disk opening))

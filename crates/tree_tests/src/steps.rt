@@ -1,6 +1,6 @@
 //! An operation on a tree, and whether its answer is the wanted one.
 
-use bl_syntax::{Bytes, NoMemory, NodeId};
+use bl_syntax::{Bytes, NoMemory, NodeId, copy_bytes};
 use file_tree::{Names, OpFault, Refusal, Tree, TreeOp, TreeReply};
 use std::alloc::Global;
 
@@ -31,10 +31,6 @@ pub enum Want {
 
 /// An operation: a node; a name, or the bytes to be written; an offset, a length or a second node; a second name.
 pub type Step = (Verb, u64, &'static [u8], u64, &'static [u8], Want);
-
-fn bytes_of(alloc: Global, bytes: &[u8]) -> Result<Bytes, NoMemory> {
-    Ok(Bytes::from_vec(Vec::from_slice(alloc, bytes)?))
-}
 
 fn op_on(verb: Verb, node: NodeId, name: Bytes, number: u64, renamed: Bytes) -> TreeOp {
     match verb {
@@ -70,8 +66,8 @@ pub fn answer_of(
     number: u64,
     renamed: &[u8],
 ) -> Result<TreeReply, OpFault> {
-    let name = bytes_of(alloc, name)?;
-    let renamed = bytes_of(alloc, renamed)?;
+    let name = copy_bytes(alloc, name)?;
+    let renamed = copy_bytes(alloc, renamed)?;
     let op = op_on(verb, NodeId(node), name, number, renamed);
     perform(tree, alloc, &op)
 }

@@ -1,6 +1,6 @@
 //! Operations on the world, one after the other.
 
-use bl_syntax::{Bytes, NoMemory, NodeId, Principal, StatePred, Term, Text};
+use bl_syntax::{NodeId, Principal, StatePred, Term, Text, copy_bytes};
 use condition_set::Facts;
 use file_world::{MetaReply, Op, OpFault, OpReply, Refusal, TreeReply};
 use std::alloc::Global;
@@ -33,12 +33,6 @@ enum Wanted<'a> {
     Refused(Refusal),
 }
 
-fn bytes(alloc: Global, of: &[u8]) -> Result<Bytes, NoMemory> {
-    let mut copied = Bytes::new(alloc);
-    copied.extend(of)?;
-    Ok(copied)
-}
-
 fn text(of: &[u8]) -> Result<Text, Fail> {
     Ok(Text::new(of).ok_or("no text")?)
 }
@@ -49,23 +43,23 @@ fn principal(name: &[u8]) -> Result<Principal, Fail> {
 
 fn op_of(alloc: Global, call: &Call) -> Result<Op, Fail> {
     match call {
-        Call::Create(directory, name) => Ok(Op::Create(NodeId(*directory), bytes(alloc, name)?)),
-        Call::Mkdir(directory, name) => Ok(Op::Mkdir(NodeId(*directory), bytes(alloc, name)?)),
+        Call::Create(directory, name) => Ok(Op::Create(NodeId(*directory), copy_bytes(alloc, name)?)),
+        Call::Mkdir(directory, name) => Ok(Op::Mkdir(NodeId(*directory), copy_bytes(alloc, name)?)),
         Call::Write(file, offset, part) => {
-            Ok(Op::Write(NodeId(*file), *offset, bytes(alloc, part)?))
+            Ok(Op::Write(NodeId(*file), *offset, copy_bytes(alloc, part)?))
         }
         Call::Read(file, offset, len) => Ok(Op::Read(NodeId(*file), *offset, *len)),
         Call::List(directory) => Ok(Op::List(NodeId(*directory))),
-        Call::Lookup(directory, name) => Ok(Op::Lookup(NodeId(*directory), bytes(alloc, name)?)),
+        Call::Lookup(directory, name) => Ok(Op::Lookup(NodeId(*directory), copy_bytes(alloc, name)?)),
         Call::Rename(directory, name, target, renamed) => {
-            let from = bytes(alloc, name)?;
-            let to = bytes(alloc, renamed)?;
+            let from = copy_bytes(alloc, name)?;
+            let to = copy_bytes(alloc, renamed)?;
             Ok(Op::Rename(NodeId(*directory), from, NodeId(*target), to))
         }
-        Call::Unlink(directory, name) => Ok(Op::Unlink(NodeId(*directory), bytes(alloc, name)?)),
-        Call::Getattr(node, name) => Ok(Op::Getattr(NodeId(*node), bytes(alloc, name)?)),
+        Call::Unlink(directory, name) => Ok(Op::Unlink(NodeId(*directory), copy_bytes(alloc, name)?)),
+        Call::Getattr(node, name) => Ok(Op::Getattr(NodeId(*node), copy_bytes(alloc, name)?)),
         Call::Setattr(node, name, value) => {
-            Ok(Op::Setattr(NodeId(*node), bytes(alloc, name)?, text(value)?))
+            Ok(Op::Setattr(NodeId(*node), copy_bytes(alloc, name)?, text(value)?))
         }
         Call::Chown(node, owner) => Ok(Op::Chown(NodeId(*node), principal(owner)?)),
     }

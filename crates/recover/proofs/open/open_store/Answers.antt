@@ -41,10 +41,10 @@ returns-in-Ok-clause-ok g c =
     subst (λ (s : StoreView g.row.D.Denot). IsOpened clock left image faults c.args.a c.args.b c.args.key.now c.args.ring s) (sym c.from_scan.ensures)
     (opened_second clock left image faults (λ disk t u b le before. g.met.D.Disk.since_earlier disk t u b le before) (λ disk b told. g.met.D.Disk.image_may_stay disk b told)
     c.args.a c.args.b a1 b1 c.args.key.now c.args.ring
-    (was_read clock left image faults (λ disk t u b le before. g.met.D.Disk.since_earlier disk t u b le before) (λ disk b told. g.met.D.Disk.image_may_stay disk b told) c.args.a a1 found.a_told found.a_time found.a_never_falls found.a_same found.a_pinned)
-    (was_read clock left image faults (λ disk t u b le before. g.met.D.Disk.since_earlier disk t u b le before) (λ disk b told. g.met.D.Disk.image_may_stay disk b told) c.args.b b1 found.b_told found.b_time found.b_never_falls found.b_same found.b_pinned)
+    (was_read clock left image faults (λ disk t u b le before. g.met.D.Disk.since_earlier disk t u b le before) (λ disk b told. g.met.D.Disk.image_may_stay disk b told) c.args.a a1 found.a_told found.a_time found.a_never_falls found.a_same found.a_pinned found.a_no_fault)
+    (was_read clock left image faults (λ disk t u b le before. g.met.D.Disk.since_earlier disk t u b le before) (λ disk b told. g.met.D.Disk.image_may_stay disk b told) c.args.b b1 found.b_told found.b_time found.b_never_falls found.b_same found.b_pinned found.b_no_fault)
     c.in-Ok.area.disk
-    (was_read clock left image faults (λ disk t u b le before. g.met.D.Disk.since_earlier disk t u b le before) (λ disk b told. g.met.D.Disk.image_may_stay disk b told) b1 c.in-Ok.area.disk opened.told opened.time opened.never_falls opened.same opened.pinned)
+    (was_read clock left image faults (λ disk t u b le before. g.met.D.Disk.since_earlier disk t u b le before) (λ disk b told. g.met.D.Disk.image_may_stay disk b told) b1 c.in-Ok.area.disk opened.told opened.time opened.never_falls opened.same opened.pinned opened.no_fault)
     c.in-Ok.area.end c.generation.result c.image.result.now c.in-Ok.gate (held_as c.generation.ensures c.image.ensures opened.holds)
     (subst (Counts (image c.args.a) (image c.args.b)) is found.ok)
     (area_as (image b1) c.generation.result c.in-Ok.scan.generation c.image.result.now c.in-Ok.scan.image (payloads_of c.in-Ok.gate.events) c.generation.ensures c.image.ensures opened.area))
@@ -64,10 +64,10 @@ returns-in-Ok-open_area-clause-ok g c =
     subst (λ (s : StoreView g.row.D.Denot). IsOpened clock left image faults c.args.a c.args.b c.args.key.now c.args.ring s) (sym c.from_scan-in-Ok-open_area.ensures)
     (opened_first clock left image faults (λ disk t u b le before. g.met.D.Disk.since_earlier disk t u b le before) (λ disk b told. g.met.D.Disk.image_may_stay disk b told)
     c.args.a c.args.b a1 b1 c.args.key.now c.args.ring
-    (was_read clock left image faults (λ disk t u b le before. g.met.D.Disk.since_earlier disk t u b le before) (λ disk b told. g.met.D.Disk.image_may_stay disk b told) c.args.a a1 found.a_told found.a_time found.a_never_falls found.a_same found.a_pinned)
-    (was_read clock left image faults (λ disk t u b le before. g.met.D.Disk.since_earlier disk t u b le before) (λ disk b told. g.met.D.Disk.image_may_stay disk b told) c.args.b b1 found.b_told found.b_time found.b_never_falls found.b_same found.b_pinned)
+    (was_read clock left image faults (λ disk t u b le before. g.met.D.Disk.since_earlier disk t u b le before) (λ disk b told. g.met.D.Disk.image_may_stay disk b told) c.args.a a1 found.a_told found.a_time found.a_never_falls found.a_same found.a_pinned found.a_no_fault)
+    (was_read clock left image faults (λ disk t u b le before. g.met.D.Disk.since_earlier disk t u b le before) (λ disk b told. g.met.D.Disk.image_may_stay disk b told) c.args.b b1 found.b_told found.b_time found.b_never_falls found.b_same found.b_pinned found.b_no_fault)
     c.in-Ok-open_area.area.disk
-    (was_read clock left image faults (λ disk t u b le before. g.met.D.Disk.since_earlier disk t u b le before) (λ disk b told. g.met.D.Disk.image_may_stay disk b told) a1 c.in-Ok-open_area.area.disk opened.told opened.time opened.never_falls opened.same opened.pinned)
+    (was_read clock left image faults (λ disk t u b le before. g.met.D.Disk.since_earlier disk t u b le before) (λ disk b told. g.met.D.Disk.image_may_stay disk b told) a1 c.in-Ok-open_area.area.disk opened.told opened.time opened.never_falls opened.same opened.pinned opened.no_fault)
     c.in-Ok-open_area.area.end c.generation-in-Ok-open_area.result c.image-in-Ok-open_area.result.now c.in-Ok-open_area.gate (held_as c.generation-in-Ok-open_area.ensures c.image-in-Ok-open_area.ensures opened.holds)
     (subst (Counts (image c.args.a) (image c.args.b)) is found.ok)
     (area_as (image a1) c.generation-in-Ok-open_area.result c.in-Ok-open_area.scan.generation c.image-in-Ok-open_area.result.now c.in-Ok-open_area.scan.image (payloads_of c.in-Ok-open_area.gate.events)
@@ -87,10 +87,10 @@ returns-in-Err-open_area-clause-err g c =
     let is : c.in-Ok-Some-true.field-0 ≡ Some true = cc in
     not_opened_second clock left image faults (λ disk t u b le before. g.met.D.Disk.since_earlier disk t u b le before) (λ disk b told. g.met.D.Disk.image_may_stay disk b told)
     c.args.a c.args.b a1 b1 c.args.key.now c.args.ring
-    (was_read clock left image faults (λ disk t u b le before. g.met.D.Disk.since_earlier disk t u b le before) (λ disk b told. g.met.D.Disk.image_may_stay disk b told) c.args.a a1 found.a_told found.a_time found.a_never_falls found.a_same found.a_pinned)
-    (was_read clock left image faults (λ disk t u b le before. g.met.D.Disk.since_earlier disk t u b le before) (λ disk b told. g.met.D.Disk.image_may_stay disk b told) c.args.b b1 found.b_told found.b_time found.b_never_falls found.b_same found.b_pinned)
+    (was_read clock left image faults (λ disk t u b le before. g.met.D.Disk.since_earlier disk t u b le before) (λ disk b told. g.met.D.Disk.image_may_stay disk b told) c.args.a a1 found.a_told found.a_time found.a_never_falls found.a_same found.a_pinned found.a_no_fault)
+    (was_read clock left image faults (λ disk t u b le before. g.met.D.Disk.since_earlier disk t u b le before) (λ disk b told. g.met.D.Disk.image_may_stay disk b told) c.args.b b1 found.b_told found.b_time found.b_never_falls found.b_same found.b_pinned found.b_no_fault)
     c.in-Err-open_area.b c.in-Err-open_area.fault (subst (Counts (image c.args.a) (image c.args.b)) is found.ok) failed.why failed.risen
-    (handled clock left image faults (λ disk t u b le before. g.met.D.Disk.since_earlier disk t u b le before) (λ disk b told. g.met.D.Disk.image_may_stay disk b told) b1 c.in-Err-open_area.b failed.told failed.time failed.never_falls) failed.same
+    (handled clock left image faults (λ disk t u b le before. g.met.D.Disk.since_earlier disk t u b le before) (λ disk b told. g.met.D.Disk.image_may_stay disk b told) b1 c.in-Err-open_area.b failed.told failed.time failed.never_falls) failed.same failed.no_fault
 
 pub returns-in-Err-open_area-2-clause-err : goal.returns-in-Err-open_area-2-clause-err
 unfolding Counts
@@ -106,10 +106,10 @@ returns-in-Err-open_area-2-clause-err g c =
     let is : c.in-Ok-Some-false.field-0 ≡ Some false = cc in
     not_opened_first clock left image faults (λ disk t u b le before. g.met.D.Disk.since_earlier disk t u b le before) (λ disk b told. g.met.D.Disk.image_may_stay disk b told)
     c.args.a c.args.b a1 b1 c.args.key.now c.args.ring
-    (was_read clock left image faults (λ disk t u b le before. g.met.D.Disk.since_earlier disk t u b le before) (λ disk b told. g.met.D.Disk.image_may_stay disk b told) c.args.a a1 found.a_told found.a_time found.a_never_falls found.a_same found.a_pinned)
-    (was_read clock left image faults (λ disk t u b le before. g.met.D.Disk.since_earlier disk t u b le before) (λ disk b told. g.met.D.Disk.image_may_stay disk b told) c.args.b b1 found.b_told found.b_time found.b_never_falls found.b_same found.b_pinned)
+    (was_read clock left image faults (λ disk t u b le before. g.met.D.Disk.since_earlier disk t u b le before) (λ disk b told. g.met.D.Disk.image_may_stay disk b told) c.args.a a1 found.a_told found.a_time found.a_never_falls found.a_same found.a_pinned found.a_no_fault)
+    (was_read clock left image faults (λ disk t u b le before. g.met.D.Disk.since_earlier disk t u b le before) (λ disk b told. g.met.D.Disk.image_may_stay disk b told) c.args.b b1 found.b_told found.b_time found.b_never_falls found.b_same found.b_pinned found.b_no_fault)
     c.in-Err-open_area-2.a c.in-Err-open_area-2.fault (subst (Counts (image c.args.a) (image c.args.b)) is found.ok) failed.why failed.risen
-    (handled clock left image faults (λ disk t u b le before. g.met.D.Disk.since_earlier disk t u b le before) (λ disk b told. g.met.D.Disk.image_may_stay disk b told) a1 c.in-Err-open_area-2.a failed.told failed.time failed.never_falls) failed.same
+    (handled clock left image faults (λ disk t u b le before. g.met.D.Disk.since_earlier disk t u b le before) (λ disk b told. g.met.D.Disk.image_may_stay disk b told) a1 c.in-Err-open_area-2.a failed.told failed.time failed.never_falls) failed.same failed.no_fault
 
 pub returns-in-Err-clause-err : goal.returns-in-Err-clause-err
 returns-in-Err-clause-err g c =

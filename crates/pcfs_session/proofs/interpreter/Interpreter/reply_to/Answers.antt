@@ -1,14 +1,15 @@
 -- What a line asks for is done, and a line that asks for nothing has a fault.
 use Rattle.pcfs_session.specs.Interpreter.{IsFollowed}
 use Rattle.pcfs_session.specs.ScriptRun.{IsReplied}
-use Rattle.pcfs_session.proofs.AllowedLemmas.{IsAllowed-line}
+use Rattle.line_forms.specs.Lines.{IsLine}
+use Rattle.line_forms.proofs.LimitLemmas.{line_within}
 use Rattle.pcfs_session.proofs.InterpreterLemmas.{IsReplied-followed, IsReplied-unread}
 use Rattle.pcfs_session.proofs.StoredLemmas.{LeadsTo-also, LeadsTo-same, LeadsTo-unchanged}
 use Rattle.pcfs_session.specs.ScriptRun.{without_memory}
 use Rattle.pcfs_session.proofs.interpreter.Interpreter.reply_to.Goals as goal
 
-pub follow-requires-clause-allowed : goal.follow-requires-clause-allowed
-follow-requires-clause-allowed g c = IsAllowed-line c.args.line.now c.in-Ok.command c.in-Ok.ensures
+pub follow-requires-clause-within : goal.follow-requires-clause-within
+follow-requires-clause-within g c = (let is : IsLine c.args.line.now c.in-Ok.command = c.in-Ok.ensures in line_within is)
 
 pub returns-in-Ok-follow : goal.returns-in-Ok-follow
 returns-in-Ok-follow g c =
