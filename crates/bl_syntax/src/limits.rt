@@ -34,6 +34,12 @@ pub const MOST_CITED: usize = 64;
 /// How many statements may be registered.
 pub const MOST_STATEMENTS: usize = 4096;
 
+/// How high the tree of hashes under a key may be.
+pub const HIGHEST_TREE: u8 = 8;
+
+/// How many bytes a key of seals or of a principal may have.
+pub const MOST_KEY_BYTES: usize = 1024;
+
 /// How many bytes a signature may have.
 pub const LONGEST_SIGNATURE: usize = 32_768;
 

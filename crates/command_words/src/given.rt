@@ -7,7 +7,7 @@ ghost use Rattle.command_words.specs.Tasks.{IsTaskOf};
 ghost use Rattle.command_words.specs.declared.words.Task.{Task};
 
 use crate::words::Task;
-use bl_syntax::limits::{LAST_MOMENT, MOST_EVENTS};
+use bl_syntax::limits::{HIGHEST_TREE, LAST_MOMENT, MOST_EVENTS};
 use clap::ArgMatches;
 use generated_script::MOST_ROUNDS;
 use line_words::numerals::long_number;
@@ -19,7 +19,7 @@ pub const MOST_PIECES: u64 = 64;
 pub const LAST_SECOND: u64 = LAST_MOMENT as u64;
 
 /// The greatest height of a tree of hashes.
-pub const MOST_HEIGHT: u64 = 8;
+pub const MOST_HEIGHT: u64 = HIGHEST_TREE as u64;
 
 /// The greatest port.
 pub const LAST_PORT: u64 = 65_535;

@@ -3,10 +3,9 @@
 ghost use Rattle.std.specs.Prelude.{◌≡◌, ◌^◌, ◌≤◌};
 
 use crate::Stop;
+use bl_syntax::limits::HIGHEST_TREE;
 use merkle_sig::{SignFault, Signer, accepts_root};
 use sha2::{Digest, Sha256};
-
-const MOST_HEIGHT: u8 = 8;
 
 /// The numbers of a row, and its message.
 #[derive(Drop)]
@@ -144,14 +143,14 @@ fn verdict(accepted: bool) -> &'static str {
 
 // The signer of a seed of 32 equal bytes, if its height is at most 8 and the next leaf is not past the last.
 fn signer(seed: u8, height: u8, next: u32) -> Option<Signer> {
-    if height > MOST_HEIGHT || next > width_of(height) {
+    if height > HIGHEST_TREE || next > width_of(height) {
         return None;
     }
     Some(Signer::new([seed; 32], height, next))
 }
 
 fn width_of(height: u8) -> u32
-    requires { height ≤ 8 }
+    requires { height ≤ HIGHEST_TREE }
     ensures { result ≡ 2 ^ height }
 {
     1 << height

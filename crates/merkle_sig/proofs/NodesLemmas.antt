@@ -5,6 +5,7 @@ use Rattle.std.proofs.Math.Nat.{div-one, two-pow-succ}
 use Rattle.std.proofs.Math.Pow.{pow_mono}
 use Rattle.std.proofs.lemmas.Bool.{cases_eq, cond-false, cond-true, eq-eqb, ne_eqb}
 use Rattle.std.proofs.lemmas.Nat.{pow_pos, shr_below, shr-shr}
+use Rattle.bl_syntax.specs.declared.limits.TheConstants.{HIGHEST_TREE}
 use Rattle.merkle_sig.specs.HashTree.{node, parent}
 use Rattle.merkle_sig.specs.Signature.{beside}
 use Rattle.merkle_sig.specs.Nodes.{AreLeaves, AreParents, IsTree}
@@ -120,7 +121,7 @@ module _ (seed : List ℕ) (height leaf level place : ℕ) (nodes : List (List �
   node_beside = ap (λ (i : ℕ). get_or nodes i []) beside_is ∙ tree.at level (beside (leaf / 2 ^ level)) (omega arith) beside_in
 
   -- which is one of the 512
-  pub beside_within : height ≤ 8 → beside place < 512
+  pub beside_within : height ≤ HIGHEST_TREE → beside place < 512
   beside_within small =
       let most : 2 ^ (height - level) ≤ 2 ^ 8 = pow_mono {j = 8} (omega arith) in
       omega (arith, beside_is, beside_in, most)

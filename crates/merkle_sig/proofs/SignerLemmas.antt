@@ -4,6 +4,7 @@ use Rattle.std.specs.List.{AllPairs, range_with_len}
 use Rattle.std.proofs.Math.Pow.{pow_mono}
 use Rattle.std.proofs.lemmas.Bool.{cases_lt}
 use Rattle.std.proofs.lemmas.List.FromFn.{get_or-range_with_len, length-range_with_len}
+use Rattle.bl_syntax.specs.declared.limits.TheConstants.{HIGHEST_TREE}
 use Rattle.merkle_sig.specs.Laws.{EachCallIsAnswered, IsSigner, LeavesRise, NoLeafTwice}
 use Rattle.merkle_sig.specs.Signature.{signature_of}
 use Rattle.merkle_sig.specs.Signer.{SignerView, Signing, Signs, signs, spent, without_memory, SignsAll, none, one_more, leaves_of}
@@ -11,7 +12,7 @@ use Rattle.merkle_sig.specs.declared.signer.SignFault.TheVariants.{Spent, NoMemo
 use Rattle.merkle_sig.proofs.AcceptLemmas.{number_is}
 
 -- a leaf of a tree of height 8 at most has a number of four bytes
-pub fits : (height leaf : ℕ) → height ≤ 8 → leaf < 2 ^ height → leaf < 2 ^ 32
+pub fits : (height leaf : ℕ) → height ≤ HIGHEST_TREE → leaf < 2 ^ height → leaf < 2 ^ 32
 fits height leaf low within =
     let most : 2 ^ height ≤ 2 ^ 8 = pow_mono low in
     omega (arith, most)

@@ -1,6 +1,7 @@
 -- What signatures and signers keep.
 use Rattle.std.specs.Prelude.{◌≡◌, ◌≢◌, ◌<◌, ◌≤◌, ℕ, ◌+◌, ◌^◌, List, length, IsTrue, Err}
 use Rattle.std.specs.List.{AllPairs, range_with_len}
+use Rattle.bl_syntax.specs.declared.limits.TheConstants.{HIGHEST_TREE}
 use Rattle.merkle_sig.specs.HashTree.{root_of}
 use Rattle.merkle_sig.specs.Signature.{accepts_root, signature_of}
 use Rattle.merkle_sig.specs.Signer.{SignerView, Signing, Signs, SignsAll, leaves_of}
@@ -14,7 +15,7 @@ RootAcceptsLeaves = (seed : List ℕ) (height leaf : ℕ) (message : List ℕ) �
 
 -- a signer as `new` makes it and calls leave it
 pub record IsSigner (s : SignerView) : Type 0 where
-  pub low : s.height ≤ 8
+  pub low : s.height ≤ HIGHEST_TREE
   pub within : s.next ≤ 2 ^ s.height
 
 -- over all calls on a signer the leaves are the numbers from its next one on

@@ -1,6 +1,7 @@
 //! A signer: the nodes of its tree, and the next leaf that it gives.
 
 ghost use Rattle.std.specs.Prelude.{◌≡◌, ◌+◌, ◌^◌, ◌<◌, ◌≤◌, ◌++◌, IfOk, OnOk, IsTrue};
+ghost use Rattle.bl_syntax.specs.declared.limits.TheConstants.{HIGHEST_TREE};
 ghost use Rattle.merkle_sig.specs.HashTree.{root_of};
 ghost use Rattle.merkle_sig.specs.Signature.{accepts_root, beside, shown, shown_bits, siblings, signature_of};
 ghost use Rattle.merkle_sig.specs.Signer.{Signs};
@@ -51,13 +52,13 @@ impl Model for Signer {
 
     ghost view = { λ s. record { seed = s.seed; height = s.height; next = s.next } };
 
-    ghost invariant = { λ s. (s.height ≤ 8) × (s.next ≤ 2 ^ s.height) × IsTree s.seed s.height s.nodes };
+    ghost invariant = { λ s. (s.height ≤ HIGHEST_TREE) × (s.next ≤ 2 ^ s.height) × IsTree s.seed s.height s.nodes };
 }
 
 impl Signer {
     /// The signer of this seed and height whose next leaf is `next`. It takes no memory, and makes the whole tree.
     pub fn new(seed: [u8; 32], height: u8, next: u32) -> Signer
-        requires low { height ≤ 8 }
+        requires low { height ≤ HIGHEST_TREE }
         requires within { next ≤ 2 ^ height }
         ensures { result ≡ record { seed = seed; height = height; next = next } }
     {

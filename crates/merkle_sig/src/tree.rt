@@ -1,6 +1,7 @@
 //! All nodes of a tree, made once. No call takes memory.
 
 ghost use Rattle.std.specs.Prelude.{◌≡◌, ℕ, [], ◌*◌, ◌^◌, ◌≤◌, length, slice_index_or};
+ghost use Rattle.bl_syntax.specs.declared.limits.TheConstants.{HIGHEST_TREE};
 ghost use Rattle.merkle_sig.specs.Nodes.{AreLeaves, AreParents, IsTree};
 
 use crate::hashes::{Hash, parent};
@@ -13,7 +14,7 @@ pub(crate) type Nodes = [Hash; MOST_NODES];
 
 /// The nodes of the tree of this seed and height.
 pub(crate) fn tree(seed: &Hash, height: u8) -> Nodes
-    requires { height ≤ 8 }
+    requires { height ≤ HIGHEST_TREE }
     ensures { IsTree seed.now height result }
 {
     let mut nodes = blank();
@@ -25,7 +26,7 @@ pub(crate) fn tree(seed: &Hash, height: u8) -> Nodes
 
 /// How many leaves a tree of this height has.
 pub(crate) fn width_of(height: u8) -> u32
-    requires { height ≤ 8 }
+    requires { height ≤ HIGHEST_TREE }
     ensures { result ≡ 2 ^ height }
 {
     1 << height

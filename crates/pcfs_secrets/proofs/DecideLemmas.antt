@@ -3,6 +3,7 @@ use Rattle.std.proofs.Common.{◌≡◌, ◌≤◌, ◌<◌, ◌-◌, ℕ, zero,
 use Rattle.std.specs.Prelude.{nat_lt, ◌==◌}
 use Rattle.std.proofs.lemmas.Bool.{cases_eq, cases_lt, eqb-true, eqb-false, ltb-true, ltb-false, false≢true}
 use Rattle.std.proofs.lemmas.List.{append_cancel_left, take-append-drop}
+use Rattle.bl_syntax.specs.declared.limits.TheConstants.{HIGHEST_TREE}
 use Rattle.bl_syntax.specs.Names.{is_principal_name}
 use Rattle.line_text.specs.HexWord.{IsHex}
 use Rattle.line_text.proofs.IsHexLemmas.{DecidesHex, decided_hex}
@@ -88,7 +89,7 @@ root_digits digit digits low high (inr none) = inr (λ height root word.
     none root (subst (λ d. IsHex d root) same word.hex))
 
 -- the digit of a word that writes a root
-root_digit : (digit : ℕ) (others : List ℕ) (height : ℕ) (root : List ℕ) → IsRootWord (digit ∷ others) height root → (digit ≡ 48 + height) × (height ≤ 8)
+root_digit : (digit : ℕ) (others : List ℕ) (height : ℕ) (root : List ℕ) → IsRootWord (digit ∷ others) height root → (digit ≡ 48 + height) × (height ≤ HIGHEST_TREE)
 root_digit digit others height root word = (ap (λ (l : List ℕ). get_or l 0 0) word.word_is, word.low)
 
 root_high : (digit : ℕ) (digits : List ℕ) → 48 ≤ digit → (digit < 57) ⊎ (57 ≤ digit) → DecidesRootWord (digit ∷ 32 ∷ digits)

@@ -1,9 +1,9 @@
 -- The lines of a secrets file (this project's own).
 use Rattle.std.specs.Prelude.{◌≡◌, ◌≤◌, ℕ, ◌+◌, zero, suc, List, [], ◌∷◌, ◌++◌, length, codes, IsTrue}
+use Rattle.bl_syntax.specs.declared.limits.TheConstants.{HIGHEST_TREE, MOST_KEY_BYTES}
 use Rattle.bl_syntax.specs.Names.{is_principal_name}
 use Rattle.line_text.specs.HexWord.{IsHex}
 use Rattle.policy_statement.specs.Ring.{Credential, keyed, rooted, KeyView, IsKnown}
-use Rattle.pcfs_secrets.specs.declared.lines.TheConstants.{MOST_KEY_BYTES}
 
 -- the word writes a key in hexadecimal, which is not too long
 pub record IsKeyWord (word key : List ℕ) : Type 0 where
@@ -18,7 +18,7 @@ pub data IsSealLine : List ℕ → List ℕ → Type 0 where
 pub record IsRootWord (word : List ℕ) (height : ℕ) (root : List ℕ) : Type 0 where
   pub digits : List ℕ
   pub word_is : word ≡ (48 + height) ∷ 32 ∷ digits
-  pub low : height ≤ 8
+  pub low : height ≤ HIGHEST_TREE
   pub hex : IsHex digits root
   pub whole : length root ≡ 32
 

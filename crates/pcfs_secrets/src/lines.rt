@@ -1,17 +1,16 @@
 //! The lines of a secrets file.
 
 ghost use Rattle.std.specs.Prelude.{◌≡◌, ◌≢◌, ◌++◌, ◌∷◌, ◌≤◌, [], ℕ, List, length, IsTrue, IfOk, IfSome, IsSomeAnd, MatchOption, MatchBool};
+ghost use Rattle.bl_syntax.specs.declared.limits.TheConstants.{HIGHEST_TREE};
 ghost use Rattle.bl_syntax.specs.Names.{is_principal_name};
 ghost use Rattle.policy_statement.specs.Ring.{KeyView, IsKnown, keyed, rooted};
 ghost use Rattle.pcfs_secrets.specs.SecretLines.{GivesKey, IsKeyWord, IsRootWord, IsSealLine, MayHave};
 
+use bl_syntax::limits::MOST_KEY_BYTES;
 use bl_syntax::{Bytes, NoMemory, Principal};
 use line_text::{read_hex, rest_after, word_before};
 use policy_statement::{KeyFault, Keyring};
 use std::alloc::Global;
-
-/// The most bytes of a key.
-pub const MOST_KEY_BYTES: usize = 1024;
 
 // The key that the word writes.
 fn read_key(alloc: Global, word: &[u8]) -> Result<Option<Bytes>, NoMemory>
@@ -104,7 +103,7 @@ fn add_root_to(
     height: u8,
     root: [u8; 32],
 ) -> Result<bool, NoMemory>
-    requires { height ≤ 8 }
+    requires { height ≤ HIGHEST_TREE }
     ensures { IfOk result (λ added. MatchBool added
         ((IsKnown ring.old who → ⊥) × (ring.new ≡ ring.old ++ record { who = who; holds = rooted height root } ∷ []))
         (IsKnown ring.old who × (ring.new ≡ ring.old))) }

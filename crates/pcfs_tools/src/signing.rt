@@ -1,6 +1,7 @@
 //! The statements in an input, and the lines that register them by a tree of hashes.
 
 ghost use Rattle.std.specs.Prelude.{◌≤◌, ◌^◌};
+ghost use Rattle.bl_syntax.specs.declared.limits.TheConstants.{HIGHEST_TREE};
 ghost use Rattle.pcfs_tools.specs.Broken.{broken_of};
 ghost use Rattle.pcfs_tools.specs.Signed.{TellsSigning};
 ghost use Rattle.pcfs_session.specs.Streams.{streams_of};
@@ -19,7 +20,7 @@ pub fn sign_statements<I: Source, O: Sink>(
     input: &mut I,
     output: &mut O,
 ) -> u8
-    requires low { height ≤ 8 }
+    requires low { height ≤ HIGHEST_TREE }
     requires within { from ≤ 2 ^ height }
     ensures { TellsSigning height from
         (streams_of I.left I.faults O.held O.faults input.old output.old)

@@ -3,6 +3,7 @@ use Rattle.std.proofs.Common.{◌≡◌, ◌≤◌, ℕ, List, length, Option, S
 use Rattle.std.specs.Option.{option_map_or}
 use Rattle.std.proofs.lemmas.Bool.{and_parts, eqb-true, leb-true}
 use Rattle.std.proofs.lemmas.Slice.Eq.{bytes_eq-Decides}
+use Rattle.bl_syntax.specs.declared.limits.TheConstants.{HIGHEST_TREE}
 use Rattle.merkle_sig.specs.Signature.{accepts_root, signature_length}
 use Rattle.pcfs_hmac.specs.Hmac.{hmac}
 use Rattle.sha2.proofs.Facts256.{length-sha256}
@@ -22,7 +23,7 @@ length_by message signature (keyed key) accepted =
     omega arith
 length_by message signature (rooted height root) accepted =
     let both = and_parts _ _ accepted in
-    let low : height ≤ 8 = leb-true _ _ both.0 in
+    let low : height ≤ HIGHEST_TREE = leb-true _ _ both.0 in
     let long = tree_length root height message signature both.1 in
     omega (arith, low, long)
 

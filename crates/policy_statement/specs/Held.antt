@@ -1,5 +1,6 @@
 -- What a ring keeps of a name, and what it stands for.
 use Rattle.std.specs.Prelude.{◌≡◌, ◌≤◌, []}
+use Rattle.bl_syntax.specs.declared.limits.TheConstants.{HIGHEST_TREE}
 use Rattle.policy_statement.specs.declared.ring.Held.{Held}
 use Rattle.policy_statement.specs.declared.ring.Held.TheVariants.{Key, Root}
 use Rattle.policy_statement.specs.Ring.{Credential, keyed, rooted}
@@ -12,4 +13,4 @@ credential (Root height root) = rooted height root
 -- the text is empty, and a tree is not too high
 abbrev pub IsHeld : Held → Type 0
 IsHeld (Key empty) = empty.text ≡ []
-IsHeld (Root height root) = height ≤ 8
+IsHeld (Root height root) = height ≤ HIGHEST_TREE

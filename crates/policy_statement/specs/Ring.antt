@@ -4,6 +4,7 @@
 use Rattle.std.specs.Prelude.{ℕ, List, Bool, false, ◌&&◌, nat_le, Option, Some, None, IsSome, find, option_and_then}
 use Rattle.std.specs.Option.{option_map, option_map_or}
 use Rattle.std.specs.Str.{bytes_eq}
+use Rattle.bl_syntax.specs.declared.limits.TheConstants.{HIGHEST_TREE}
 use Rattle.merkle_sig.specs.Signature.{accepts_root}
 use Rattle.pcfs_hmac.specs.Hmac.{hmac}
 
@@ -35,10 +36,10 @@ abbrev pub tag_of : List KeyView → List ℕ → List ℕ → Option (List ℕ)
 tag_of ring who message = option_and_then (tag_by message) (credential_of ring who)
 
 -- whether a signature is the tag of the message under the key, or the root accepts it; no ring has
--- a tree of a height over 8
+-- a higher tree
 abbrev pub accepts_by : List ℕ → List ℕ → Credential → Bool
 accepts_by message signature (keyed key) = bytes_eq (hmac key message) signature
-accepts_by message signature (rooted height root) = nat_le height 8 && accepts_root root height message signature
+accepts_by message signature (rooted height root) = nat_le height HIGHEST_TREE && accepts_root root height message signature
 
 -- whether a signature is accepted from a name: by its key, by its root, or not at all where it has
 -- neither

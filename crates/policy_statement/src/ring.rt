@@ -6,6 +6,7 @@ ghost use Rattle.pcfs_hmac.specs.Hmac.{hmac};
 ghost use Rattle.policy_statement.specs.Ring.{IsKnown, credential_of, keyed, rooted, tag_of};
 ghost use Rattle.policy_statement.specs.declared.ring.KeyFault.TheVariants as faults;
 
+use bl_syntax::limits::HIGHEST_TREE;
 use bl_syntax::{NoMemory, Principal};
 use merkle_sig::accepts_root;
 use pcfs_hmac::Mac;
@@ -14,9 +15,6 @@ use std::alloc::{AllocFailed, Global};
 use std::marker::Model;
 use thiserror::Error;
 
-/// The greatest height of a tree of hashes.
-const MOST_HEIGHT: u8 = 8;
-
 /// Why a key or a root was not added.
 #[derive(Clone, Copy, Debug, PartialEq, Eq, Error)]
 pub enum KeyFault {
@@ -24,7 +22,7 @@ pub enum KeyFault {
     #[error("the name has a key or a root already")]
     Known,
     /// The tree is higher than 8.
-    #[error("the tree is higher than {most}", most = MOST_HEIGHT)]
+    #[error("the tree is higher than {most}", most = HIGHEST_TREE)]
     BadHeight,
     /// A growth was refused.
     #[error("out of memory")]
@@ -79,7 +77,7 @@ impl Entry {
     }
 
     fn with_root(who: Principal, height: u8, root: [u8; 32]) -> Entry
-        requires { height ≤ 8 }
+        requires { height ≤ HIGHEST_TREE }
         ensures { result ≡ record { who = who; holds = rooted height root } }
     {
         Entry {
@@ -184,12 +182,12 @@ impl Keyring {
         ensures ok { OnOk result (self.new ≡ self.old ++ record { who = who; holds = rooted height root } ∷ []) }
         ensures err { OnErr result (self.new ≡ self.old) }
         ensures known { IsErrOf result faults.Known ↔ IsKnown self.old who }
-        ensures high { IsErrOf result faults.BadHeight ↔ (¬ (IsKnown self.old who) × (8 < height)) }
+        ensures high { IsErrOf result faults.BadHeight ↔ (¬ (IsKnown self.old who) × (HIGHEST_TREE < height)) }
     {
         if self.find(who.bytes()).is_some() {
             return Err(KeyFault::Known);
         }
-        if height > MOST_HEIGHT {
+        if height > HIGHEST_TREE {
             return Err(KeyFault::BadHeight);
         }
         self.entries.push(Entry::with_root(who, height, root))?;

@@ -3,6 +3,7 @@ use Rattle.std.proofs.Common.{◌≡◌, ◌≤◌, ◌<◌, ◌⊎◌, inl, inr
 use Rattle.std.specs.Prelude.{nat_le}
 use Rattle.std.specs.Option.{option_map_or}
 use Rattle.std.proofs.lemmas.Bool.{and_from, cases_lt, le-leb}
+use Rattle.bl_syntax.specs.declared.limits.TheConstants.{HIGHEST_TREE}
 use Rattle.bl_syntax.specs.Statement.{StatementView}
 use Rattle.line_forms.specs.declared.fault.LineFault.{LineFault}
 use Rattle.line_forms.specs.declared.fault.LineFault.TheVariants.{BadWord}
@@ -107,4 +108,4 @@ accepts_signed ring seed height leaf s low within held =
     let signature : List ℕ = signature_of seed height leaf message in
     let accepted : IsTrue (accepts_root (root_of seed height) height message signature) = roots_accept seed height leaf message within (fits height leaf low within) in
     subst (λ (o : Option Credential). IsTrue (option_map_or (accepts_by message signature) o false)) (sym held)
-    (and_from (nat_le height 8) (accepts_root (root_of seed height) height message signature) (le-leb height 8 low) accepted)
+    (and_from (nat_le height HIGHEST_TREE) (accepts_root (root_of seed height) height message signature) (le-leb height HIGHEST_TREE low) accepted)

@@ -1,5 +1,6 @@
 -- Laws of what the lines of a text come to as statements to be signed.
 use Rattle.std.specs.Prelude.{◌≡◌, ◌<◌, ◌≤◌, ℕ, ◌^◌, List, Some, IsTrue}
+use Rattle.bl_syntax.specs.declared.limits.TheConstants.{HIGHEST_TREE}
 use Rattle.bl_syntax.specs.Statement.{StatementView}
 use Rattle.merkle_sig.specs.HashTree.{root_of}
 use Rattle.merkle_sig.specs.Signature.{signature_of}
@@ -23,6 +24,6 @@ HasAnEnd = (height from : ℕ) (lines : List (List ℕ)) → from ≤ 2 ^ height
 -- name
 abbrev pub RingAcceptsSigned : Type 0
 RingAcceptsSigned = (ring : List KeyView) (seed : List ℕ) (height leaf : ℕ) (s : StatementView)
-    → height ≤ 8 → leaf < 2 ^ height
+    → height ≤ HIGHEST_TREE → leaf < 2 ^ height
     → credential_of ring s.who ≡ Some (rooted height (root_of seed height))
     → IsTrue (is_accepted ring s.who (statement_message s) (signature_of seed height leaf (statement_message s)))

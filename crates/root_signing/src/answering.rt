@@ -2,6 +2,7 @@
 #![tactic(auto, using(bl_syntax::proofs::BeginsWithLemmas::writing))]
 
 ghost use Rattle.std.specs.Prelude.{◌≡◌, ◌≢◌, ◌≤◌, ◌++◌, ◌∷◌, ◌^◌, [], ℕ, List, codes, IfOk, OnOk, OnErr};
+ghost use Rattle.bl_syntax.specs.declared.limits.TheConstants.{HIGHEST_TREE};
 ghost use Rattle.line_text.specs.HexWord.{hex_word};
 ghost use Rattle.line_text.specs.Lines.{lines_of};
 ghost use Rattle.root_signing.specs.Signed.{ComesTo, SigningEnds, SignsLines, fault_line, root_line};
@@ -38,7 +39,7 @@ pub struct SigningEnd {
 
 // How many leaves a tree of this height has.
 fn leaves_of(height: u8) -> u32
-    requires { height ≤ 8 }
+    requires { height ≤ HIGHEST_TREE }
     ensures { result ≡ 2 ^ height }
 {
     1 << height
@@ -89,7 +90,7 @@ fn signed_end(
     from: u32,
     text: &[u8],
 ) -> Result<SigningEnd, NoMemory>
-    requires low { height ≤ 8 }
+    requires low { height ≤ HIGHEST_TREE }
     requires within { from ≤ 2 ^ height }
     ensures { IfOk result (λ end. (written : List ℕ) × SignsLines seed height from 2 (lines_of text.now) end.status written
         × (end.lines ≡ root_line seed height ++ written)) }
@@ -110,7 +111,7 @@ fn lines_end(
     line: &[u8],
     others: &[u8],
 ) -> Result<SigningEnd, NoMemory>
-    requires low { height ≤ 8 }
+    requires low { height ≤ HIGHEST_TREE }
     requires within { from ≤ 2 ^ height }
     ensures { IfOk result (λ end. ComesTo height from (line.now ∷ lines_of others.now) end.status end.lines) }
 {
@@ -122,7 +123,7 @@ fn lines_end(
 
 // The end of a text.
 fn text_end(alloc: Global, height: u8, from: u32, text: &[u8]) -> Result<SigningEnd, NoMemory>
-    requires low { height ≤ 8 }
+    requires low { height ≤ HIGHEST_TREE }
     requires within { from ≤ 2 ^ height }
     ensures { IfOk result (λ end. ComesTo height from (lines_of text.now) end.status end.lines) }
 {
@@ -143,7 +144,7 @@ pub fn answer_signing<I: Source>(
     from: u32,
     input: &mut I,
 ) -> Result<SigningEnd, NoMemory>
-    requires low { height ≤ 8 }
+    requires low { height ≤ HIGHEST_TREE }
     requires within { from ≤ 2 ^ height }
     ensures ends { IfOk result (λ end. SigningEnds height from (I.left input.old) (I.left input.new) (I.faults input.old) (I.faults input.new)
         (I.broken input.new) end.status end.lines) }

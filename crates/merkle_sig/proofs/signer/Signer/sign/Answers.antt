@@ -1,4 +1,5 @@
 use Rattle.std.proofs.Common.{◌≡◌, ◌^◌, ◌≤◌, ℕ, List, IsTrue, ap, sym, subst, ◌∙◌}
+use Rattle.bl_syntax.specs.declared.limits.TheConstants.{HIGHEST_TREE}
 use Rattle.merkle_sig.specs.HashTree.{root_of}
 use Rattle.merkle_sig.specs.Signature.{accepts_root}
 use Rattle.merkle_sig.specs.Signer.{SignerView, spent, without_memory}
@@ -23,7 +24,7 @@ returns-in-Ok-clause-accepted c =
     let s : SignerView = c.args.self.now in
     let inside : SignerView = record { seed = c.self.inside.seed; height = c.self.inside.height; next = c.self.inside.next } in
     let left = one_is_left s inside c.width_of.result c.self.view_is c.self.invariant.1 c.width_of.ensures c.if-self-width_of.false in
-    let low = subst (λ (t : SignerView). t.height ≤ 8) c.self.view_is c.self.invariant.0 in
+    let low = subst (λ (t : SignerView). t.height ≤ HIGHEST_TREE) c.self.view_is c.self.invariant.0 in
     subst (λ (given : List ℕ). IsTrue (accepts_root (root_of s.seed s.height) s.height c.args.message.now given)) (sym c.in-Ok.ensures)
     (roots_accept s.seed s.height s.next c.args.message.now left (fits s.height s.next low left))
 
