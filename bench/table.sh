@@ -1,5 +1,5 @@
 #!/usr/bin/env bash
-# Measures all that has an aim of speed or memory in a step, an opening, a checkpoint and an audit, in one run of some ten minutes, and
+# Measures all that has an aim of speed or memory in a step, an opening, a checkpoint and an audit, in one run of some four minutes, and
 # prints one table: the work, its aim, the figure, its peer's figure, and whether the aim is met. It runs script.sh, serve.sh (in memory),
 # memory.sh, stored.sh, checkpoint.sh and audit.sh one after another, and reads what they print; beside them it counts the bytes that a
 # step of `pcfs serve` copies or zeroes, and the calls of its disks that a stored event takes. The machine should have nothing else to do:
@@ -70,5 +70,5 @@ part audit 150 "$bench/audit.sh"
 part copies 120 bash -c copies
 part calls 40 bash -c 'cd "$memory" && python3 "$bench/table/calls.py" "$program"'
 python3 "$bench/table/rows.py" "$kept" | tee "$kept/table.log"
-sed -n 's/^  .* in /&/p' "$kept/copies.log" 2> /dev/null | head -n 12
+grep '^  .* in ' "$kept/copies.log" 2> /dev/null | head -n 12
 echo "load at the end $(cut -d ' ' -f 1-3 /proc/loadavg), after $SECONDS s${INTO:+; all is in $kept}"
