@@ -199,8 +199,8 @@ grouped-at-preserved t c =
       within = read.within;
     }
 
-pub group-returns-then-depth-ge512-clause-fault : goal.group-returns-then-depth-ge512-clause-fault
-group-returns-then-depth-ge512-clause-fault t c = s.too_deep _ _ _ c.requires.open (lt_false c.args.depth 512 (omega arith))
+pub group-returns-then-depth-ge-MOST_FORMULA_NODES-clause-fault : goal.group-returns-then-depth-ge-MOST_FORMULA_NODES-clause-fault
+group-returns-then-depth-ge-MOST_FORMULA_NODES-clause-fault t c = s.too_deep _ _ _ c.requires.open (lt_false c.args.depth 512 (omega arith))
 
 pub group-returns-in_err-a-clause-fault : goal.group-returns-in_err-a-clause-fault
 group-returns-in_err-a-clause-fault t c = passed c.from_residual.result c.in_err-a.field-0.0 _ (search rules) (s.in_group _ _ _ _ c.requires.open (lt_true c.args.depth 512 (omega arith)) (stops_at c.step_into.ensures.same c.in_err-a.ensures.fault))
