@@ -25,7 +25,7 @@ use Rattle.access_history.specs.declared.event.Issue.{Issue}
 use Rattle.access_history.specs.Base.{BaseView}
 use Rattle.access_history.specs.Gone.{bearing, bearings, gone, gone_by_issues, gone_naming}
 use Rattle.access_history.specs.Numbered.{IsNumbered}
-use Rattle.access_history.specs.Authority.{sayings}
+use Rattle.policy_statement.specs.Registry.{sayings}
 use Rattle.access_history.specs.Books.{book_of, statements_in}
 use Rattle.access_history.specs.Citing.{IsGoodIssue}
 use Rattle.access_history.specs.Admission.{wanted_goal, causes_from, condition_causes, withdrawal_causes, denial_causes, Passes, Admits, Denies, IsNeedMet, IsAdmitted, IsDenied}

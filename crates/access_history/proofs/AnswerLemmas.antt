@@ -23,7 +23,8 @@ use Rattle.access_history.specs.declared.reply.StepReply.{StepReply}
 use Rattle.access_history.specs.declared.reply.StepReply.TheVariants as replies
 use Rattle.access_history.specs.Base.{BaseView}
 use Rattle.access_history.specs.Numbered.{IsNumbered}
-use Rattle.access_history.specs.Authority.{Authority, IsSignedStatement, IsSignedWithdrawal, MayBeRegistered, sayings, procap_of}
+use Rattle.access_history.specs.Authority.{Authority, IsSignedStatement, IsSignedWithdrawal, MayBeRegistered, procap_of}
+use Rattle.policy_statement.specs.Registry.{sayings}
 use Rattle.access_history.specs.Books.{book_of}
 use Rattle.access_history.specs.Citing.{StandsUnderNumber, IsHeld, IsMoved, MayBeWithdrawn, issued_grant, numbers_of}
 use Rattle.access_history.specs.Replay.{replay}

@@ -32,7 +32,8 @@ use Rattle.access_history.specs.declared.reply.StepReply.{StepReply}
 use Rattle.access_history.specs.Base.{BaseView}
 use Rattle.access_history.specs.Gone.{gone}
 use Rattle.access_history.specs.Numbered.{IsNumbered}
-use Rattle.access_history.specs.Authority.{Authority, IsSignedStatement, IsSignedWithdrawal, sayings}
+use Rattle.access_history.specs.Authority.{Authority, IsSignedStatement, IsSignedWithdrawal}
+use Rattle.policy_statement.specs.Registry.{sayings}
 use Rattle.access_history.specs.Books.{book_of}
 use Rattle.access_history.specs.Citing.{StandsUnderNumber, IsHeld}
 use Rattle.access_history.specs.Admission.{wanted_goal, denial_causes, Passes, Admits, IsNeedMet, IsAdmitted}

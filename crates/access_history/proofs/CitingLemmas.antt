@@ -27,7 +27,7 @@ use Rattle.proof_verifier.specs.declared.fault.CheckFault.{CheckFault}
 use Rattle.proof_verifier.specs.declared.fault.CheckFault.TheVariants as checks
 use Rattle.proof_verifier.proofs.SoundnessVerdict.{cited-verdict}
 use Rattle.access_history.specs.declared.event.Issue.{Issue}
-use Rattle.access_history.specs.Authority.{sayings}
+use Rattle.policy_statement.specs.Registry.{sayings}
 use Rattle.access_history.specs.Base.{BaseView}
 use Rattle.access_history.specs.Books.{Book, whole_book, live_book, statements_in, book_of}
 use Rattle.access_history.specs.Citing.{numbers_of, StandsUnderNumber, IsHeld, AreFound, IsAbsent, IsGrantOf, as_proved, naming, issued_grant, IsGrantedFrom, IsGoodIssue, MayBeIssued}

@@ -9,7 +9,7 @@ use Rattle.policy_statement.specs.Registered.{RegisteredView}
 use Rattle.policy_statement.specs.Withdrawal.{entry_of_number, live_statement, marked}
 use Rattle.journal_records.specs.declared.event.Event.{Event}
 use Rattle.journal_records.specs.declared.event.Event.TheVariants.{Registered, Withdrawn, Issued, Acted}
-use Rattle.access_history.specs.Authority.{sayings}
+use Rattle.policy_statement.specs.Registry.{sayings}
 use Rattle.access_history.specs.Base.{BaseView}
 use Rattle.access_history.specs.Books.{live_book, book_of}
 use Rattle.access_history.specs.Laws.{IsWithdrawnIn}

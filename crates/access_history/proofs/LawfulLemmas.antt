@@ -15,7 +15,8 @@ use Rattle.file_world.proofs.HalvesLemmas.{IsWorld-after}
 use Rattle.journal_records.specs.declared.event.Event.{Event}
 use Rattle.journal_records.specs.declared.event.Event.TheVariants.{Registered, Withdrawn, Issued, Acted}
 use Rattle.access_history.specs.Base.{BaseView}
-use Rattle.access_history.specs.Authority.{Authority, MayBeRegistered, IsSignedEntry, sayings}
+use Rattle.access_history.specs.Authority.{Authority, MayBeRegistered, IsSignedEntry}
+use Rattle.policy_statement.specs.Registry.{sayings}
 use Rattle.access_history.specs.Books.{book_of}
 use Rattle.access_history.specs.Citing.{IsGoodIssue, MayBeIssued, MayBeWithdrawn}
 use Rattle.access_history.specs.Replay.{next_state, replay}

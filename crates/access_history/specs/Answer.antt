@@ -26,7 +26,8 @@ use Rattle.access_history.specs.Base.{BaseView}
 use Rattle.access_history.specs.Numbered.{IsNumbered}
 use Rattle.access_history.specs.Books.{book_of}
 use Rattle.access_history.specs.Citing.{StandsUnderNumber, IsHeld, IsMoved, MayBeWithdrawn, issued_grant, numbers_of}
-use Rattle.access_history.specs.Authority.{Authority, IsSignedStatement, IsSignedWithdrawal, MayBeRegistered, sayings, procap_of}
+use Rattle.access_history.specs.Authority.{Authority, IsSignedStatement, IsSignedWithdrawal, MayBeRegistered, procap_of}
+use Rattle.policy_statement.specs.Registry.{sayings}
 use Rattle.access_history.specs.Admission.{IsAdmitted, IsDenied}
 
 -- the moment of a step: the clock's, but not before the last one

@@ -1,11 +1,11 @@
 -- Whose signatures are accepted, and under which key procaps are sealed; statements with their
 -- signatures, and withdrawals (this project's own).
-use Rattle.std.specs.Prelude.{◌<◌, ℕ, List, length, Bool, IsTrue, map, Contains}
-use Rattle.bl_syntax.specs.declared.limits.TheConstants.{MOST_STATEMENTS}
+use Rattle.std.specs.Prelude.{ℕ, List, Bool, IsTrue}
 use Rattle.bl_syntax.specs.Statement.{StatementView, IsStatement}
 use Rattle.bl_syntax.specs.Grant.{GrantView}
 use Rattle.policy_statement.specs.Messages.{statement_message, withdraw_message}
 use Rattle.policy_statement.specs.Registered.{RegisteredView}
+use Rattle.policy_statement.specs.Registry.{CanRegister, sayings}
 use Rattle.procap.specs.Genuine.{seal_of}
 use Rattle.procap.specs.declared.procap.Procap.{Procap}
 
@@ -25,15 +25,6 @@ IsSignedWithdrawal authority statement signature = IsTrue (authority.accepts sta
 -- the signature with which the statement was registered is accepted
 abbrev pub IsSignedEntry : Authority → RegisteredView → Type 0
 IsSignedEntry authority entry = IsSignedStatement authority entry.statement entry.signature
-
--- the statements without their signatures, in order, withdrawn ones too
-abbrev pub sayings : List RegisteredView → List StatementView
-sayings entries = map (λ (entry : RegisteredView). entry.statement) entries
-
--- the statement can be added to these: no equal one is among them, and there is room
-pub record CanRegister (statements : List StatementView) (said : StatementView) : Type 0 where
-  pub new : Contains statements said → ⊥
-  pub room : length statements < MOST_STATEMENTS
 
 -- the statement may be registered beside these: it may be said, its signature is accepted, and it
 -- can be added

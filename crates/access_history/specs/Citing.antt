@@ -10,7 +10,8 @@ use Rattle.proof_verifier.specs.declared.cites.Cite.{Cite}
 use Rattle.proof_verifier.specs.Cited.{AreCited, statements_of}
 use Rattle.proof_verifier.specs.CheckedView.{IsGranted}
 use Rattle.access_history.specs.declared.event.Issue.{Issue}
-use Rattle.access_history.specs.Authority.{Authority, IsSignedWithdrawal, sayings}
+use Rattle.access_history.specs.Authority.{Authority, IsSignedWithdrawal}
+use Rattle.policy_statement.specs.Registry.{sayings}
 use Rattle.access_history.specs.Base.{BaseView}
 use Rattle.access_history.specs.Books.{Book, whole_book, book_of}
 use Rattle.access_history.specs.Numbered.{IsNumbered}

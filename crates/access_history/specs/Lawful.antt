@@ -18,7 +18,8 @@ use Rattle.journal_records.specs.declared.event.Event.{Event}
 use Rattle.journal_records.specs.declared.event.Event.TheVariants.{Registered, Withdrawn, Issued, Acted}
 use Rattle.access_history.specs.Base.{BaseView}
 use Rattle.access_history.specs.Numbered.{IsNumbered}
-use Rattle.access_history.specs.Authority.{Authority, MayBeRegistered, IsSignedEntry, sayings}
+use Rattle.access_history.specs.Authority.{Authority, MayBeRegistered, IsSignedEntry}
+use Rattle.policy_statement.specs.Registry.{sayings}
 use Rattle.access_history.specs.Books.{book_of, statements_in}
 use Rattle.access_history.specs.Citing.{IsGoodIssue, MayBeIssued, MayBeWithdrawn}
 use Rattle.access_history.specs.Admission.{IsAdmitted}

@@ -26,7 +26,8 @@ use Rattle.access_history.specs.Headline.{Headline}
 use Rattle.access_history.specs.Admission.{IsAdmitted}
 use Rattle.access_history.specs.Answer.{Answers, moment_of}
 use Rattle.access_history.specs.WellFormed.{IsWellFormed}
-use Rattle.access_history.specs.Authority.{Authority, CanRegister, sayings}
+use Rattle.access_history.specs.Authority.{Authority}
+use Rattle.policy_statement.specs.Registry.{CanRegister, sayings}
 use Rattle.access_history.specs.Books.{book_of}
 use Rattle.access_history.specs.Citing.{HoldsNone}
 use Rattle.access_history.specs.Gone.{bearings, gone, IsFirstWithdrawn}

@@ -56,7 +56,7 @@ impl History {
     ghost use Rattle.access_history.specs.Lawful.{IsLawful, IsLawfulBase, MayFollow};
     ghost use Rattle.access_history.specs.Replay.{fresh};
     ghost use Rattle.access_history.specs.Headline.{Headline};
-    ghost use Rattle.access_history.specs.Authority.{sayings};
+    ghost use Rattle.policy_statement.specs.Registry.{sayings};
     ghost use Rattle.access_history.specs.Books.{book_of};
     ghost use Rattle.access_history.specs.Citing.{HoldsNone};
     ghost use Rattle.access_history.specs.Gone.{gone, gone_by_issues};

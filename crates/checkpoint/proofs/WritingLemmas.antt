@@ -17,7 +17,7 @@ use Rattle.access_history.specs.Base.{BaseView}
 use Rattle.access_history.specs.Citing.{IsGoodIssue}
 use Rattle.access_history.specs.History.{authority_with}
 use Rattle.access_history.specs.Lawful.{IsLawfulBase}
-use Rattle.access_history.specs.Authority.{sayings}
+use Rattle.policy_statement.specs.Registry.{sayings}
 use Rattle.record_parts.specs.Fields.{FitsOneByte}
 use Rattle.bl_syntax.specs.Statement.{StatementView}
 use Rattle.node_rows.specs.declared.rows.TreeRow.{TreeRow}

@@ -14,7 +14,7 @@ use Rattle.policy_statement.specs.Withdrawal.{MayWithdraw}
 use Rattle.policy_statement.specs.declared.registry.WithdrawFault.{WithdrawFault}
 use Rattle.policy_statement.specs.declared.registry.WithdrawFault.TheVariants as withdrawals
 use Rattle.policy_statement.specs.Registered.{RegisteredView}
-use Rattle.policy_statement.specs.Registry.{MayRegister}
+use Rattle.policy_statement.specs.Registry.{MayRegister, CanRegister, sayings}
 use Rattle.policy_statement.specs.Ring.{is_accepted}
 use Rattle.policy_statement.specs.declared.registry.RegisterFault.{RegisterFault}
 use Rattle.policy_statement.specs.declared.registry.RegisterFault.TheVariants as registry
@@ -36,7 +36,7 @@ use Rattle.access_history.specs.declared.reply.StepReply.{StepReply}
 use Rattle.access_history.specs.declared.request.StepRequest.TheVariants.{Act}
 use Rattle.access_history.specs.Admission.{IsAdmitted, IsNeedMet}
 use Rattle.access_history.specs.Answer.{Answers, moment_of, denied, refused, acted}
-use Rattle.access_history.specs.Authority.{Authority, CanRegister, IsSignedStatement, IsSignedWithdrawal, MayBeRegistered, sayings}
+use Rattle.access_history.specs.Authority.{Authority, IsSignedStatement, IsSignedWithdrawal, MayBeRegistered}
 use Rattle.access_history.specs.Base.{BaseView}
 use Rattle.bl_syntax.specs.Citable.{AreCitable}
 use Rattle.access_history.specs.Books.{Book, book_of, live_book, whole_book}

@@ -9,13 +9,13 @@ use Rattle.bl_syntax.specs.Statement.{StatementView, IsStatement}
 use Rattle.bl_syntax.proofs.GrantLemmas.{AllByRecursion-push, AreDistinct-push, Contains-head}
 use Rattle.policy_statement.specs.Messages.{statement_message}
 use Rattle.policy_statement.specs.Registered.{RegisteredView}
-use Rattle.policy_statement.specs.Registry.{MayRegister}
+use Rattle.policy_statement.specs.Registry.{MayRegister, CanRegister, sayings}
 use Rattle.policy_statement.specs.Ring.{KeyView, is_accepted}
 use Rattle.policy_statement.specs.declared.registry.RegisterFault.{RegisterFault}
 use Rattle.policy_statement.specs.declared.registry.RegisterFault.TheVariants as registry
 use Rattle.file_world.specs.World.{IsWorld}
 use Rattle.access_history.specs.declared.event.Issue.{Issue}
-use Rattle.access_history.specs.Authority.{Authority, CanRegister, IsSignedEntry, sayings}
+use Rattle.access_history.specs.Authority.{Authority, IsSignedEntry}
 use Rattle.access_history.specs.Base.{BaseView}
 use Rattle.access_history.specs.Books.{whole_book}
 use Rattle.access_history.specs.Citing.{AreFound, IsGoodIssue, IsGrantedFrom}
@@ -35,7 +35,7 @@ use Rattle.op_gate.specs.BaseDamage.{IsBaseShaped, AreNew, IsBaseFreeOf, IsDamag
 use Rattle.op_gate.specs.BaseTests.{IsSignedIn, IsFormed, TellsTest}
 use Rattle.op_gate.specs.DamageLaws.{IsTypedBase}
 use Rattle.op_gate.proofs.AdmitLemmas.{good_citable, good_cites, good_issue, good_granted}
-use Rattle.op_gate.proofs.RegistryLemmas.{can_register, said_from_registry}
+use Rattle.op_gate.proofs.RegistryLemmas.{said_from_registry}
 use Rattle.std.proofs.lemmas.Bool.{false≢true}
 use Rattle.proof_term.specs.Proof.{ProofView}
 use Rattle.proof_verifier.specs.CheckedView.{CheckedView}
@@ -145,7 +145,7 @@ told_by_entry registered entries place entry fault within is kept told =
 -- what the registry tells of a statement whose signature is accepted: it is new
 pub kept_new : (accepted : Bool) (entries : List RegisteredView) (statement shown : StatementView) (done : Unit {0}) → shown ≡ statement → MayRegister accepted entries shown (Ok done) → CanRegister (sayings entries) statement
 kept_new accepted entries statement shown done shown_is may =
-    subst (CanRegister (sayings entries)) shown_is (can_register entries shown may.1.0 may.1.1)
+    subst (CanRegister (sayings entries)) shown_is may.1
 
 not_taken : (accepted : Bool) (entries : List RegisteredView) (statement : StatementView) (fault : RegisterFault) → IsTrue accepted → MayRegister accepted entries statement (Err fault) → TellsTest (CanRegister (sayings entries) statement) Duplicate (Err (register_damage fault))
 not_taken accepted entries statement registry.BadSignature signed may = absurd (false≢true (sym may ∙ signed))

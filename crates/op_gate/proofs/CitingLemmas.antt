@@ -9,7 +9,7 @@ use Rattle.bl_syntax.specs.FirstFailing.{IsFirstFailing}
 use Rattle.bl_syntax.specs.Statement.{StatementView}
 use Rattle.policy_statement.specs.Registered.{RegisteredView}
 use Rattle.policy_statement.specs.Withdrawal.{live_statement}
-use Rattle.access_history.specs.Authority.{sayings}
+use Rattle.policy_statement.specs.Registry.{sayings}
 use Rattle.access_history.specs.Books.{Book, live_book, whole_book}
 use Rattle.proof_verifier.specs.declared.cites.Cite.{Cite}
 use Rattle.access_history.specs.Numbered.{HasNumber, IsNumbered}

@@ -1,13 +1,11 @@
 -- What the registry and the history tell of statements and issues, over plain values.
-use Rattle.std.proofs.Common.{◌≡◌, ◌<◌, ℕ, zero, suc, List, length, refl, sym, subst, ◌∙◌, arith, Some, Bool, false}
-use Rattle.std.specs.Prelude.{◌↔◌, Contains, ℤ, Result, Ok, Err, IsTrue, MatchOption}
-use Rattle.std.specs.List.{slice_get}
-use Rattle.std.proofs.lemmas.Option.{slice_get-map, slice_get_read}
+use Rattle.std.proofs.Common.{◌≡◌, ℕ, zero, suc, List, sym, subst, ◌∙◌, arith, Some, Bool, false}
+use Rattle.std.specs.Prelude.{◌↔◌, ℤ, Result, Ok, Err, IsTrue, MatchOption}
+use Rattle.std.proofs.lemmas.Option.{slice_get-map}
 use Rattle.bl_syntax.specs.Statement.{StatementView, IsStatement}
 use Rattle.policy_statement.specs.Registered.{RegisteredView}
-use Rattle.policy_statement.specs.Registry.{statement_of_number, IsNewStatement}
+use Rattle.policy_statement.specs.Registry.{MayRegister, sayings, statement_of_number}
 use Rattle.policy_statement.specs.Messages.{statement_message}
-use Rattle.policy_statement.specs.Registry.{MayRegister}
 use Rattle.policy_statement.specs.Ring.{KeyView, is_accepted}
 use Rattle.policy_statement.specs.declared.registry.RegisterFault.{RegisterFault as Fault}
 use Rattle.policy_statement.specs.declared.registry.RegisterFault.TheVariants as faults
@@ -17,7 +15,7 @@ use Rattle.policy_statement.specs.declared.registry.WithdrawFault.TheVariants as
 use Rattle.access_history.specs.declared.reply.StepReply.TheVariants as replies
 use Rattle.access_history.specs.declared.request.StepRequest.TheVariants as requests
 use Rattle.access_history.specs.Answer.{unsigned, duplicate, registry_full, not_live, unsigned_withdrawal}
-use Rattle.access_history.specs.Authority.{CanRegister, MayBeRegistered, sayings}
+use Rattle.access_history.specs.Authority.{MayBeRegistered}
 use Rattle.access_history.specs.Books.{Book, live_book}
 use Rattle.access_history.specs.History.{HistoryView, authority_with, state_of}
 use Rattle.op_gate.specs.Rejection.{rejection_of}
@@ -27,7 +25,7 @@ use Rattle.op_gate.specs.declared.planned.DecisionPlan.TheVariants.{Answer, NoMe
 use Rattle.std.proofs.lemmas.Bool.{false≢true}
 use Rattle.access_history.specs.Numbered.{IsNumbered}
 use Rattle.access_history.specs.Citing.{IsHeld, MayBeWithdrawn, StandsUnderNumber}
-use Rattle.access_history.proofs.CitingLemmas.{live_from_registry, none_in_registry, one_held, said_length}
+use Rattle.access_history.proofs.CitingLemmas.{live_from_registry, none_in_registry, one_held}
 use Rattle.proof_verifier.specs.declared.cites.Cite.{Cite}
 
 abbrev statement_of : RegisteredView → StatementView
@@ -37,12 +35,6 @@ statement_of entry = entry.statement
 pub said_from_registry : (entries : List RegisteredView) (number : ℕ) (s : StatementView) → statement_of_number entries number ≡ Some s → IsNumbered (sayings entries) number s
 said_from_registry entries zero s found = absurd cc
 said_from_registry entries (suc place) s found = record { place = place; from_one = omega arith; found = slice_get-map statement_of entries place ∙ found }
-
--- what is new to the registry is none of the statements
-pub new_to_registry : (entries : List RegisteredView) (s : StatementView) → IsNewStatement entries s → Contains (sayings entries) s → ⊥
-new_to_registry entries s new here =
-    let found : slice_get (sayings entries) here.0 ≡ Some s = slice_get_read (sayings entries) (length (sayings entries)) here.0 s refl here.1 (sym here.2) in
-    new (suc here.0) (sym (slice_get-map statement_of entries here.0) ∙ found)
 
 -- a statement is the one that its number holds, or not
 pub stands_as : (book : Book) (cite : Cite) (s : StatementView) (is_same : Bool) → IsNumbered book cite.number (Some s) → IsTrue is_same ↔ (s ≡ cite.statement) → IsTrue is_same ↔ StandsUnderNumber book cite
@@ -55,10 +47,6 @@ stands_as book cite s is_same held decides = (
 pub stands_nowhere : (book : Book) (cite : Cite) → (IsHeld book cite.number → ⊥) → IsTrue false ↔ StandsUnderNumber book cite
 stands_nowhere book cite none = (λ yes. absurd (false≢true yes), λ stands. absurd (none (cite.statement, stands)))
 
--- and can be added, if there is room
-pub can_register : (entries : List RegisteredView) (s : StatementView) → IsNewStatement entries s → length entries < 4096 → CanRegister (sayings entries) s
-can_register entries s new room = record { new = new_to_registry entries s new; room = omega (arith, room, said_length entries) }
-
 -- what the registry tells, over what it is shown
 pub MayRegister-shown : (ring shown_ring : List KeyView) (entries shown_entries : List RegisteredView) (statement : StatementView) (signature shown : List ℕ) (told : Result (Unit {0}) Fault) → shown_ring ≡ ring → shown ≡ signature → shown_entries ≡ entries →
     MayRegister (is_accepted shown_ring statement.who (statement_message statement) shown) shown_entries statement told → MayRegister (is_accepted ring statement.who (statement_message statement) signature) entries statement told
@@ -70,7 +58,7 @@ MayRegister-shown ring shown_ring entries shown_entries statement signature show
 -- a statement that the registry takes may be registered
 pub may_register : (key : List ℕ) (ring : List KeyView) (entries : List RegisteredView) (statement : StatementView) (signature : List ℕ) (told : Unit {0}) → IsStatement statement → MayRegister (is_accepted ring statement.who (statement_message statement) signature) entries statement (Ok told) →
     MayBeRegistered (authority_with key ring) entries statement signature
-may_register key ring entries statement signature told is may = record { statement = is; signed = may.0; can = can_register entries statement may.1.0 may.1.1 }
+may_register key ring entries statement signature told is may = record { statement = is; signed = may.0; can = may.1 }
 
 -- a statement that the registry does not take is rejected
 pub rejected_decided : (h : HistoryView) (pass : ℕ) (clock : ℤ) (statement : StatementView) (signature : List ℕ) (fault : Fault) (planned : DecisionPlan) →
@@ -81,7 +69,7 @@ rejected_decided h pass clock statement signature faults.BadSignature planned ma
     subst (λ (d : DecisionPlan). IsPlanned h pass clock (requests.Register statement signature) d h) (sym told) (unsigned statement signature (λ signed. false≢true (sym may ∙ signed)))
 rejected_decided h pass clock statement signature faults.RegistryFull planned may told =
     subst (λ (d : DecisionPlan). IsPlanned h pass clock (requests.Register statement signature) d h) (sym told)
-    (registry_full statement signature may.0 (new_to_registry (state_of h).statements statement may.1.0) may.1.1)
+    (registry_full statement signature may.0 may.1.0 may.1.1)
 rejected_decided h pass clock statement signature (faults.Duplicate number) planned may told =
     subst (λ (d : DecisionPlan). IsPlanned h pass clock (requests.Register statement signature) d h) (sym told)
     (duplicate statement signature number may.0 (said_from_registry (state_of h).statements number statement may.1))

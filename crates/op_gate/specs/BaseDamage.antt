@@ -7,7 +7,8 @@ use Rattle.bl_syntax.specs.FirstFailing.{IsFirstFailing}
 use Rattle.bl_syntax.specs.Grant.{AreDistinct}
 use Rattle.bl_syntax.specs.TimeOrder.{IsMoment}
 use Rattle.policy_statement.specs.Registered.{RegisteredView}
-use Rattle.access_history.specs.Authority.{Authority, IsSignedEntry, sayings}
+use Rattle.access_history.specs.Authority.{Authority, IsSignedEntry}
+use Rattle.policy_statement.specs.Registry.{sayings}
 use Rattle.access_history.specs.Base.{BaseView}
 use Rattle.access_history.specs.Citing.{IsGoodIssue}
 use Rattle.access_history.specs.Lawful.{IsLawfulBase}

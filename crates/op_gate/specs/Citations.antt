@@ -1,7 +1,7 @@
 -- What the statements of some numbers are, as the gate tells it (this project's own).
 use Rattle.std.specs.Prelude.{ℕ, List}
 use Rattle.policy_statement.specs.Registered.{RegisteredView}
-use Rattle.access_history.specs.Authority.{sayings}
+use Rattle.policy_statement.specs.Registry.{sayings}
 use Rattle.access_history.specs.Books.{Book, live_book, whole_book}
 use Rattle.access_history.specs.Citing.{AreFound, IsAbsent}
 use Rattle.op_gate.specs.declared.cite.Among.{Among}

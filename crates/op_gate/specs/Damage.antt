@@ -10,7 +10,8 @@ use Rattle.journal_records.specs.declared.event.Event.{Event}
 use Rattle.journal_records.specs.declared.event.Event.TheVariants.{Registered, Withdrawn, Issued, Acted}
 use Rattle.access_history.specs.Admission.{IsAdmitted}
 use Rattle.bl_syntax.specs.Statement.{StatementView}
-use Rattle.access_history.specs.Authority.{Authority, CanRegister, IsSignedStatement, IsSignedWithdrawal, sayings}
+use Rattle.access_history.specs.Authority.{Authority, IsSignedStatement, IsSignedWithdrawal}
+use Rattle.policy_statement.specs.Registry.{CanRegister, sayings}
 use Rattle.access_history.specs.Base.{BaseView}
 use Rattle.access_history.specs.Books.{Book, book_of}
 use Rattle.access_history.specs.Citing.{IsHeld, MayBeIssued}

@@ -8,7 +8,8 @@ use Rattle.file_world.specs.Effect.{IsOperation}
 use Rattle.file_world.specs.World.{IsWorld}
 use Rattle.journal_records.specs.declared.event.Event.{Event}
 use Rattle.journal_records.specs.declared.event.Event.TheVariants.{Registered, Acted}
-use Rattle.access_history.specs.Authority.{Authority, sayings}
+use Rattle.access_history.specs.Authority.{Authority}
+use Rattle.policy_statement.specs.Registry.{sayings}
 use Rattle.access_history.specs.Base.{BaseView}
 use Rattle.access_history.specs.Lawful.{IsLawfulBase}
 use Rattle.op_gate.specs.declared.damage.Damage.{Damage}

@@ -2,7 +2,7 @@
 
 ghost use Rattle.std.specs.Prelude.{◌≡◌, ◌↔◌, ◌∷◌, ◌++◌, [], ℕ, List, IsTrue, OnOk};
 ghost use Rattle.std.specs.List.{AllByRecursion};
-ghost use Rattle.access_history.specs.Authority.{CanRegister, sayings};
+ghost use Rattle.policy_statement.specs.Registry.{CanRegister, sayings};
 ghost use Rattle.access_history.specs.Citing.{IsGoodIssue};
 ghost use Rattle.access_history.specs.History.{authority_with};
 ghost use Rattle.op_gate.specs.BaseDamage.{AreNew, IsBaseShaped, TellsBase};

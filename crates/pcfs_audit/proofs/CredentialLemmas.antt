@@ -19,7 +19,8 @@ use Rattle.file_world.specs.declared.operation.Op.{Op}
 use Rattle.access_history.specs.declared.event.Issue.{Issue}
 use Rattle.journal_records.specs.declared.event.Event.{Event}
 use Rattle.journal_records.specs.declared.event.Event.TheVariants.{Registered, Withdrawn, Issued, Acted}
-use Rattle.access_history.specs.Authority.{Authority, CanRegister, sayings}
+use Rattle.access_history.specs.Authority.{Authority}
+use Rattle.policy_statement.specs.Registry.{CanRegister, sayings}
 use Rattle.access_history.specs.Base.{BaseView}
 use Rattle.access_history.specs.Books.{book_of, live_book}
 use Rattle.access_history.specs.Citing.{IsGoodIssue, IsHeld, MayBeIssued, MayBeWithdrawn}

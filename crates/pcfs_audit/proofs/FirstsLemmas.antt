@@ -14,7 +14,7 @@ use Rattle.std.proofs.lemmas.Option.{same_Some, slice_get-map, slice_get_read, s
 use Rattle.bl_syntax.specs.Grant.{GrantView}
 use Rattle.bl_syntax.specs.Statement.{StatementView}
 use Rattle.pcfs_audit.specs.Firsts.{AreBelow, AreFirsts, HasFirst, first_of}
-use Rattle.access_history.specs.Authority.{CanRegister}
+use Rattle.policy_statement.specs.Registry.{CanRegister}
 use Rattle.pcfs_audit.specs.Papers.{shown}
 use Rattle.pcfs_audit.specs.Supports.{IsFirstOf}
 use Rattle.pcfs_audit.proofs.ReferenceLemmas.{length-shown, placed_before, shown_read, shown_take}

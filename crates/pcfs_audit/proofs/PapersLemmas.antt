@@ -12,7 +12,7 @@ use Rattle.policy_statement.specs.Withdrawal.{is_withdrawn}
 use Rattle.access_history.specs.declared.event.Issue.{Issue}
 use Rattle.journal_records.specs.declared.event.Event.{Event}
 use Rattle.journal_records.specs.declared.event.Event.TheVariants.{Registered, Withdrawn, Issued, Acted}
-use Rattle.access_history.specs.Authority.{sayings}
+use Rattle.policy_statement.specs.Registry.{sayings}
 use Rattle.access_history.specs.Base.{BaseView}
 use Rattle.access_history.specs.Replay.{next_state, replay}
 use Rattle.access_history.proofs.CitingLemmas.{sayings-marked, sayings-more}

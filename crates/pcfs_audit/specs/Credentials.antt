@@ -9,7 +9,8 @@ use Rattle.policy_statement.specs.Withdrawal.{is_withdrawn}
 use Rattle.journal_records.specs.declared.event.Event.{Event}
 use Rattle.access_history.specs.declared.event.Issue.{Issue}
 use Rattle.journal_records.specs.declared.event.Event.TheVariants.{Registered, Withdrawn, Issued, Acted}
-use Rattle.access_history.specs.Authority.{Authority, CanRegister, IsSignedStatement, sayings}
+use Rattle.access_history.specs.Authority.{Authority, IsSignedStatement}
+use Rattle.policy_statement.specs.Registry.{CanRegister, sayings}
 use Rattle.access_history.specs.Base.{BaseView}
 use Rattle.access_history.specs.Books.{book_of}
 use Rattle.access_history.specs.Citing.{MayBeIssued, MayBeWithdrawn}

@@ -7,7 +7,7 @@ use Rattle.std.specs.List.{AllByRecursion}
 use Rattle.bl_syntax.specs.Grant.{GrantView}
 use Rattle.access_history.specs.declared.event.Issue.{Issue}
 use Rattle.journal_records.specs.declared.event.Event.{Event}
-use Rattle.access_history.specs.Authority.{sayings}
+use Rattle.policy_statement.specs.Registry.{sayings}
 use Rattle.access_history.specs.Base.{BaseView}
 use Rattle.access_history.specs.Replay.{next_state, replay}
 use Rattle.pcfs_audit.specs.declared.papers.Before.{Before}

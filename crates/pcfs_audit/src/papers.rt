@@ -3,7 +3,7 @@
 
 ghost use Rattle.std.specs.Prelude.{◌≡◌, ◌∷◌, ◌++◌, [], List, IfOk};
 ghost use Rattle.journal_records.specs.declared.event.Event.{Event as EventView};
-ghost use Rattle.access_history.specs.Authority.{sayings};
+ghost use Rattle.policy_statement.specs.Registry.{sayings};
 ghost use Rattle.access_history.specs.Base.{BaseView};
 ghost use Rattle.pcfs_audit.specs.Papers.{ArePapers, grants_in, shown};
 

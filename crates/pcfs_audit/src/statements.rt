@@ -5,7 +5,7 @@ ghost use Rattle.policy_statement.specs.Digest.{digest_of};
 ghost use Rattle.policy_statement.specs.Messages.{statement_message};
 ghost use Rattle.pcfs_audit.specs.Dossier.{IsDossier};
 ghost use Rattle.pcfs_audit.specs.Firsts.{AreFirsts};
-ghost use Rattle.access_history.specs.Authority.{CanRegister};
+ghost use Rattle.policy_statement.specs.Registry.{CanRegister};
 ghost use Rattle.pcfs_audit.specs.Ends.{CouldBeWithdrawn};
 ghost use Rattle.pcfs_audit.specs.Papers.{shown};
 

@@ -14,7 +14,7 @@ use Rattle.proof_verifier.proofs.SoundnessVerdict.{SoundGrant-verdict, goal-verd
 use Rattle.pcfs_secrets.specs.declared.secrets.Secrets.{Secrets}
 use Rattle.access_history.specs.declared.event.Issue.{Issue}
 use Rattle.access_history.specs.declared.request.StepRequest.{StepRequest}
-use Rattle.access_history.specs.Authority.{sayings}
+use Rattle.policy_statement.specs.Registry.{sayings}
 use Rattle.access_history.specs.Books.{Book, book_of, statements_in}
 use Rattle.access_history.specs.Base.{BaseView}
 use Rattle.access_history.specs.WellFormed.{IsWellFormed}

@@ -19,7 +19,8 @@ use Rattle.file_world.specs.declared.operation.Op.{Op}
 use Rattle.access_history.specs.declared.event.Issue.{Issue}
 use Rattle.access_history.specs.declared.request.StepRequest.TheVariants as requests
 use Rattle.access_history.specs.declared.reply.StepReply.TheVariants.{Absent}
-use Rattle.access_history.specs.Authority.{sayings, procap_of}
+use Rattle.access_history.specs.Authority.{procap_of}
+use Rattle.policy_statement.specs.Registry.{sayings}
 use Rattle.access_history.specs.Books.{Book, book_of}
 use Rattle.access_history.specs.Base.{BaseView}
 use Rattle.access_history.specs.Citing.{AreFound}

@@ -1,3 +1,4 @@
 pub mod DigestLemmas
+pub mod RegistryLemmas
 pub mod RingLemmas
 pub mod WithdrawalLemmas

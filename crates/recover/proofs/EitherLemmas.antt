@@ -11,7 +11,8 @@ use Rattle.journal_core.proofs.ReadingLemmas.{area_front}
 use Rattle.journal_core.proofs.TotalLemmas.{one_of_three}
 use Rattle.journal_records.specs.declared.event.Event.{Event}
 use Rattle.journal_records.specs.declared.event.Event.TheVariants.{Registered, Withdrawn, Issued, Acted}
-use Rattle.access_history.specs.Authority.{Authority, sayings}
+use Rattle.access_history.specs.Authority.{Authority}
+use Rattle.policy_statement.specs.Registry.{sayings}
 use Rattle.access_history.specs.Base.{BaseView}
 use Rattle.access_history.specs.Lawful.{IsLawful, IsLawfulBase, no_event, one_more}
 use Rattle.journal_records.specs.Passes.{erase}

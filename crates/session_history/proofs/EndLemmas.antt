@@ -15,7 +15,7 @@ use Rattle.proof_verifier.specs.CheckedView.{checked_view}
 use Rattle.proof_verifier.specs.Verdict.{verdict}
 use Rattle.access_history.specs.declared.request.StepRequest.TheVariants.{Issue}
 use Rattle.access_history.specs.declared.reply.StepReply.TheVariants.{Absent}
-use Rattle.access_history.specs.Authority.{sayings}
+use Rattle.policy_statement.specs.Registry.{sayings}
 use Rattle.access_history.specs.Books.{book_of, statements_in}
 use Rattle.access_history.specs.Base.{BaseView}
 use Rattle.access_history.specs.Citing.{AreFound, IsAbsent}

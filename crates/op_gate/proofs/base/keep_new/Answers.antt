@@ -4,7 +4,7 @@ use Rattle.std.specs.Prelude.{Err}
 use Rattle.op_gate.specs.declared.damage.AdmitFault.{AdmitFault}
 use Rattle.op_gate.specs.declared.damage.Damage.TheVariants.{Duplicate}
 use Rattle.op_gate.specs.BaseTests.{TellsTest}
-use Rattle.access_history.specs.Authority.{CanRegister, sayings}
+use Rattle.policy_statement.specs.Registry.{CanRegister, sayings}
 use Rattle.op_gate.proofs.BaseDamageLemmas.{kept_new, not_new}
 use Rattle.op_gate.proofs.base.keep_new.Goals as goal
 

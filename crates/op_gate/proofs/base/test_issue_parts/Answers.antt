@@ -4,7 +4,7 @@ use Rattle.std.specs.Prelude.{Result}
 use Rattle.bl_syntax.specs.Grant.{GrantView}
 use Rattle.proof_term.specs.Proof.{ProofView}
 use Rattle.access_history.specs.declared.event.Issue.{Issue}
-use Rattle.access_history.specs.Authority.{sayings}
+use Rattle.policy_statement.specs.Registry.{sayings}
 use Rattle.access_history.specs.Books.{whole_book}
 use Rattle.access_history.specs.Citing.{IsGoodIssue}
 use Rattle.access_history.proofs.CitingLemmas.{AreCited-found}

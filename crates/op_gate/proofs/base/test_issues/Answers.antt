@@ -1,5 +1,5 @@
 -- The first issue that is not good ends the test.
-use Rattle.access_history.specs.Authority.{sayings}
+use Rattle.policy_statement.specs.Registry.{sayings}
 use Rattle.access_history.specs.Citing.{IsGoodIssue}
 use Rattle.op_gate.specs.declared.damage.Damage.TheVariants.{Unproved}
 use Rattle.op_gate.proofs.BaseDamageLemmas.{told_by_item}

@@ -1,7 +1,7 @@
 -- Each issue so far is good.
 use Rattle.std.proofs.Common.{take}
 use Rattle.std.specs.List.{AllByRecursion}
-use Rattle.access_history.specs.Authority.{sayings}
+use Rattle.policy_statement.specs.Registry.{sayings}
 use Rattle.access_history.specs.Citing.{IsGoodIssue}
 use Rattle.op_gate.proofs.base.test_issues.Given as goal
 

@@ -6,7 +6,7 @@ use Rattle.policy_statement.specs.Messages.{statement_message}
 use Rattle.procap.specs.Genuine.{IsGenuine}
 use Rattle.procap.specs.declared.procap.Procap.{Procap}
 use Rattle.journal_records.specs.declared.event.Event.{Event}
-use Rattle.access_history.specs.Authority.{CanRegister}
+use Rattle.policy_statement.specs.Registry.{CanRegister}
 use Rattle.access_history.specs.Citing.{MayBeIssued}
 use Rattle.pcfs_audit.specs.Credentials.{HasCredentials, IsOfIssues}
 use Rattle.pcfs_audit.specs.Ends.{CouldBeWithdrawn}

@@ -1,6 +1,6 @@
 -- The statements of the entries so far.
 use Rattle.std.proofs.Common.{◌≡◌, take}
-use Rattle.access_history.specs.Authority.{sayings}
+use Rattle.policy_statement.specs.Registry.{sayings}
 use Rattle.pcfs_audit.specs.Papers.{shown}
 use Rattle.pcfs_audit.proofs.papers.base_statements.Given as goal
 

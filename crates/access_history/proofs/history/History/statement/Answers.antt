@@ -1,6 +1,6 @@
 -- The entry that was read is the one of that number.
 use Rattle.std.proofs.Common.{◌∙◌, ap, subst, sym}
-use Rattle.access_history.specs.Authority.{sayings}
+use Rattle.policy_statement.specs.Registry.{sayings}
 use Rattle.access_history.specs.Base.{BaseView}
 use Rattle.access_history.specs.History.{state_of}
 use Rattle.access_history.specs.Numbered.{IsNumbered}
