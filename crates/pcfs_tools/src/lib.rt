@@ -10,7 +10,6 @@ mod auditing;
 mod inquiring;
 mod loading;
 mod memory;
-mod plain_disk;
 mod signing;
 mod stating;
 

@@ -7,9 +7,8 @@ ghost use Rattle.pcfs_tools.specs.Memory.{MemoryEnds};
 ghost use Rattle.pcfs_session.specs.Streams.{streams_of};
 
 use crate::answering::{DISK_FAULT, OUT_OF_MEMORY, run_over};
-use crate::plain_disk::PlainDisk;
-use bl_syntax::NoMemory;
-use pcfs_ports::{Sink, Source};
+use bl_syntax::{Bytes, NoMemory, Numbers};
+use pcfs_ports::{MemoryDisk, Sink, Source};
 use pcfs_secrets::Secrets;
 use pcfs_store::{Store, format_store};
 use std::alloc::Global;
@@ -19,11 +18,11 @@ use std::alloc::Global;
 pub const ENOUGH: usize = 65_536;
 
 /// A store before its first event on disks in memory.
-pub fn memory_store(alloc: Global, secrets: &Secrets) -> Result<Store<PlainDisk>, NoMemory>
+pub fn memory_store(alloc: Global, secrets: &Secrets) -> Result<Store<MemoryDisk>, NoMemory>
     ensures { IfOk result (IsNewStore secrets.now.seal_key secrets.now.ring) }
 {
-    let a = PlainDisk::new(alloc);
-    let b = PlainDisk::new(alloc);
+    let a = MemoryDisk::new(alloc, Bytes::new(alloc), Numbers::new(alloc))?;
+    let b = MemoryDisk::new(alloc, Bytes::new(alloc), Numbers::new(alloc))?;
     let ring = secrets.ring.copy(alloc)?;
     match format_store(alloc, a, b, secrets.seal_key.as_slice(), ring) {
         Ok(store) => Ok(store),
