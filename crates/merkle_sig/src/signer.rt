@@ -45,6 +45,7 @@ pub struct Signer {
 
 impl Model for Signer {
     ghost use Rattle.std.specs.Prelude.{◌^◌, ◌≤◌};
+    ghost use Rattle.bl_syntax.specs.declared.limits.TheConstants.{HIGHEST_TREE};
     ghost use Rattle.merkle_sig.specs.Nodes.{IsTree};
     ghost use Rattle.merkle_sig.specs.Signer.{SignerView};
 
