@@ -1,6 +1,7 @@
 //! A row: a word, the numbers that it needs, and a message.
 
 ghost use Rattle.std.specs.Prelude.{◌≡◌, ◌^◌, ◌≤◌};
+ghost use Rattle.bl_syntax.specs.declared.limits.TheConstants.{HIGHEST_TREE};
 
 use crate::Stop;
 use bl_syntax::limits::HIGHEST_TREE;

@@ -2,6 +2,7 @@
 
 ghost use Rattle.std.specs.Prelude.{◌≡◌, ◌↔◌, ◌<◌, [], ◌∷◌, ◌++◌, IfOk, OnOk, OnErr, IsErrOf};
 ghost use Rattle.std.specs.Option.{option_copied, option_map};
+ghost use Rattle.bl_syntax.specs.declared.limits.TheConstants.{HIGHEST_TREE};
 ghost use Rattle.pcfs_hmac.specs.Hmac.{hmac};
 ghost use Rattle.policy_statement.specs.Ring.{IsKnown, credential_of, keyed, rooted, tag_of};
 ghost use Rattle.policy_statement.specs.declared.ring.KeyFault.TheVariants as faults;
@@ -65,6 +66,7 @@ impl Model for Entry {
 impl Entry {
     ghost use Rattle.std.specs.Prelude.{◌==◌, ◌≤◌};
     ghost use Rattle.std.specs.Str.{bytes_eq};
+    ghost use Rattle.bl_syntax.specs.declared.limits.TheConstants.{HIGHEST_TREE};
     ghost use Rattle.policy_statement.specs.Ring.{accepts_by, keyed, rooted, tag_by};
 
     fn with_key(who: Principal, key: &[u8]) -> Entry
