@@ -1,23 +1,19 @@
 -- The index of issues by the fronts of their tags. This project's own; nothing but speed depends on
 -- it.
-use Rattle.std.specs.Prelude.{◌≡◌, ◌<◌, ℕ, List, Option, Some, MatchOption, map, length, take}
+use Rattle.std.specs.Prelude.{◌≡◌, ◌<◌, ℕ, List, Option, Some, MatchOption, map, length}
 use Rattle.std.specs.BTreeMap.{is_at}
-use Rattle.std.specs.Int.{w64, from_be_bytes}
 use Rattle.std.specs.List.{slice_get}
 use Rattle.std.specs.Map.{lookup}
 use Rattle.std.specs.Ordering.{nat_cmp}
 use Rattle.bl_syntax.specs.Grant.{GrantView}
 use Rattle.procap.specs.Genuine.{seal_of}
+use Rattle.issue_standings.specs.Index.{front_of}
 use Rattle.access_history.specs.declared.event.Issue.{Issue}
 use Rattle.history_table.specs.declared.issues.IssueIndex.{IssueIndex}
 
--- the number that the first eight bytes of a tag make
-abbrev pub tag_digest : List ℕ → ℕ
-tag_digest tag = from_be_bytes w64 (take 8 tag)
-
 -- the digest of a grant: of its tag under a key
 abbrev pub digest_of : List ℕ → GrantView → ℕ
-digest_of key g = tag_digest (seal_of key g)
+digest_of key g = front_of (seal_of key g)
 
 -- the digests of issues, in order
 abbrev pub digests_of : List ℕ → List Issue → List ℕ

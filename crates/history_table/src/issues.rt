@@ -3,7 +3,8 @@
 ghost use Rattle.std.specs.Prelude.{◌≡◌, ◌<◌, ◌++◌, ◌∷◌, [], ℕ, List, IfOk, None, Some, length};
 ghost use Rattle.std.specs.List.{slice_get};
 ghost use Rattle.bl_syntax.specs.Equality.{grant_eq};
-ghost use Rattle.history_table.specs.Index.{IsIndexOf, digest_of, digests_of, place_for, tag_digest};
+ghost use Rattle.issue_standings.specs.Index.{front_of};
+ghost use Rattle.history_table.specs.Index.{IsIndexOf, digest_of, digests_of, place_for};
 ghost use Rattle.history_table.specs.Issues.{cited_by, does_stand, is_ground, last_ground, rests_on};
 
 use access_history::IssueRecord;
@@ -22,8 +23,8 @@ pub struct IssueIndex {
 }
 
 // The number of the first eight bytes of a tag.
-fn tag_digest(tag: &[u8; 32]) -> u64
-    ensures { result ≡ tag_digest tag.now }
+fn front_of(tag: &[u8; 32]) -> u64
+    ensures { result ≡ front_of tag.now }
 {
     u64::from_be_bytes([
         tag[0], tag[1], tag[2], tag[3], tag[4], tag[5], tag[6], tag[7],
@@ -35,7 +36,7 @@ fn digest_of(key: &SealKey, grant: &Grant) -> u64
     ensures { result ≡ digest_of key.now grant.now }
 {
     let tag = key.tag(grant);
-    tag_digest(&tag)
+    front_of(&tag)
 }
 
 /// Whether the issue stands: it cites no statement that was withdrawn.

@@ -1,13 +1,13 @@
 -- The first place of each digest, by which an equal item is found without going over all (this
 -- project's own; nothing but speed depends on it).
-use Rattle.std.specs.Prelude.{◌≡◌, ◌≤◌, ◌<◌, ℕ, List, Option, Some, map, take}
+use Rattle.std.specs.Prelude.{◌≡◌, ◌≤◌, ◌<◌, ℕ, List, Option, Some, map}
 use Rattle.std.specs.BTreeMap.{is_at}
-use Rattle.std.specs.Int.{w64, from_be_bytes}
 use Rattle.std.specs.List.{slice_get}
 use Rattle.std.specs.Map.{lookup}
 use Rattle.std.specs.Ordering.{nat_cmp}
 use Rattle.bl_syntax.specs.Grant.{GrantView}
 use Rattle.procap.specs.Genuine.{seal_of}
+use Rattle.issue_standings.specs.Index.{front_of}
 
 -- the place that is entered for a digest
 abbrev pub first_of : List (ℕ × ℕ) → ℕ → Option ℕ
@@ -28,13 +28,9 @@ AreFirsts digests entries = (place digest : ℕ) → slice_get digests place ≡
 abbrev pub AreBelow : List (ℕ × ℕ) → ℕ → Type 0
 AreBelow entries end = (digest first : ℕ) → first_of entries digest ≡ Some first → first < end
 
--- the number that the first eight bytes of a tag make
-abbrev pub tag_digest : List ℕ → ℕ
-tag_digest tag = from_be_bytes w64 (take 8 tag)
-
 -- the digest of a grant: of its tag under a key
 abbrev pub grant_digest : List ℕ → GrantView → ℕ
-grant_digest key g = tag_digest (seal_of key g)
+grant_digest key g = front_of (seal_of key g)
 
 -- the digests of grants, in order
 abbrev pub grant_digests : List ℕ → List GrantView → List ℕ

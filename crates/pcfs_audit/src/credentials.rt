@@ -10,7 +10,7 @@ ghost use Rattle.pcfs_audit.specs.DossierCredentials.{AreCredentialsIn, HasCrede
 ghost use Rattle.pcfs_audit.specs.Papers.{shown};
 ghost use Rattle.pcfs_audit.specs.Report.{authority_by};
 
-use crate::digests::tag_digest;
+use crate::digests::front_of;
 use crate::dossier::Dossier;
 use crate::ends::{first_end, is_past};
 use crate::examining::{Examiner, examine_in_pieces};
@@ -57,7 +57,7 @@ fn procap_credentials(dossier: &Dossier, earlier: usize, procap: &Procap) -> Cre
     let tag = dossier.key.tag(&procap.grant);
     Credentials {
         genuine: tag == procap.tag,
-        issued: was_issued(dossier, earlier, tag_digest(&tag), &procap.grant),
+        issued: was_issued(dossier, earlier, front_of(&tag), &procap.grant),
     }
 }
 

@@ -2,7 +2,8 @@
 
 ghost use Rattle.std.specs.Prelude.{◌≡◌, map, IfOk};
 ghost use Rattle.policy_statement.specs.Digest.{digest_of};
-ghost use Rattle.pcfs_audit.specs.Firsts.{grant_digest, grant_digests, tag_digest};
+ghost use Rattle.issue_standings.specs.Index.{front_of};
+ghost use Rattle.pcfs_audit.specs.Firsts.{grant_digest, grant_digests};
 ghost use Rattle.pcfs_audit.specs.Papers.{shown};
 
 use bl_syntax::{Grant, NoMemory, Statement};
@@ -24,8 +25,8 @@ pub fn statement_digests(alloc: Global, statements: &[&Statement]) -> Result<Vec
 }
 
 /// The number that the first eight bytes of a tag make.
-pub fn tag_digest(tag: &[u8; 32]) -> u64
-    ensures { result ≡ tag_digest tag.now }
+pub fn front_of(tag: &[u8; 32]) -> u64
+    ensures { result ≡ front_of tag.now }
 {
     u64::from_be_bytes([
         tag[0], tag[1], tag[2], tag[3], tag[4], tag[5], tag[6], tag[7],
@@ -37,7 +38,7 @@ fn grant_digest(key: &SealKey, grant: &Grant) -> u64
     ensures { result ≡ grant_digest key.now grant.now }
 {
     let tag = key.tag(grant);
-    tag_digest(&tag)
+    front_of(&tag)
 }
 
 /// The digests of the grants.

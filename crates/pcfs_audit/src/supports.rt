@@ -6,7 +6,7 @@ ghost use Rattle.std.specs.List.{slice_get};
 ghost use Rattle.pcfs_audit.specs.Dossier.{IsDossier};
 ghost use Rattle.pcfs_audit.specs.Supports.{AreSupportsOf, CountsIssue, FollowIssues, FollowsEvent, FollowsIssue, TellsStanding, TellsStandingByIssues, has_lost, supported};
 
-use crate::digests::tag_digest;
+use crate::digests::front_of;
 use crate::dossier::Dossier;
 use crate::ends::{first_end, is_past};
 use crate::grants::row_of;
@@ -83,7 +83,7 @@ fn count_issue(rows: &mut Vec<Support>, dossier: &Dossier, grant: &Grant, cited:
     ensures sized { length rows.new.items ≡ length rows.old.items }
 {
     let tag = dossier.key.tag(grant);
-    if let Some(row) = row_of(dossier, tag_digest(&tag), grant) {
+    if let Some(row) = row_of(dossier, front_of(&tag), grant) {
         let end = first_end(dossier.papers.ends.as_slice(), cited);
         let support = rows[row].with_issue(end);
         rows[row] = support;
@@ -191,7 +191,7 @@ impl Supports {
         requires ended { dossier.now.papers.has_ended ≡ true }
         ensures { TellsStandingByIssues dossier.now self.now procap.now result }
     {
-        match row_of(dossier, tag_digest(&procap.tag), &procap.grant) {
+        match row_of(dossier, front_of(&procap.tag), &procap.grant) {
             None => true,
             Some(row) => self.has_support(row),
         }

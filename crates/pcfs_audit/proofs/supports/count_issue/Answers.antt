@@ -5,7 +5,7 @@ use Rattle.std.proofs.lemmas.Option.{get_or_from_slice_get}
 use Rattle.bl_syntax.specs.Grant.{GrantView}
 use Rattle.pcfs_audit.specs.declared.supports.Support.{Support}
 use Rattle.pcfs_audit.specs.Ends.{first_end}
-use Rattle.pcfs_audit.specs.Firsts.{tag_digest}
+use Rattle.issue_standings.specs.Index.{front_of}
 use Rattle.pcfs_audit.specs.Papers.{shown}
 use Rattle.pcfs_audit.specs.Supports.{IsFirstOf, supported}
 use Rattle.pcfs_audit.proofs.SupportsLemmas.{length_set, supports_counted, supports_uncounted}
@@ -16,7 +16,7 @@ returns-in-Some-clause-rows c issues issue grant_is cited_is are =
     let grants = c.args.dossier.now.papers.grants.items in
     let ends = c.args.dossier.now.papers.ends.items in
     let rows = c.args.rows.now.items in
-    let digest = c.tag_digest.ensures ∙ ap tag_digest c.tag-tag.ensures.same in
+    let digest = c.front_of.ensures ∙ ap front_of c.tag-tag.ensures.same in
     let first : IsFirstOf (shown grants) c.args.grant.now c.in-Some.row =
     subst (λ (o : Option ℕ). MatchOption o (Contains (shown grants) c.args.grant.now → ⊥) (IsFirstOf (shown grants) c.args.grant.now)) c.in-Some.is (c.row_of.ensures digest) in
     let of_issue : IsFirstOf (shown grants) issue.grant c.in-Some.row = subst (λ (g : GrantView). IsFirstOf (shown grants) g c.in-Some.row) (sym grant_is) first in
@@ -31,7 +31,7 @@ returns-in-Some-clause-sized c = length_set c.args.rows.now.items c.in-Some.row 
 pub returns-in_default-clause-rows : goal.returns-in_default-clause-rows
 returns-in_default-clause-rows c issues issue grant_is cited_is are =
     let grants = c.args.dossier.now.papers.grants.items in
-    let digest = c.tag_digest.ensures ∙ ap tag_digest c.tag-tag.ensures.same in
+    let digest = c.front_of.ensures ∙ ap front_of c.tag-tag.ensures.same in
     let none : Contains (shown grants) c.args.grant.now → ⊥ =
     subst (λ (o : Option ℕ). MatchOption o (Contains (shown grants) c.args.grant.now → ⊥) (IsFirstOf (shown grants) c.args.grant.now)) c.in_default.is (c.row_of.ensures digest) in
     supports_uncounted (shown grants) c.args.dossier.now.papers.ends.items issues issue c.args.rows.now.items (λ here. none (subst (Contains (shown grants)) grant_is here)) are
