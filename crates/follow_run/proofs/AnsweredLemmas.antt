@@ -7,13 +7,14 @@ use Rattle.pcfs_ports.specs.Observable.{with_back}
 use Rattle.pcfs_ports.proofs.TakesLemmas.{with_back-with_back}
 use Rattle.event_messages.specs.Messages.{Message, IsMessage, messages_spelling}
 use Rattle.event_messages.specs.Reader.{ReaderState, after_message, BeginsNoMessage, MayGoOn}
+use Rattle.session_loop.specs.Written.{but_last}
 use Rattle.follower.specs.declared.taking.Taken.{Taken}
 use Rattle.pcfs_store.specs.Entries.{StoreEntry}
 use Rattle.pcfs_store.specs.StoreView.{StoreView}
 use Rattle.pcfs_session.specs.ScriptRun.{ScriptState}
 use Rattle.pcfs_session.proofs.OutboxLemmas.{with_back-nil}
 use Rattle.pcfs_session.proofs.StoredLemmas.{StoreGoesOn-on, StoreGoesOn-same, runs_for}
-use Rattle.follow_run.specs.AnswerText.{answer_line, answer_lines, but_last, HoldsButLast}
+use Rattle.follow_run.specs.AnswerText.{answer_line, answer_lines, HoldsButLast}
 use Rattle.follow_run.specs.FollowRun.{FollowRun}
 use Rattle.follow_run.specs.FollowRun as follows
 use Rattle.follow_run.specs.Followed.{standing_at, AreOutAt, WereTaken, AreAnswered, HaltsAt, HaltsBy, TakesAll, StopsWithin, halted, no_message}

@@ -2,6 +2,7 @@
 use Rattle.std.specs.Prelude.{ℕ, ◌≤◌, List, [], ◌∷◌, ◌++◌, codes, length, Option}
 use Rattle.std.specs.Fmt.{decimal}
 use Rattle.pcfs_ports.specs.Observable.{HoldsSome}
+use Rattle.session_loop.specs.Written.{but_last}
 use Rattle.event_messages.specs.Messages.{Message}
 use Rattle.follower.specs.declared.taking.Taken.{Taken}
 use Rattle.follower.specs.declared.taking.Taken.TheVariants.{Kept, Known, Missing, Damaged, Full, Stopped, NoMemory}
@@ -23,12 +24,6 @@ abbrev pub answer_lines : List Message → List Taken → List ℕ
 answer_lines [] told = []
 answer_lines (message ∷ messages) [] = []
 answer_lines (message ∷ messages) (taken ∷ told) = answer_line message.number taken ++ answer_lines messages told
-
--- all of a list but its last element
-abbrev pub but_last : {A : Type 0} → List A → List A
-but_last [] = []
-but_last (x ∷ []) = []
-but_last (x ∷ (y ∷ ys)) = x ∷ but_last (y ∷ ys)
 
 -- beside what it held, the output holds the lines for all messages but the last, and of that for
 -- the last some first part
