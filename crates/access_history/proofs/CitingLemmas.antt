@@ -333,6 +333,10 @@ found_or_absent book numbers = by_failing book numbers (all_or_failing (IsHeld b
 
 -- ---- numbers that can be cited
 
+-- as many numbers as citations
+pub numbers_length : (cites : List Cite) → length (numbers_of cites) ≡ length cites
+numbers_length cites = length-map cites (λ (c : Cite). c.number)
+
 numbers_rise : (cites : List Cite) → DoCitesRise cites → DoRise (numbers_of cites)
 numbers_rise [] rises = tt
 numbers_rise (first ∷ []) rises = tt
@@ -346,12 +350,12 @@ cites_rise (first ∷ second ∷ others) rises = (rises.0, cites_rise (second �
 -- what can be cited has numbers that can be cited, and the other way round
 pub AreCitable-numbers : (cites : List Cite) → AreCited cites → AreCitable (numbers_of cites)
 AreCitable-numbers cites are =
-    let count : length (numbers_of cites) ≡ length cites = length-map cites (λ (c : Cite). c.number) in
+    let count = numbers_length cites in
     record { some = omega (arith, count, are.some); few = omega (arith, count, are.few); rising = numbers_rise cites are.rising }
 
 pub AreCited-numbers : (cites : List Cite) → AreCitable (numbers_of cites) → AreCited cites
 AreCited-numbers cites are =
-    let count : length (numbers_of cites) ≡ length cites = length-map cites (λ (c : Cite). c.number) in
+    let count = numbers_length cites in
     record { some = omega (arith, count, are.some); few = omega (arith, count, are.few); rising = cites_rise cites are.rising }
 
 -- what is found of numbers that can be cited can be cited

@@ -20,6 +20,7 @@ use Rattle.access_history.specs.Base.{BaseView}
 use Rattle.access_history.specs.History.{authority_with}
 use Rattle.access_history.specs.Citing.{numbers_of}
 use Rattle.access_history.specs.Lawful.{MayFollow}
+use Rattle.access_history.proofs.CitingLemmas.{numbers_length}
 use Rattle.bl_syntax.specs.Citable.{AreNamed}
 use Rattle.proof_verifier.specs.declared.cites.Cite.{Cite}
 use Rattle.proof_verifier.specs.Cited.{AreCited}
@@ -78,17 +79,13 @@ few_slots (Chown node owner) = omega arith
 
 -- ---- events
 
-numbers-length : (cites : List Cite) → length (numbers_of cites) ≡ length cites
-numbers-length [] = refl
-numbers-length (cite ∷ cites) = let rest = numbers-length cites in omega (arith, rest)
-
 -- what may come next fits its fields
 pub fits_fields : (key : List ℕ) (ring : List KeyView) (state : BaseView) (event : Event) → MayFollow (authority_with key ring) state event → HasFittingFields event
 fits_fields key ring state (Registered pass statement signature) may =
     let short = accepted_length ring statement.who (statement_message statement) signature may.signed in
     omega (arith, short)
 fits_fields key ring state (Issued pass cited proof grant) may =
-    omega (arith, ap length may.good.cited, numbers-length may.good.cites, may.good.rising.few)
+    omega (arith, ap length may.good.cited, numbers_length may.good.cites, may.good.rising.few)
 fits_fields key ring state (Acted pass caller op procaps moment) may =
     (words_fit state.world op may.formed.brought.few_bytes may.not_refused, (omega (arith, may.formed.brought.slots, few_slots op), may.in_range))
 fits_fields key ring state (Withdrawn pass number signature) may =
@@ -97,7 +94,7 @@ fits_fields key ring state (Withdrawn pass number signature) may =
 
 -- the numbers that a proof cites, and those that a grant names, fit their count
 pub numbers_few : (cites : List Cite) → AreCited cites → length (numbers_of cites) ≤ 255
-numbers_few cites h = omega (arith, numbers-length cites, h.few)
+numbers_few cites h = omega (arith, numbers_length cites, h.few)
 
 pub named_few : (numbers : List ℕ) → AreNamed numbers → length numbers ≤ 255
 named_few numbers h = omega (arith, h.few)

@@ -14,16 +14,15 @@ use Rattle.proof_term.specs.ProofSpelling.{proof_spelling}
 use Rattle.procap.specs.declared.procap.Procap.{Procap}
 use Rattle.procap.specs.GrantSpelling.{list_spelling, grant_spelling}
 use Rattle.procap.specs.Procap.{procap_spelling}
-use Rattle.proof_verifier.specs.declared.cites.Cite.{Cite}
 use Rattle.file_world.specs.declared.operation.Op.{Op}
 use Rattle.file_world.specs.declared.operation.Op.TheVariants.{Read, Write, Truncate, List as ListOf, Lookup, Create, Mkdir, Unlink, Rename, Getattr, Setattr, Delattr, Chown}
 use Rattle.file_world.specs.Needs.{slots, bytes_to_write}
 use Rattle.journal_records.specs.declared.event.Event.{Event}
 use Rattle.journal_records.specs.declared.event.Event.TheVariants.{Registered, Withdrawn, Issued, Acted}
 use Rattle.access_history.specs.Base.{BaseView}
-use Rattle.access_history.specs.Citing.{numbers_of}
 use Rattle.access_history.specs.History.{authority_with}
 use Rattle.access_history.specs.Lawful.{MayFollow}
+use Rattle.access_history.proofs.CitingLemmas.{numbers_length}
 use Rattle.record_parts.specs.Fields.{number_spelling, node_spelling, sized_bytes_spelling, moment_spelling}
 use Rattle.record_parts.specs.Parts.{sized_proof_spelling}
 use Rattle.record_parts.specs.OperationSpelling.{operation_spelling, IsSpellableOperation}
@@ -116,10 +115,6 @@ sized_proof_length : (proof : ProofView) → length (sized_proof_spelling proof)
 unfolding sized_proof_spelling
 sized_proof_length proof = omega arith
 
-numbers-length : (cites : List Cite) → length (numbers_of cites) ≡ length cites
-numbers-length [] = refl
-numbers-length (cite ∷ cites) = let rest = numbers-length cites in omega (arith, rest)
-
 issued_length : (cited : List ℕ) (proof : ProofView) (grant : GrantView) → length cited ≤ 64 → IsSpellableIssued cited proof grant → length (issued_spelling cited proof grant) ≤ 1048575
 unfolding issued_spelling
 issued_length cited proof grant few is =
@@ -166,7 +161,7 @@ payload_length key ring state (Registered pass statement signature) may is =
     one_more 1 (registered_spelling statement signature)
     (registered_length (statement_spelling statement) signature (statement_length statement is.said) (accepted_length ring statement.who (statement_message statement) signature may.signed))
 payload_length key ring state (Issued pass cited proof grant) may is =
-    one_more 2 (issued_spelling cited proof grant) (issued_length cited proof grant (omega (arith, ap length may.good.cited, numbers-length may.good.cites, may.good.rising.few)) is)
+    one_more 2 (issued_spelling cited proof grant) (issued_length cited proof grant (omega (arith, ap length may.good.cited, numbers_length may.good.cites, may.good.rising.few)) is)
 payload_length key ring state (Acted pass caller op procaps moment) may is =
     one_more 3 (acted_spelling caller op procaps moment)
     (acted_length caller op procaps moment (omega (arith, may.formed.brought.slots, few_slots op)) may.formed.brought.few_bytes is)
