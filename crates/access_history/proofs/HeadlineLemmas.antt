@@ -1,5 +1,5 @@
 -- Each operation of a lawful history was rightful.
-use Rattle.std.proofs.Common.{ℕ, List, [], ◌∷◌, ◌++◌, refl, subst}
+use Rattle.std.proofs.Common.{ℕ, List, [], ◌∷◌, refl}
 use Rattle.std.specs.Prelude.{ℤ}
 use Rattle.std.specs.List.{AllByRecursion}
 use Rattle.procap.specs.declared.procap.Procap.{Procap}
@@ -10,31 +10,12 @@ use Rattle.journal_records.specs.declared.event.Event.TheVariants.{Acted}
 use Rattle.access_history.specs.Base.{BaseView}
 use Rattle.access_history.specs.Authority.{Authority}
 use Rattle.access_history.specs.Admission.{wanted_goal, IsNeedMet}
-use Rattle.access_history.specs.Replay.{replay, next_state}
-use Rattle.access_history.specs.Lawful.{IsDerived, IsLawful, AreLawful, no_event, one_more, MayAct, MayFollow}
+use Rattle.access_history.specs.Replay.{replay}
+use Rattle.access_history.specs.Lawful.{IsDerived, IsLawful, MayAct}
 use Rattle.access_history.specs.Headline.{WasRightful, Headline}
 use Rattle.access_history.proofs.AdmissionLemmas.{Holds-admits}
+use Rattle.access_history.proofs.FollowingLemmas.{follows_at}
 use Rattle.access_history.proofs.LawfulLemmas.{IsWorld-lawful}
-
--- each event, over the state that the events before it left
-AreFollowing : Authority → BaseView → List Event → Type 0
-AreFollowing authority state [] = Unit {0}
-AreFollowing authority state (event ∷ events) = MayFollow authority state event × AreFollowing authority (next_state state event) events
-
-AreFollowing-push : (authority : Authority) (state : BaseView) (events : List Event) (event : Event) → AreFollowing authority state events → MayFollow authority (replay state events) event → AreFollowing authority state (events ++ event ∷ [])
-unfolding AreFollowing
-AreFollowing-push authority state [] event all here = (here, tt)
-AreFollowing-push authority state (first ∷ events) event all here = (all.0, AreFollowing-push authority (next_state state first) events event all.1 here)
-
-AreFollowing-lawful : (authority : Authority) (base : BaseView) (events : List Event) → AreLawful authority base events → AreFollowing authority base events
-unfolding AreFollowing
-AreFollowing-lawful authority base events no_event = tt
-AreFollowing-lawful authority base events (one_more before event lawful follows) = AreFollowing-push authority base before event (AreFollowing-lawful authority base before lawful) follows
-
-AreFollowing-at : (authority : Authority) (state : BaseView) (earlier later : List Event) (event : Event) → AreFollowing authority state (earlier ++ event ∷ later) → MayFollow authority (replay state earlier) event
-unfolding AreFollowing
-AreFollowing-at authority state [] later event all = all.0
-AreFollowing-at authority state (first ∷ earlier) later event all = AreFollowing-at authority (next_state state first) earlier later event all.1
 
 WasRightful-each : (key : List ℕ) (state : BaseView) (caller : List ℕ) (procaps : List Procap) (moment : ℤ) (wants : List Need) → AllByRecursion (IsNeedMet key state caller procaps moment) wants → AllByRecursion (IsDerived state caller procaps moment) wants →
     AllByRecursion (WasRightful key state caller procaps moment) wants
@@ -66,5 +47,5 @@ Headline-lawful authority base events lawful = record {
   tree = IsWorld-lawful authority base events lawful;
   rightful = λ earlier later pass caller op procaps moment parts.
       WasRightful-acted authority (replay base earlier) caller op procaps moment
-      (AreFollowing-at authority base earlier later (Acted pass caller op procaps moment) (subst (AreFollowing authority base) parts (AreFollowing-lawful authority base events lawful.each)));
+      (follows_at authority base events earlier later (Acted pass caller op procaps moment) lawful parts);
 }

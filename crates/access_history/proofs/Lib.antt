@@ -4,6 +4,7 @@ pub mod AnswerableLemmas
 pub mod BaseLemmas
 pub mod CitingLemmas
 pub mod EitherLemmas
+pub mod FollowingLemmas
 pub mod ForGoodLemmas
 pub mod FreshLemmas
 pub mod GoneLemmas

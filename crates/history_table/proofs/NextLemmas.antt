@@ -8,33 +8,18 @@ use Rattle.access_history.specs.Authority.{Authority}
 use Rattle.access_history.specs.Base.{BaseView}
 use Rattle.access_history.specs.Lawful.{AreLawful, IsLawful, MayFollow, no_event, one_more}
 use Rattle.access_history.specs.Replay.{next_state, replay}
+use Rattle.access_history.proofs.FollowingLemmas.{AreFollowing, AreFollowing-lawful}
 use Rattle.access_history.proofs.ReplayLemmas.{count-replay}
 use Rattle.history_table.proofs.CaseLemmas.{within_or_past}
 
--- each event, over the state that the events before it left
-AreFollowing : Authority → BaseView → List Event → Type 0
-AreFollowing authority state [] = Unit {0}
-AreFollowing authority state (event ∷ events) = MayFollow authority state event × AreFollowing authority (next_state state event) events
-
-following_push : (authority : Authority) (state : BaseView) (events : List Event) (event : Event) → AreFollowing authority state events → MayFollow authority (replay state events) event → AreFollowing authority state (events ++ event ∷ [])
-unfolding AreFollowing
-following_push authority state [] event all here = (here, tt)
-following_push authority state (first ∷ events) event all here = (all.0, following_push authority (next_state state first) events event all.1 here)
-
-following : (authority : Authority) (base : BaseView) (events : List Event) → AreLawful authority base events → AreFollowing authority base events
-unfolding AreFollowing
-following authority base events no_event = tt
-following authority base events (one_more before event lawful follows) = following_push authority base before event (following authority base before lawful) follows
-
 following_at : (authority : Authority) (state : BaseView) (events : List Event) (place : ℕ) (event : Event) → AreFollowing authority state events → slice_get events place ≡ Some event → MayFollow authority (replay state (take place events)) event
-unfolding AreFollowing
 following_at authority state [] place event all found = absurd (none-some _ found)
 following_at authority state (first ∷ events) zero event all found = subst (MayFollow authority state) (same_Some _ _ found) all.0
 following_at authority state (first ∷ events) (suc place) event all found = following_at authority (next_state state first) events place event all.1 found
 
 -- the event in a place of a lawful history could come where it came
 pub follows_in : (authority : Authority) (base : BaseView) (events : List Event) (place : ℕ) (event : Event) → IsLawful authority base events → slice_get events place ≡ Some event → MayFollow authority (replay base (take place events)) event
-follows_in authority base events place event lawful found = following_at authority base events place event (following authority base events lawful.each) found
+follows_in authority base events place event lawful found = following_at authority base events place event (AreFollowing-lawful authority base events lawful.each) found
 
 -- the first events with the one after them
 pub take_next : (events : List Event) (place : ℕ) (event : Event) → slice_get events place ≡ Some event → take (suc place) events ≡ take place events ++ event ∷ []

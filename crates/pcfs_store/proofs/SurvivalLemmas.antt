@@ -73,7 +73,8 @@ area_push generation image events event =
     ∙ ap (λ (b : List ℕ). 1 ∷ base_bytes generation image ++ b) (records_push (payloads_of events) (event_spelling event))
     ∙ sym (append_assoc (1 ∷ base_bytes generation image) (records (payloads_of events)) (record_bytes (event_spelling event)))
 
-payloads_erased : (events : List Event) → payloads_of (map erase events) ≡ payloads_of events
+-- passes are not stored
+pub payloads_erased : (events : List Event) → payloads_of (map erase events) ≡ payloads_of events
 payloads_erased [] = refl
 payloads_erased (event ∷ events) =
     ap (λ (p : List ℕ). p ∷ payloads_of (map erase events)) (same_spelling event) ∙ ap (λ (l : List (List ℕ)). event_spelling event ∷ l) (payloads_erased events)

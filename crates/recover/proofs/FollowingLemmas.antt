@@ -8,13 +8,14 @@ use Rattle.access_history.specs.Base.{BaseView}
 use Rattle.access_history.specs.Lawful.{AreLawful, no_event, one_more, IsLawful, MayFollow}
 use Rattle.access_history.specs.Replay.{replay, next_state}
 use Rattle.journal_records.specs.Passes.{erase}
+use Rattle.access_history.proofs.FollowingLemmas.{AreFollowing, AreFollowing-lawful, follows_at}
 use Rattle.access_history.proofs.LawfulLemmas.{IsLawfulBase-lawful}
 use Rattle.access_history.proofs.PassLemmas.{erase_twice, erased_follows, erased_next}
 use Rattle.access_history.proofs.ReplayLemmas.{count-replay, replay-more}
-use Rattle.journal_records.specs.EventSpelling.{event_spelling, IsReadEvent}
-use Rattle.journal_records.proofs.EventLemmas.{erased_spellable, same_spelling}
+use Rattle.journal_records.specs.EventSpelling.{IsReadEvent}
+use Rattle.journal_records.proofs.EventLemmas.{erased_spellable}
 use Rattle.op_gate.specs.Damage.{MayComeNext}
-use Rattle.pcfs_store.specs.StoredHistory.{payloads_of, AreSpellable}
+use Rattle.pcfs_store.specs.StoredHistory.{AreSpellable}
 
 -- ---- events without their passes
 
@@ -38,46 +39,20 @@ pub erased_read : (events : List Event) → AreSpellable events → AllByRecursi
 erased_read [] spelled = tt
 erased_read (event ∷ events) spelled = (record { spelled = erased_spellable event spelled.0; erased = erase_twice event }, erased_read events spelled.1)
 
-pub erased_payloads : (events : List Event) → payloads_of (map erase events) ≡ payloads_of events
-erased_payloads [] = refl
-erased_payloads (event ∷ events) = ap (λ (p : List ℕ). p ∷ payloads_of (map erase events)) (same_spelling event) ∙ ap (λ (ps : List (List ℕ)). event_spelling event ∷ ps) (erased_payloads events)
-
 -- ---- each event, over the state that the events before it left
-
-AreFollowing : Authority → BaseView → List Event → Type 0
-AreFollowing authority state [] = Unit {0}
-AreFollowing authority state (event ∷ events) = MayFollow authority state event × AreFollowing authority (next_state state event) events
-
-following_push : (authority : Authority) (state : BaseView) (events : List Event) (event : Event) → AreFollowing authority state events → MayFollow authority (replay state events) event → AreFollowing authority state (events ++ event ∷ [])
-unfolding AreFollowing
-following_push authority state [] event all here = (here, tt)
-following_push authority state (first ∷ events) event all here = (all.0, following_push authority (next_state state first) events event all.1 here)
-
-following : (authority : Authority) (base : BaseView) (events : List Event) → AreLawful authority base events → AreFollowing authority base events
-unfolding AreFollowing
-following authority base events no_event = tt
-following authority base events (one_more before event lawful follows) = following_push authority base before event (following authority base before lawful) follows
-
-follows_at : (authority : Authority) (state : BaseView) (earlier later : List Event) (event : Event) → AreFollowing authority state (earlier ++ event ∷ later) → MayFollow authority (replay state earlier) event
-unfolding AreFollowing
-follows_at authority state [] later event all = all.0
-follows_at authority state (first ∷ earlier) later event all = follows_at authority (next_state state first) earlier later event all.1
 
 -- the first of the events, and the others after them
 following_front : (authority : Authority) (state : BaseView) (events others : List Event) → AreFollowing authority state (events ++ others) → AreFollowing authority state events
-unfolding AreFollowing
 following_front authority state [] others all = tt
 following_front authority state (event ∷ events) others all = (all.0, following_front authority (next_state state event) events others all.1)
 
 followed : (authority : Authority) (base : BaseView) (before events : List Event) → AreLawful authority base before → AreFollowing authority (replay base before) events → AreLawful authority base (before ++ events)
-unfolding AreFollowing
 followed authority base before [] lawful all = subst (AreLawful authority base) (sym (append-nil before)) lawful
 followed authority base before (event ∷ events) lawful all =
     subst (AreLawful authority base) (append_assoc before (event ∷ []) events)
     (followed authority base (before ++ event ∷ []) events (one_more before event lawful all.0) (subst (λ (s : BaseView). AreFollowing authority s events) (sym (replay-more base before event)) all.1))
 
 following_back : (authority : Authority) (state : BaseView) (events others : List Event) → AreFollowing authority state (events ++ others) → AreFollowing authority (replay state events) others
-unfolding AreFollowing
 following_back authority state [] others all = all
 following_back authority state (event ∷ events) others all = following_back authority (next_state state event) events others all.1
 
@@ -85,7 +60,7 @@ following_back authority state (event ∷ events) others all = following_back au
 pub next_at : (authority : Authority) (base : BaseView) (events earlier later : List Event) (event : Event) → IsLawful authority base events → events ≡ earlier ++ event ∷ later → MayComeNext authority (replay base earlier) event
 next_at authority base events earlier later event lawful parts = record {
   counted = omega (arith, lawful.counted, ap length parts, length-append earlier (event ∷ later), count-replay base earlier);
-  follows = follows_at authority base earlier later event (subst (AreFollowing authority base) parts (following authority base events lawful.each));
+  follows = follows_at authority base events earlier later event lawful parts;
 }
 
 -- the first events of a lawful history are lawful
@@ -93,7 +68,7 @@ pub front_lawful : (authority : Authority) (base : BaseView) (events others : Li
 front_lawful authority base events others lawful = record {
   lawful_base = lawful.lawful_base;
   counted = omega (arith, lawful.counted, length-append events others);
-  each = followed authority base [] events no_event (following_front authority base events others (following authority base (events ++ others) lawful.each));
+  each = followed authority base [] events no_event (following_front authority base events others (AreFollowing-lawful authority base (events ++ others) lawful.each));
 }
 
 -- and so are the others, after the state to which the first ones lead
@@ -101,7 +76,7 @@ pub back_lawful : (authority : Authority) (base : BaseView) (events others : Lis
 back_lawful authority base events others lawful = record {
   lawful_base = IsLawfulBase-lawful authority base events (front_lawful authority base events others lawful);
   counted = omega (arith, lawful.counted, length-append events others, count-replay base events);
-  each = followed authority (replay base events) [] others no_event (following_back authority base events others (following authority base (events ++ others) lawful.each));
+  each = followed authority (replay base events) [] others no_event (following_back authority base events others (AreFollowing-lawful authority base (events ++ others) lawful.each));
 }
 
 -- lawful events are lawful without their passes

@@ -19,7 +19,8 @@ use Rattle.op_gate.proofs.BaseDamageLemmas.{one_base_damage, lawful_base_not_dam
 use Rattle.checkpoint.specs.Reading.{IsImageOf}
 use Rattle.pcfs_store.specs.StoredHistory.{payloads_of, AreSpellable, StandsFor}
 use Rattle.recover.specs.AreaDamage.{AreRead, IsDamagedImage, no_state, of_state, IsDamagedPayload, no_event as spells_no_event, of_event, IsDamagedAt, AreLawfulPayloads, IsDamagedArea, no_base, no_image, no_payload, no_record}
-use Rattle.recover.proofs.FollowingLemmas.{erased_history, erased_payloads, erased_read, next_at}
+use Rattle.pcfs_store.proofs.SurvivalLemmas.{payloads_erased}
+use Rattle.recover.proofs.FollowingLemmas.{erased_history, erased_read, next_at}
 use Rattle.checkpoint.proofs.ReadingLemmas.{one_state}
 
 -- ---- payloads of events
@@ -207,7 +208,7 @@ damaged_open authority bytes _ _ (no_record g i b ps front is lawful is_open) sh
 lawful_payloads : (authority : Authority) (base : BaseView) (events : List Event) → AreSpellable events → IsLawful authority base events → AreLawfulPayloads authority base (payloads_of events)
 lawful_payloads authority base events spelled lawful = record {
   events = map erase events;
-  read = record { payloads_are = sym (erased_payloads events); each = erased_read events spelled };
+  read = record { payloads_are = sym (payloads_erased events); each = erased_read events spelled };
   lawful = erased_history authority base events lawful;
 }
 
@@ -235,5 +236,5 @@ one_history bytes m n base other events found one two =
     let same = one_area bytes m n one.image two.image (payloads_of events) (payloads_of found) one.is_area two.is_area in (
       same.0,
       one_state base other two.image (subst (IsImageOf base) same.1 one.is_image) two.is_image,
-      one_list (map erase events) (map erase found) (erased_read events one.spelled) (erased_read found two.spelled) (erased_payloads events ∙ same.2 ∙ sym (erased_payloads found)),
+      one_list (map erase events) (map erase found) (erased_read events one.spelled) (erased_read found two.spelled) (payloads_erased events ∙ same.2 ∙ sym (payloads_erased found)),
     )
