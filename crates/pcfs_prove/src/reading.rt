@@ -2,11 +2,11 @@
 
 ghost use Rattle.std.specs.Prelude.{◌≤◌, length, IfSome};
 
-use bl_syntax::byte_classes::is_digit;
 use bl_syntax::decimal::{put_counted, put_text};
 use bl_syntax::{Bytes, Formula, NoMemory, StatePred, StatePreds, is_state_condition};
 use bl_text::{TextFault, parse_formula, parse_statement};
 use line_text::first_line;
+use line_words::numerals;
 use proof_verifier::Cite;
 use std::alloc::Global;
 
@@ -34,25 +34,25 @@ impl From<NoMemory> for FileFault {
     }
 }
 
-// The number that a line begins with, and the number of bytes before its text; none if there is none.
+// The word without the zeros in front.
+fn without_zeros(word: &[u8]) -> &[u8] {
+    for (place, byte) in word.iter().enumerate() {
+        if *byte != b'0' {
+            return &word[place..];
+        }
+    }
+    &word[word.len()..]
+}
+
+// The number that a line begins with, and the number of bytes before its text; none if there is none, or it is 0.
 fn leading_number(line: &[u8]) -> Option<(u32, usize)>
     ensures { IfSome result (λ found. found.1 ≤ length line.now) }
 {
-    let mut value = 0u32;
     for (place, byte) in line.iter().enumerate() {
-        if *byte == b' ' && 0 < place {
-            return Some((value, place + 1));
+        if *byte == b' ' {
+            let number = numerals::number(without_zeros(&line[..place]))?;
+            return Some((number, place + 1));
         }
-        if !is_digit(*byte) {
-            return None;
-        }
-        value = match value.checked_mul(10) {
-            Some(tens) => match tens.checked_add(u32::from(*byte - b'0')) {
-                Some(more) => more,
-                None => return None,
-            },
-            None => return None,
-        };
     }
     None
 }
