@@ -1,11 +1,11 @@
 //! The registry: statements with their signatures, by their numbers from 1.
 
-ghost use Rattle.std.specs.Prelude.{◌≡◌, ◌≤◌, ◌<◌, ◌+◌, ◌∷◌, ◌++◌, ◌||◌, [], true, false, IsNone, IsSome, IfSome, IsErrOf, OnOk, OnErr, Some, length, Contains};
+ghost use Rattle.std.specs.Prelude.{◌≡◌, ◌≤◌, ◌<◌, ◌+◌, ◌∷◌, ◌++◌, ◌||◌, [], ℕ, true, false, IsNone, IsSome, IfSome, IsErrOf, OnOk, OnErr, Some, length};
 ghost use Rattle.std.specs.Option.{option_copied};
 ghost use Rattle.bl_syntax.specs.declared.limits.TheConstants.{MOST_STATEMENTS};
 ghost use Rattle.policy_statement.specs.Digest.{digest_of};
 ghost use Rattle.policy_statement.specs.Messages.{statement_message};
-ghost use Rattle.policy_statement.specs.Registry.{MayRegister, sayings, statement_of_number};
+ghost use Rattle.policy_statement.specs.Registry.{MayRegister, statement_of_number};
 ghost use Rattle.policy_statement.specs.Withdrawal.{MayWithdraw, entry_of_number, has_withdrawn, is_withdrawn, live_of_number, live_statement, marked};
 ghost use Rattle.policy_statement.specs.declared.registry.RegisterFault.TheVariants as faults;
 ghost use Rattle.policy_statement.specs.declared.registry.WithdrawFault.TheVariants as withdraw_faults;
@@ -225,7 +225,6 @@ impl Registry {
     }
 
     // Whether an accepted statement may be registered.
-    #[tactic(auto, using(crate::proofs::RegistryLemmas::can_register))]
     fn has_room(&self, s: &Statement) -> Result<(), RegisterFault>
         ensures may { MayRegister true self.now.entries s.now result }
         ensures no_signature { IsErrOf result faults.BadSignature → ⊥ }
@@ -355,9 +354,8 @@ impl Registry {
     }
 
     // The place of an equal statement, from 0.
-    #[tactic(auto, using(crate::proofs::RegistryLemmas::unnumbered_new))]
     fn find(&self, s: &Statement) -> Option<usize>
-        ensures none { IsNone result → Contains (sayings self.now.entries) s.now → ⊥ }
+        ensures none { IsNone result → (number : ℕ) → statement_of_number self.now.entries number ≡ Some s.now → ⊥ }
         ensures some { IfSome result (λ place. statement_of_number self.now.entries (place + 1) ≡ Some s.now) }
         ensures within { IfSome result (λ place. place < MOST_STATEMENTS) }
     {
@@ -377,10 +375,9 @@ fn either(one: bool, other: bool) -> bool
 }
 
 // The place among these of a statement that is the same as one with that digest.
-#[tactic(auto, using(crate::proofs::RegistryLemmas::unnumbered_new))]
 fn find_among(entries: &[Registered], s: &Statement, known: u64) -> Option<usize>
     requires { known ≡ digest_of s.now }
-    ensures none { IsNone result → Contains (sayings entries.now) s.now → ⊥ }
+    ensures none { IsNone result → (number : ℕ) → statement_of_number entries.now number ≡ Some s.now → ⊥ }
     ensures some { IfSome result (λ place. statement_of_number entries.now (place + 1) ≡ Some s.now) }
     ensures within { IfSome result (λ place. place < length entries.now) }
 {
