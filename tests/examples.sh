@@ -1,8 +1,9 @@
 #!/usr/bin/env bash
 # Runs each example by the built program, in a folder with the secrets of the examples beside it, and compares the replies
 # with those that are kept; so too three scripts over one store, and what the documents show (documents.py); then random
-# scripts, tables of modes and statements to be signed, whose replies are compared with those of the model; and sessions of
-# three users (sessions.sh), messages of 9P2000 (nine.py), and what users do by the client (client.py). Exits 1 if some differ.
+# scripts, tables of modes and statements to be signed, whose replies are compared with those of the model; secrets files
+# (secrets.py), sessions of three users (sessions.sh), messages of 9P2000 (nine.py), and what users do by the client
+# (client.py). Exits 1 if some differ.
 # usage: tests/examples.sh [PROGRAM], by default crates/pcfs/out/pcfs
 set -euo pipefail
 tests=$(cd "$(dirname "$0")" && pwd)
@@ -102,6 +103,16 @@ if [ "$late" -eq 0 ] && [ "$long" -eq 2 ] && cmp -s replies <(printf 'ok\nbad 3\
     agree=$((agree + 1))
 else
     echo "differs lines as they come"
+    differ=$((differ + 1))
+fi
+
+# secrets files that are right, or wrong in one line
+if python3 "$tests/secrets.py" "$program" > told 2>&1; then
+    echo "agrees secrets files"
+    agree=$((agree + 1))
+else
+    cat told
+    echo "differs secrets files"
     differ=$((differ + 1))
 fi
 

@@ -5,8 +5,8 @@ use journal_core::{Area, AreaFault, ScanFault, frame, peek};
 use pcfs_ports::{Failed, MemoryDisk};
 use std::alloc::Global;
 
-/// A disk in memory with these bytes, whose calls with these numbers fail.
-pub fn disk_of(alloc: Global, bytes: &[u8], failing: &[u32]) -> Option<MemoryDisk> {
+// A disk in memory with these bytes, whose calls with these numbers fail.
+fn disk_of(alloc: Global, bytes: &[u8], failing: &[u32]) -> Option<MemoryDisk> {
     let bytes = Bytes::from_vec(bytes.to_vec(alloc).ok()?);
     let failing = Numbers::from_vec(failing.to_vec(alloc).ok()?);
     MemoryDisk::new(alloc, bytes, failing).ok()
