@@ -8,8 +8,6 @@
 mod disk;
 mod files;
 mod mark;
-#[cfg(test)]
-mod tests;
 
 pub use disk::FileDisk;
 pub use mark::remove_mark;

@@ -1,6 +1,6 @@
 //! What a disk does with its file.
 
-use crate::{FileDisk, remove_mark};
+use file_disk::{FileDisk, remove_mark};
 use pcfs_ports::{Disk, Failed};
 use std::fs;
 use std::os::unix::fs::{MetadataExt, symlink};
