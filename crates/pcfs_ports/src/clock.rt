@@ -80,31 +80,3 @@ impl<'a, R: rt::Clock> Clock for SystemClock<'a, R> {
         }
     }
 }
-
-#[cfg(test)]
-mod tests {
-    use super::*;
-
-    #[test]
-    fn set_clock_gives_what_it_was_set_to(rt: HostRuntime) {
-        let clock = SetClock::new(i64::MIN);
-        assert_eq!(rt; clock.now(), -62_135_596_800);
-        for (second, want) in [
-            (100, 100),
-            (253_402_300_799, 253_402_300_799),
-            (253_402_300_800, 253_402_300_799),
-            (-62_135_596_801, -62_135_596_800),
-        ] {
-            clock.set(second);
-            assert_eq!(rt; clock.now(), want);
-        }
-    }
-
-    #[test]
-    fn system_clock_reads_the_time(rt: HostRuntime) {
-        let clock = SystemClock::new(&rt);
-        let earlier = clock.now();
-        assert!(rt; earlier > 1_700_000_000);
-        assert!(rt; clock.now() >= earlier);
-    }
-}

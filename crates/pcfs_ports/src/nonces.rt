@@ -189,30 +189,3 @@ impl<'a, R: Files + Eprint> Nonces for UrandomNonces<'a, R> {
         }
     }
 }
-
-#[cfg(test)]
-mod tests {
-    use super::*;
-    use std::test::Fail;
-
-    #[test]
-    fn list_nonces_come_in_order(rt: HostRuntime) -> Result<(), Fail> {
-        let list = Bytes::from_vec(b"0123456789abcdefghijklmnopqrstuvwxyz".to_vec(rt.alloc())?);
-        let failing = Numbers::from_vec([1u32].to_vec(rt.alloc())?);
-        let mut nonces = ListNonces::new(rt.alloc(), list, failing);
-        assert_eq!(rt; nonces.next(), Ok(*b"0123456789abcdef"));
-        assert_eq!(rt; nonces.next(), Err(Failed));
-        assert_eq!(rt; nonces.next(), Ok(*b"ghijklmnopqrstuv"));
-        assert_eq!(rt; nonces.next(), Err(Failed));
-        Ok(())
-    }
-
-    #[test]
-    fn urandom_nonces_differ(rt: HostRuntime) -> Result<(), Fail> {
-        let mut nonces = UrandomNonces::new(&rt);
-        let first = nonces.next().ok().ok_or("no first nonce")?;
-        let second = nonces.next().ok().ok_or("no second nonce")?;
-        assert_ne!(rt; first, second);
-        Ok(())
-    }
-}
