@@ -13,8 +13,6 @@ pub mod laws;
 mod listener_and_door;
 mod service;
 mod serving;
-#[cfg(test)]
-mod tests;
 mod threads;
 
 pub use end::ServeEnd;
