@@ -22,7 +22,7 @@ use Rattle.journal_records.specs.declared.event.Event.TheVariants.{Registered, W
 use Rattle.access_history.specs.Base.{BaseView}
 use Rattle.access_history.specs.History.{authority_with}
 use Rattle.access_history.specs.Lawful.{MayFollow}
-use Rattle.access_history.proofs.CitingLemmas.{numbers_length}
+use Rattle.access_history.proofs.CitingLemmas.{numbers_length as cites_length}
 use Rattle.record_parts.specs.Fields.{number_spelling, node_spelling, sized_bytes_spelling, moment_spelling}
 use Rattle.record_parts.specs.Parts.{sized_proof_spelling}
 use Rattle.record_parts.specs.OperationSpelling.{operation_spelling, IsSpellableOperation}
@@ -161,7 +161,7 @@ payload_length key ring state (Registered pass statement signature) may is =
     one_more 1 (registered_spelling statement signature)
     (registered_length (statement_spelling statement) signature (statement_length statement is.said) (accepted_length ring statement.who (statement_message statement) signature may.signed))
 payload_length key ring state (Issued pass cited proof grant) may is =
-    one_more 2 (issued_spelling cited proof grant) (issued_length cited proof grant (omega (arith, ap length may.good.cited, numbers_length may.good.cites, may.good.rising.few)) is)
+    one_more 2 (issued_spelling cited proof grant) (issued_length cited proof grant (omega (arith, ap length may.good.cited, cites_length may.good.cites, may.good.rising.few)) is)
 payload_length key ring state (Acted pass caller op procaps moment) may is =
     one_more 3 (acted_spelling caller op procaps moment)
     (acted_length caller op procaps moment (omega (arith, may.formed.brought.slots, few_slots op)) may.formed.brought.few_bytes is)
