@@ -21,6 +21,7 @@ use Rattle.access_history.specs.Replay.{replay}
 use Rattle.access_history.specs.Lawful.{AreLawful, IsLawful, IsLawfulBase, MayAct, MayFollow, no_event, one_more}
 use Rattle.access_history.proofs.AdmissionLemmas.{AreDerived-admitted}
 use Rattle.access_history.proofs.CitingLemmas.{all_cited, statements_in-whole}
+use Rattle.access_history.proofs.FollowingLemmas.{follows_at}
 use Rattle.access_history.proofs.LawfulLemmas.{IsLawfulBase-lawful}
 use Rattle.access_history.proofs.ListLemmas.{AllByRecursion-parts, Contains-cons_cases}
 use Rattle.access_history.proofs.NumberedLemmas.{first_failing, none_fails}
@@ -35,7 +36,6 @@ use Rattle.pcfs_audit.specs.Laws.{HasUnissuedRowsOnly, HasVerdict}
 use Rattle.pcfs_audit.specs.Report.{AreRows, AreSound, DoRowsRise, IsReport, number_after}
 use Rattle.pcfs_audit.proofs.FollowingLemmas.{clear_withdrawn, withdrawn_clear}
 use Rattle.pcfs_audit.proofs.RowsLemmas.{AreSound-more, AreSound-none, not_sound, sound_clean, sound_unissued}
-use Rattle.pcfs_audit.proofs.SplitLemmas.{nothing_parted, parted, past_one}
 
 -- ---- rows that rise
 
@@ -150,17 +150,6 @@ sound_next authority state (Acted pass caller op procaps moment) may =
     record { brought = follows.formed.brought; admitted = follows.admitted; not_refused = follows.not_refused } in
     ((tt, (tt, tt)), (tt, (follows.not_before, ((follows.in_range, takes), tt))))
 
--- each event of a lawful history could come where it came
-follows_at : (authority : Authority) (base : BaseView) (events : List Event) → AreLawful authority base events → (earlier later : List Event) (event : Event) → events ≡ earlier ++ event ∷ later → MayFollow authority (replay base earlier) event
-follows_at authority base events no_event earlier later event parts = absurd (nothing_parted earlier event later parts)
-follows_at authority base events (one_more before last lawful follows) earlier later event parts =
-    ⊎_elim
-    (λ within. follows_at authority base before lawful earlier within.more event within.first_is)
-    (λ past.
-    let at = past_one earlier event later before last past in
-    subst (λ (xs : List Event). MayFollow authority (replay base xs) event) (sym at.0) (subst (MayFollow authority (replay base before)) (sym at.1) follows))
-    (parted earlier event later before (last ∷ []) (sym parts))
-
 not_wrong : (authority : Authority) (state : BaseView) (event : Event) (finding : Finding) → IsFound authority state event finding → IsSound authority state event → finding ≡ Unissued
 not_wrong authority state event Unsigned found sound = absurd (not_sound authority state event Unsigned found refl sound)
 not_wrong authority state event Unproved found sound = absurd (not_sound authority state event Unproved found refl sound)
@@ -173,7 +162,7 @@ pub unissued_rows_only : (authority : Authority) (base : BaseView) (events : Lis
 unissued_rows_only authority base events report lawful is row here =
     let at = is.rows_are.right row here in
     not_wrong authority (replay base at.earlier) at.event row.finding at.found
-    (sound_next authority (replay base at.earlier) at.event (follows_at authority base events lawful.each at.earlier at.later at.event at.parts))
+    (sound_next authority (replay base at.earlier) at.event (follows_at authority base events at.earlier at.later at.event lawful at.parts))
 
 -- ---- histories without wrong rows
 
