@@ -9,10 +9,10 @@ use Rattle.follower.specs.declared.taking.Taken.{Taken}
 use Rattle.follower.specs.declared.taking.Taken.TheVariants as answers
 use Rattle.follower.specs.Taking.{IsNextEvent, Takes}
 use Rattle.follower.specs.Taking as takes
-use Rattle.pcfs_store.specs.Checkpoints.{SurvivesMet}
+use Rattle.pcfs_store.specs.Checkpoints.{SurvivesMetAt}
 use Rattle.pcfs_store.specs.Entries.{StoreEntry, happened}
 use Rattle.pcfs_store.specs.Newest.{one_of}
-use Rattle.pcfs_store.specs.Ready.{IsReady, IsCurrent, StopsNow, SurvivesStop}
+use Rattle.pcfs_store.specs.Ready.{IsReady, IsCurrent, StopsNow, SurvivesStopAt}
 use Rattle.pcfs_store.specs.StoreView.{StoreView, NoneFailed, first_disk, second_disk}
 use Rattle.pcfs_store.proofs.CountLemmas.{NoneFailed-same, NoneFailed-event}
 use Rattle.pcfs_session.specs.Stored.{StoreGoesOn}
@@ -125,7 +125,7 @@ module _ {D : Type 0} (clock : D → ℕ) (left_since : D → ℕ → List ℕ �
     pub answer : Takes faults old message.number message.payload taken new
     pub ready : IsReady clock left_since image old → taken ≢ answers.Stopped → IsReady clock left_since image new
     pub current : IsCurrent clock left_since image old → taken ≢ answers.Stopped → IsCurrent clock left_since image new
-    pub met : IsReady clock left_since image old → taken ≡ answers.Stopped → StopsNow clock left_since image new (SurvivesStop old.base old.events new.met)
+    pub met : IsReady clock left_since image old → taken ≡ answers.Stopped → StopsNow clock left_since image new (SurvivesStopAt old.base old.events old.generation old.second_active new.met)
     pub first_never_falls : faults (first_disk old) ≤ faults (first_disk new)
     pub second_never_falls : faults (second_disk old) ≤ faults (second_disk new)
 
@@ -194,7 +194,7 @@ module _ {D : Type 0} (clock : D → ℕ) (left_since : D → ℕ → List ℕ �
         other_stays = λ none untried. refl;
         ready = λ is_ready none. none_some (happened event) (sym none);
         halts = λ is_ready entry same.
-            subst (λ (x : StoreEntry). StopsNow clock left_since image (record old { active = active; stop = Some 0; met = Some event }) (SurvivesMet old.base old.events x)) (some_same (happened event) entry same) (t.met is_ready refl);
+            subst (λ (x : StoreEntry). StopsNow clock left_since image (record old { active = active; stop = Some 0; met = Some event }) (SurvivesMetAt old.base old.events old.generation old.second_active x)) (some_same (happened event) entry same) (t.met is_ready refl);
         current = λ is_current none. none_some (happened event) (sym none);
         first_never_falls = t.first_never_falls;
         second_never_falls = t.second_never_falls;

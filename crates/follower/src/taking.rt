@@ -4,7 +4,7 @@ ghost use Rattle.std.specs.Prelude.{◌≡◌, ◌≢◌, ◌<◌, ◌≤◌, �
 ghost use Rattle.bl_syntax.specs.declared.limits.TheConstants.{MOST_EVENTS};
 ghost use Rattle.pcfs_ports.specs.Disk.{IsPinned};
 ghost use Rattle.pcfs_store.specs.StoreView.{first_disk, second_disk};
-ghost use Rattle.pcfs_store.specs.Ready.{IsReady, IsCurrent, Keeps, StopsLeave, StopsNow, SurvivesStop};
+ghost use Rattle.pcfs_store.specs.Ready.{IsReady, IsCurrent, Keeps, StopsLeave, StopsNow, SurvivesStopAt};
 ghost use Rattle.follower.specs.Taking.{LeavesTaking, Takes, Taking, last_number, next_number, taken_of};
 
 use bl_syntax::CodecFault;
@@ -127,9 +127,10 @@ pub fn take<D: Disk>(alloc: Global, store: &mut Store<D>, number: u64, payload: 
     ensures any_moment { IsReady D.clock D.left_since D.image store.old →
         StopsLeave D.clock D.left_since D.image store.old store.new (LeavesTaking store.old number payload.now) }
 
-    // After a fault of a disk both remain possible: with the event, and without it.
+    // After a fault of a disk both remain possible: with the event, and without it; in an area of the same generation, on the same disk.
     ensures met { IsReady D.clock D.left_since D.image store.old → result ≡ Taken.Stopped →
-        StopsNow D.clock D.left_since D.image store.new (SurvivesStop store.old.base store.old.events store.new.met) }
+        StopsNow D.clock D.left_since D.image store.new
+        (SurvivesStopAt store.old.base store.old.events store.old.generation store.old.second_active store.new.met) }
 
     ensures first_told { is_some (D.image (first_disk store.new)) ≡ is_some (D.image (first_disk store.old)) }
     ensures second_told { is_some (D.image (second_disk store.new)) ≡ is_some (D.image (second_disk store.old)) }

@@ -16,9 +16,10 @@ use Rattle.pcfs_session.specs.LineAnswer.{authority_under}
 use Rattle.pcfs_session.specs.Streams.{Streams}
 use Rattle.pcfs_session.proofs.StoredLemmas.{HasRisen-earlier}
 use Rattle.pcfs_store.specs.Entries.{Root, StoreEntry, happened, checkpointed, stopped, stop_entries, merged, root_of, entries_of, checkpoints_among, events_among}
+use Rattle.pcfs_store.specs.Checkpoints.{place_after}
 use Rattle.pcfs_store.specs.declared.checkpoints.Checkpoint.{Checkpoint}
 use Rattle.pcfs_store.specs.Newest.{one_of}
-use Rattle.pcfs_store.specs.Ready.{SurvivesStop}
+use Rattle.pcfs_store.specs.Ready.{SurvivesStop, IsNewestStop}
 use Rattle.pcfs_store.specs.StoredHistory.{state_after}
 use Rattle.pcfs_store.specs.StoreView.{StoreView, IsStore, first_disk, second_disk, head_of, image_since, image_of, last_after, records_of}
 use Rattle.pcfs_store.proofs.EntryLemmas.{events-entries, generation-entries}
@@ -242,7 +243,13 @@ module _ {D : Type 0} (is_of : PassEntries) (clock : D → ℕ) (left_since : D 
       follows = λ pass event stops same. under (λ key ring base. IsLawful (authority_with key ring) base (s'.events ++ event ∷ [])) (goes.follows pass event (is ∙ stops) same lawful_then);
       survives = λ pass stops x y is_x is_y gate x' y' is_x' is_y'.
           under (λ key ring base. SurvivesStop base s'.events s'.met x' y')
-          (goes.halts (opened.ready x y is_x is_y gate) pass (is ∙ stops) x' y' (may_stay (first_disk s') x' is_x') (may_stay (second_disk s') y' is_y'));
+          (goes.halts (opened.ready x y is_x is_y gate) pass (is ∙ stops) x' y' (may_stay (first_disk s') x' is_x') (may_stay (second_disk s') y' is_y')).0;
+      newest_at = λ pass stops x y is_x is_y gate second counts x' y' is_x' is_y'.
+          let now = counts_now clock left_since image faults s store (opened.current x y is_x is_y) x y (opened.first_read.same ∙ is_x) (opened.second_read.same ∙ is_y) in
+          let there = place_moved goes.checkpoints_go_on.0 s'.checkpoints s.second_active second s'.second_active added_to (same_place s.second_active second (sym now ∙ counts)) goes.place_is in
+          subst (λ (n : ℕ). IsNewestStop n (place_after (length s'.checkpoints) second) s'.met x' y') generation_is
+          (subst (λ (w : Bool). IsNewestStop s'.generation w s'.met x' y') there
+          (goes.halts (opened.ready x y is_x is_y gate) pass (is ∙ stops) x' y' (may_stay (first_disk s') x' is_x') (may_stay (second_disk s') y' is_y')).1);
       other_stays = λ none x y is_x is_y second counts.
           let now = counts_now clock left_since image faults s store (opened.current x y is_x is_y) x y (opened.first_read.same ∙ is_x) (opened.second_read.same ∙ is_y) in
           subst (OtherAt stop) (same_place s.second_active second (sym now ∙ counts)) (other_by stop is none (goes.other_stays (added_to ∙ none)));

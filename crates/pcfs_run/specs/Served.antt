@@ -24,7 +24,7 @@ use Rattle.pcfs_store.specs.Checkpoints.{place_after}
 use Rattle.pcfs_store.specs.StoredHistory.{state_after}
 use Rattle.pcfs_store.specs.StoreView.{AreInOrder, image_since, last_after}
 use Rattle.pcfs_store.specs.Newest.{newer, one_of}
-use Rattle.pcfs_store.specs.Ready.{SurvivesStop}
+use Rattle.pcfs_store.specs.Ready.{SurvivesStop, IsNewestStop}
 use Rattle.recover.specs.Opening.{IsNewestHistory, IsNewestDamaged, IsNewestClosed}
 use Rattle.pcfs_tools.specs.LastLine.{Wrote, WroteNothing}
 use Rattle.pcfs_top.specs.Ports.{Disks, Ports, Rests, IfTold, HasDiskFailed, NoDiskFailed, AreBytesKept, AreDisksKept, IsInputKept}
@@ -98,7 +98,9 @@ root_under secrets generation image base = record {
 -- is pending. If one failed in a turn of some pass, its count rose; and if the opened area had its
 -- closed gate, the newest one stands for these events, or, in a step, for them with the event that
 -- the step was keeping, which may follow them: this is in the mark, which is one of the entries of
--- the pass, so that a line of its session, or a message, asks for it. The area that did not count
+-- the pass, so that a line of its session, or a message, asks for it. This newest one has the
+-- generation and the place that follow from the checkpoints; or, if the turn was to make one more,
+-- perhaps those that follow with it. The area that did not count
 -- is as it was, if no checkpoint was made; only if one was tried, its disk may have failed, and
 -- then the mark has no event.
 pub record IsServed (is_of : PassEntries) (secrets : Secrets) (rests : Rests) (before after : Disks) (attended count : ℕ) (stop : Option ℕ) : Type 0 where
@@ -136,6 +138,10 @@ pub record IsServed (is_of : PassEntries) (secrets : Secrets) (rests : Rests) (b
   pub follows : (pass : ℕ) (event : Event) → stop ≡ Some pass → met ≡ Some event →
       IsLawful (authority_under secrets) base (events ++ event ∷ [])
   pub survives : (pass : ℕ) → stop ≡ Some pass → IfTold before (λ x y. IsNewestClosed generation image opened x y → IfTold after (SurvivesStop base events met))
+  pub newest_at : (pass : ℕ) → stop ≡ Some pass → IfTold before (λ x y.
+      IsNewestClosed generation image opened x y → (second : Bool) →
+      newer (generation_of x) (generation_of y) ≡ Some second → IfTold after
+      (IsNewestStop (generation + length checkpoints) (place_after (length checkpoints) second) met))
   pub other_stays : checkpoints ≡ [] → IfTold before (λ x y. (second : Bool) → newer (generation_of x) (generation_of y) ≡ Some second →
       (one_of after.b after.a second ≡ one_of before.b before.a second) ⊎
       ((pass : ℕ) × (stop ≡ Some pass) × (met ≡ None) × HasRisen (one_of before.b_faults before.a_faults second) (one_of after.b_faults after.a_faults second)))

@@ -11,14 +11,14 @@ use Rattle.pcfs_store.specs.declared.reply.StoreReply.{StoreReply}
 use Rattle.pcfs_store.specs.declared.reply.StoreReply.TheVariants as stores
 use Rattle.pcfs_store.specs.Newest.{one_of}
 use Rattle.pcfs_store.specs.StoreView.{StoreView, first_disk, second_disk, authority_of_store}
-use Rattle.pcfs_store.specs.Ready.{IsReady, IsCurrent, StopsNow, SurvivesStop}
+use Rattle.pcfs_store.specs.Ready.{IsReady, IsCurrent, StopsNow, SurvivesStopAt}
 use Rattle.pcfs_store.specs.Steps.{Steps}
 use Rattle.pcfs_store.specs.Steps as steps
 use Rattle.line_forms.specs.declared.command.Command.TheVariants as commands
 use Rattle.pcfs_store.specs.declared.checkpoints.Checkpoint.{Checkpoint}
 use Rattle.pcfs_store.specs.declared.reply.CheckpointReply.{CheckpointReply}
 use Rattle.pcfs_store.specs.declared.reply.CheckpointReply.TheVariants as checkpoint_replies
-use Rattle.pcfs_store.specs.Checkpoints.{IsFullForCheckpoint, with_checkpoint, place_after, SurvivesMet, MakesCheckpoint, Checkpoints}
+use Rattle.pcfs_store.specs.Checkpoints.{IsFullForCheckpoint, with_checkpoint, place_after, SurvivesMetAt, MakesCheckpoint, Checkpoints}
 use Rattle.pcfs_store.specs.Checkpoints as makes
 use Rattle.pcfs_store.specs.Entries.{StoreEntry, happened, checkpointed}
 use Rattle.pcfs_store.proofs.CountLemmas.{NoneFailed-same, NoneFailed-on, NoneFailed-step, NoneFailed-checkpoint}
@@ -108,7 +108,7 @@ module _ {D : Type 0} (clock : D → ℕ) (left_since : D → ℕ → List ℕ �
     pub answer : Steps faults old asker.pass asker.clock request result new
     pub stays_ready : IsReady clock left_since image old → result ≢ stores.Stopped → IsReady clock left_since image new
     pub stays_current : IsCurrent clock left_since image old → result ≢ stores.Stopped → IsCurrent clock left_since image new
-    pub met : IsReady clock left_since image old → result ≡ stores.Stopped → StopsNow clock left_since image new (SurvivesStop old.base old.events new.met)
+    pub met : IsReady clock left_since image old → result ≡ stores.Stopped → StopsNow clock left_since image new (SurvivesStopAt old.base old.events old.generation old.second_active new.met)
     pub first_never_falls : faults (first_disk old) ≤ faults (first_disk new)
     pub second_never_falls : faults (second_disk old) ≤ faults (second_disk new)
 
@@ -173,7 +173,7 @@ module _ {D : Type 0} (clock : D → ℕ) (left_since : D → ℕ → List ℕ �
       other_stays = λ none untried. refl;
       ready = λ is_ready none. none_some (happened event) (sym none);
       halts = λ is_ready e same.
-          subst (λ (x : StoreEntry). StopsNow clock left_since image (record old { active = active; stop = Some asker.pass; met = Some event }) (SurvivesMet old.base old.events x)) (some_same (happened event) e same) (s.met is_ready refl);
+          subst (λ (x : StoreEntry). StopsNow clock left_since image (record old { active = active; stop = Some asker.pass; met = Some event }) (SurvivesMetAt old.base old.events old.generation old.second_active x)) (some_same (happened event) e same) (s.met is_ready refl);
       current = λ is_current none. none_some (happened event) (sym none);
       first_never_falls = s.first_never_falls;
       second_never_falls = s.second_never_falls;
@@ -267,7 +267,7 @@ module _ {D : Type 0} (clock : D → ℕ) (left_since : D → ℕ → List ℕ �
           place_is = refl;
           other_stays = λ none untried. absurd (untried asker.pass refl);
           ready = λ is_ready none. none_some (checkpointed asker.pass) (sym none);
-          halts = λ is_ready e same. subst (λ (x : StoreEntry). StopsNow clock left_since image (record old { other = other; stop = Some asker.pass; met = None }) (SurvivesMet old.base old.events x)) (some_same (checkpointed asker.pass) e same) (s.halts is_ready refl);
+          halts = λ is_ready e same. subst (λ (x : StoreEntry). StopsNow clock left_since image (record old { other = other; stop = Some asker.pass; met = None }) (SurvivesMetAt old.base old.events old.generation old.second_active x)) (some_same (checkpointed asker.pass) e same) (s.halts is_ready refl);
           current = λ is_current none. none_some (checkpointed asker.pass) (sym none);
           first_never_falls = s.first_never_falls;
           second_never_falls = s.second_never_falls;

@@ -5,7 +5,7 @@ use mathlib.Core.List.{IsPrefix}
 use Rattle.line_wire.specs.declared.reply.LineReply.{LineReply}
 use Rattle.pcfs_store.specs.StoreView.{StoreView, first_disk, second_disk, NoneFailed}
 use Rattle.pcfs_store.specs.Ready.{IsReady, IsCurrent, StopsNow}
-use Rattle.pcfs_store.specs.Checkpoints.{place_after, SurvivesMet}
+use Rattle.pcfs_store.specs.Checkpoints.{place_after, SurvivesMetAt}
 use Rattle.pcfs_store.specs.Entries.{StoreEntry, checkpointed}
 use Rattle.pcfs_session.specs.InterpreterView.{InterpreterView, standing_of}
 use Rattle.pcfs_session.specs.ScriptEnds.{ScriptEnds}
@@ -29,7 +29,9 @@ module _ {D : Type 0} (clock : D → ℕ) (left_since : D → ℕ → List ℕ �
   -- one, and the disks changed their places; as long as none was tried, the other disk is not
   -- touched. While no disk has failed for one, no call of a disk has failed, a store that was ready
   -- is ready, and what a read gives stands for its history. If one has, a count rose; and of a
-  -- store that was ready a crash leaves the history, or, if it was for an event, with it the event.
+  -- store that was ready a crash leaves the history, or, if it was for an event, with it the event;
+  -- in the area where it was, or, if it was for a checkpoint, perhaps in one of the next generation
+  -- on the other disk.
   pub record StoreGoesOn (old new : StoreView D) (met : Option StoreEntry) : Type 0 where
     pub stop_for : IsStopFor new.stop met
     pub opened_stays : new.opened ≡ old.opened
@@ -40,7 +42,7 @@ module _ {D : Type 0} (clock : D → ℕ) (left_since : D → ℕ → List ℕ �
         new.other ≡ old.other
     pub ready : IsReady clock left_since image old → met ≡ None → IsReady clock left_since image new
     pub halts : IsReady clock left_since image old → (entry : StoreEntry) → met ≡ Some entry →
-        StopsNow clock left_since image new (SurvivesMet new.base new.events entry)
+        StopsNow clock left_since image new (SurvivesMetAt new.base new.events new.generation new.second_active entry)
     pub current : IsCurrent clock left_since image old → met ≡ None →
         IsCurrent clock left_since image new
     pub first_never_falls : faults (first_disk old) ≤ faults (first_disk new)

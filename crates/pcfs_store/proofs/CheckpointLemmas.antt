@@ -19,12 +19,12 @@ use Rattle.pcfs_store.specs.declared.reply.CheckpointReply.{CheckpointReply}
 use Rattle.pcfs_store.specs.declared.reply.CheckpointReply.TheVariants.{Checkpointed, Full, Stopped, NoMemory}
 use Rattle.pcfs_store.specs.Image.{IsImageOf}
 use Rattle.pcfs_store.specs.StoredHistory.{payloads_of, state_after, area_since}
-use Rattle.pcfs_store.specs.Newest.{one_of, SurvivesWholeClosed}
+use Rattle.pcfs_store.specs.Newest.{one_of}
 use Rattle.pcfs_store.specs.StoreView.{StoreView, first_disk, second_disk, last_after, settled_of, head_of, image_since, image_of, body_of, state_of_store, AreInOrder, IsStore}
-use Rattle.pcfs_store.specs.Ready.{tie, IsBehind, IsReady, IsCurrent, StopsNow, Keeps, ready, halted}
+use Rattle.pcfs_store.specs.Ready.{tie, IsBehind, IsReady, IsCurrent, StopsNow, SurvivesStopAt, Keeps, ready, halted}
 use Rattle.pcfs_store.specs.Checkpoints.{IsFullForCheckpoint, with_checkpoint, MakesCheckpoint, made, full, failed, stopped, without_memory, IsNewestCheckpoint, Checkpoints}
 use Rattle.pcfs_store.specs.Moving.{Overwrites}
-use Rattle.pcfs_store.proofs.SurvivalLemmas.{IsTellable, tellable_store, survives_closed, newest_active, generation_since, at_some, ready_survives_now}
+use Rattle.pcfs_store.proofs.SurvivalLemmas.{IsTellable, tellable_store, SurvivesThere, survives_there, newest_active, generation_since, at_some, ready_there_now}
 use Rattle.pcfs_store.proofs.FormatLemmas.{none_shut}
 use Rattle.pcfs_store.proofs.EntryLemmas.{area-length}
 
@@ -93,8 +93,8 @@ module _ {D : Type 0} (clock : D → ℕ) (left_since : D → ℕ → List ℕ �
     stays_ready = λ is_ready _. is_ready;
     stays_kept = λ keeps. keeps;
     stays_current = λ current _. current;
-    any_moment = λ is_ready x y left_x left_y. ready_survives_now clock left_since image old store is_ready x y left_x left_y;
-    halts = λ is_ready _ x y left_x left_y. ready_survives_now clock left_since image old store is_ready x y left_x left_y;
+    any_moment = λ is_ready x y left_x left_y. (ready_there_now clock left_since image old store is_ready x y left_x left_y).0;
+    halts = λ is_ready _ x y left_x left_y. let there = ready_there_now clock left_since image old store is_ready x y left_x left_y in (there.0, inl there.1);
     makes_ready = λ current is. absurd (unmade is);
     newest = λ current is. absurd (unmade is);
     first_told = refl;
@@ -182,24 +182,35 @@ module _ {D : Type 0} (clock : D → ℕ) (left_since : D → ℕ → List ℕ �
         by false = omega arith
         by true = omega arith
 
+    -- the history survives, in the area where it was or in the next one
+    abbrev Left : List ℕ → List ℕ → Type 0
+    Left = SurvivesStopAt old.base old.events old.generation old.second_active None
+
+    abbrev Next : List ℕ → List ℕ → Type 0
+    Next = SurvivesThere old.base old.events (old.generation + 1) (not old.second_active)
+
     -- a pair of which the other has the area of the next generation, or an area that is older, or none
     survives_pair : (a o : List ℕ) → Closed (body_of old) a → IsBehind old.second_active old.generation (generation_of o) ⊎ Closed area o →
-        SurvivesWholeClosed old.base old.events (one_of a o old.second_active) (one_of o a old.second_active)
-    survives_pair a o closed (inl behind) = survives_closed old.second_active a o old.generation (image_of old) old.base old.events (settled_of old) (tellable_store old store) closed behind
+        Left (one_of a o old.second_active) (one_of o a old.second_active)
+    survives_pair a o closed (inl behind) =
+        let there = survives_there old.second_active a o old.generation (image_of old) old.base old.events (settled_of old) (tellable_store old store) closed behind in
+        (there.0, inl there.1)
     survives_pair a o closed (inr next) =
-        subst (λ (x : List ℕ). SurvivesWholeClosed old.base old.events x (one_of o a old.second_active)) (exchanged old.second_active o a)
-        (subst (λ (y : List ℕ). SurvivesWholeClosed old.base old.events (one_of o a (not old.second_active)) y) (exchanged old.second_active a o)
-        (survives_closed (not old.second_active) o a (old.generation + 1) written_image old.base old.events all next_tellable
-        (subst (λ (body : List ℕ). Closed body o) (sym next_whole) next) (older a closed.stands)))
+        let there : Next (one_of a o old.second_active) (one_of o a old.second_active) =
+        subst (λ (x : List ℕ). Next x (one_of o a old.second_active)) (exchanged old.second_active o a)
+        (subst (λ (y : List ℕ). Next (one_of o a (not old.second_active)) y) (exchanged old.second_active a o)
+        (survives_there (not old.second_active) o a (old.generation + 1) written_image old.base old.events all next_tellable
+        (subst (λ (body : List ℕ). Closed body o) (sym next_whole) next) (older a closed.stands))) in
+        (there.0, inr there.1)
 
     goes_on : (is_ready : IsReady clock left_since image old) → LeavesOnly clock left_since old.other disk (IsOldOrShutOrNew is_ready.other_bytes area)
     goes_on is_ready = writes.any_moment is_ready.other_bytes is_ready.other_told is_ready.other_pinned
 
     -- a crash since then leaves the history
     leaves : IsReady clock left_since image old → (x y : List ℕ) → left_since (one_of old.active disk old.second_active) (clock (one_of old.active old.other old.second_active)) x →
-        left_since (one_of disk old.active old.second_active) (clock (one_of old.other old.active old.second_active)) y → SurvivesWholeClosed old.base old.events x y
+        left_since (one_of disk old.active old.second_active) (clock (one_of old.other old.active old.second_active)) y → Left x y
     leaves is_ready =
-        left_other old.second_active old.active old.other disk (SurvivesWholeClosed old.base old.events) (λ a o left_a left_o.
+        left_other old.second_active old.active old.other disk Left (λ a o left_a left_o.
         survives_pair a o (subst (Closed (body_of old)) (some_same is_ready.rests.bytes a (sym is_ready.rests.told ∙ is_ready.rests.pinned a left_a)) is_ready.rests.closed)
         (by o ((goes_on is_ready).each o left_o)))
       where
@@ -309,9 +320,9 @@ module _ {D : Type 0} (clock : D → ℕ) (left_since : D → ℕ → List ℕ �
         stays_kept = λ keeps. stays keeps;
         stays_current = λ current _. next_current current;
         any_moment = λ is_ready x y left_x left_y.
-            leaves is_ready x y
+            (leaves is_ready x y
             (subst (λ (d : D). left_since d (clock (first_disk old)) x) first_is left_x)
-            (subst (λ (d : D). left_since d (clock (second_disk old)) y) second_is left_y);
+            (subst (λ (d : D). left_since d (clock (second_disk old)) y) second_is left_y)).0;
         halts = λ is_ready is. absurd (unlike is);
         makes_ready = λ current _ a o is_a is_o still. ready_by a o is_a (at_some (image old.active) (StandsForBody (body_of old)) a is_a current.active) still is_o;
         newest = λ current _ x y is_x is_y. next_newest current x y is_x is_y;
@@ -337,7 +348,7 @@ module _ {D : Type 0} (clock : D → ℕ) (left_since : D → ℕ → List ℕ �
       stays_ready = λ is_ready goes. absurd (goes refl);
       stays_kept = λ keeps. stays keeps;
       stays_current = λ current goes. absurd (goes refl);
-      any_moment = λ is_ready x y left_x left_y. leaves is_ready x y left_x left_y;
+      any_moment = λ is_ready x y left_x left_y. (leaves is_ready x y left_x left_y).0;
       halts = λ is_ready _. leaves_now is_ready;
       makes_ready = λ current is. absurd (unlike is);
       newest = λ current is. absurd (unlike is);
@@ -350,7 +361,7 @@ module _ {D : Type 0} (clock : D → ℕ) (left_since : D → ℕ → List ℕ �
         unlike : Stopped ≡ Checkpointed → ⊥
         unlike e = cc
 
-        leaves_now : IsReady clock left_since image old → StopsNow clock left_since image (record old { other = disk; stop = Some pass; met = None }) (SurvivesWholeClosed old.base old.events)
+        leaves_now : IsReady clock left_since image old → StopsNow clock left_since image (record old { other = disk; stop = Some pass; met = None }) Left
         leaves_now is_ready x y left_x left_y =
             let later : clock old.other ≤ clock disk = (goes_on is_ready).later in
             leaves is_ready x y

@@ -19,11 +19,11 @@ use Rattle.pcfs_store.specs.declared.reply.StoreReply.TheVariants.{Step, Stopped
 use Rattle.pcfs_store.specs.StoredHistory.{area_since}
 use Rattle.pcfs_store.specs.Newest.{one_of, SurvivesWholeClosed}
 use Rattle.pcfs_store.specs.StoreView.{StoreView, settled_of, image_since, image_of, body_of, AnswersIn, IsStore}
-use Rattle.pcfs_store.specs.Ready.{IsBehind, IsReady, IsCurrent, StopsNow, SurvivesWithOrWithout, Keeps, ready, halted}
+use Rattle.pcfs_store.specs.Ready.{IsBehind, IsReady, IsCurrent, StopsNow, SurvivesWithOrWithout, SurvivesStopAt, Keeps, ready, halted}
 use Rattle.pcfs_store.specs.Promises.{Promises}
 use Rattle.pcfs_store.specs.Steps.{IsFullFor, with_event, Steps, kept, failed, LeavesStep}
 use Rattle.pcfs_store.specs.Keeping.{Writes, HasWritten}
-use Rattle.pcfs_store.proofs.SurvivalLemmas.{IsTellable, tellable_store, tellable_push, survives_closed, since_push, state_push, order_within, order_more, left_pairs, ready_survives_now, if_some}
+use Rattle.pcfs_store.proofs.SurvivalLemmas.{IsTellable, tellable_store, tellable_push, survives_there, since_push, state_push, order_within, order_more, left_pairs, ready_survives_now, if_some}
 
 none_more : (events : List Event) → length events < length events → ⊥
 none_more events more = omega (arith, more)
@@ -133,19 +133,27 @@ module _ {D : Type 0} (clock : D → ℕ) (left_since : D → ℕ → List ℕ �
     goes_on : (is_ready : IsReady clock left_since image old) → LeavesOnly clock left_since old.active after.disk (IsWithOrWithout (body_of old) payload)
     goes_on is_ready = writes.any_moment (body_of old) (sym store.used_is) is_ready.rests
 
-    -- a crash since then leaves the history, or with it the event
+    -- an area that is older than that of the history
+    abbrev Older : List ℕ → Type 0
+    Older other = IsBehind old.second_active old.generation (generation_of other)
+
+    -- bytes with the history, or with it the event, beside an area that is older
+    survives_pair : (a o : List ℕ) → Older o → IsWithOrWithout (body_of old) payload a →
+        SurvivesStopAt old.base old.events old.generation old.second_active (Some event) (one_of a o old.second_active) (one_of o a old.second_active)
+    survives_pair a o behind (inl without) =
+        let there = survives_there old.second_active a o old.generation (image_of old) old.base old.events (settled_of old) (tellable_store old store) without behind in
+        (inl there.0, there.1)
+    survives_pair a o behind (inr with_it) =
+        let there = survives_there old.second_active a o old.generation (image_of pushed) old.base (old.events ++ event ∷ []) (settled_of old) push_tellable (subst (λ (body : List ℕ). Closed body a) (sym push_is) with_it) behind in
+        (inr there.0, there.1)
+
+    -- a crash since then leaves the history, or with it the event, where it was
     leaves : IsReady clock left_since image old → (x y : List ℕ) → left_since (one_of after.disk old.other old.second_active) (clock (one_of old.active old.other old.second_active)) x →
-        left_since (one_of old.other after.disk old.second_active) (clock (one_of old.other old.active old.second_active)) y → SurvivesWithOrWithout old.base old.events event x y
+        left_since (one_of old.other after.disk old.second_active) (clock (one_of old.other old.active old.second_active)) y →
+        SurvivesStopAt old.base old.events old.generation old.second_active (Some event) x y
     leaves is_ready x y left_x left_y =
-        left_pairs clock left_since old.second_active old.active after.disk old.other (SurvivesWithOrWithout old.base old.events event)
-        (λ a o left_a left_o.
-        let behind : IsBehind old.second_active old.generation (generation_of o) =
-        subst (λ (bytes : List ℕ). IsBehind old.second_active old.generation (generation_of bytes)) (some_same is_ready.other_bytes o (sym is_ready.other_told ∙ is_ready.other_pinned o left_o)) is_ready.behind in
-        ⊎_elim
-        (λ without. inl (survives_closed old.second_active a o old.generation (image_of old) old.base old.events (settled_of old) (tellable_store old store) without behind))
-        (λ with_it. inr (survives_closed old.second_active a o old.generation (image_of pushed) old.base (old.events ++ event ∷ []) (settled_of old) push_tellable
-        (subst (λ (body : List ℕ). Closed body a) (sym push_is) with_it) behind))
-        ((goes_on is_ready).each a left_a))
+        left_pairs clock left_since old.second_active old.active after.disk old.other (SurvivesStopAt old.base old.events old.generation old.second_active (Some event))
+        (λ a o left_a left_o. survives_pair a o (subst Older (some_same is_ready.other_bytes o (sym is_ready.other_told ∙ is_ready.other_pinned o left_o)) is_ready.behind) ((goes_on is_ready).each a left_a))
         x y left_x left_y
 
     -- with or without the event that the answer keeps, it is what a step may leave
@@ -210,7 +218,7 @@ module _ {D : Type 0} (clock : D → ℕ) (left_since : D → ℕ → List ℕ �
         stays_kept = λ keeps. stays keeps;
         stays_current = λ current _. current_after current;
         makes_ready = λ current _ active other told other_told pinned. ready_from current active other told other_told pinned;
-        any_moment = λ is_ready x y left_x left_y. leave x y (leaves is_ready x y left_x left_y);
+        any_moment = λ is_ready x y left_x left_y. leave x y (leaves is_ready x y left_x left_y).0;
         met = λ is_ready is_stopped. absurd (unlike is_stopped);
         first_told = told_first old.second_active after.disk old.active old.other writes.told;
         second_told = told_second old.second_active after.disk old.active old.other writes.told;
@@ -242,7 +250,7 @@ module _ {D : Type 0} (clock : D → ℕ) (left_since : D → ℕ → List ℕ �
       stays_kept = λ keeps. stays keeps;
       stays_current = λ current goes. absurd (goes refl);
       makes_ready = λ _ more _ _ _ _ _. absurd (none_more old.events more);
-      any_moment = λ is_ready x y left_x left_y. leave x y (leaves is_ready x y left_x left_y);
+      any_moment = λ is_ready x y left_x left_y. leave x y (leaves is_ready x y left_x left_y).0;
       met = λ is_ready _. leaves_now is_ready;
       first_told = told_first old.second_active after.disk old.active old.other writes.told;
       second_told = told_second old.second_active after.disk old.active old.other writes.told;
@@ -250,7 +258,8 @@ module _ {D : Type 0} (clock : D → ℕ) (left_since : D → ℕ → List ℕ �
       second_never_falls = falls_second old.second_active after.disk old.active old.other writes.never_falls;
     }
       where
-        leaves_now : IsReady clock left_since image old → StopsNow clock left_since image (record old { active = after.disk; stop = Some pass; met = Some event }) (SurvivesWithOrWithout old.base old.events event)
+        leaves_now : IsReady clock left_since image old →
+            StopsNow clock left_since image (record old { active = after.disk; stop = Some pass; met = Some event }) (SurvivesStopAt old.base old.events old.generation old.second_active (Some event))
         leaves_now is_ready x y left_x left_y =
             let later : clock old.active ≤ clock after.disk = (goes_on is_ready).later in
             leaves is_ready x y

@@ -19,7 +19,7 @@ use Rattle.access_history.specs.Replay.{replay}
 use Rattle.pcfs_store.specs.declared.checkpoints.Checkpoint.{Checkpoint}
 use Rattle.pcfs_store.specs.Image.{IsImageOf}
 use Rattle.pcfs_store.specs.StoredHistory.{payloads_of, AreSpellable, state_after, area_since, StandsFor, Resumes}
-use Rattle.pcfs_store.specs.Newest.{newer, one_of, newest, SurvivesWhole, SurvivesWholeClosed}
+use Rattle.pcfs_store.specs.Newest.{newer, one_of, newest, IsNewestAt, SurvivesWhole, SurvivesWholeClosed}
 use Rattle.pcfs_store.specs.StoreView.{StoreView, first_disk, second_disk, last_after, settled_of, head_of, records_of, image_of, body_of, AreInOrder, IsStore}
 use Rattle.pcfs_store.specs.Ready.{IsBehind, IsReady, IsCurrent, StopsNow}
 
@@ -58,6 +58,18 @@ newest_active false active other generation is behind =
     ap (option_map (one_of active other)) (ap (λ (o : Option ℕ). newer o (generation_of other)) is ∙ newer_first generation (generation_of other) behind)
 newest_active true active other generation is behind =
     ap (option_map (one_of other active)) (ap (λ (o : Option ℕ). newer (generation_of other) o) is ∙ newer_second generation (generation_of other) behind)
+
+-- its place, and its generation
+pub newest_at : (second : Bool) (active other : List ℕ) (generation : ℕ) → generation_of active ≡ Some generation → IsBehind second generation (generation_of other) →
+    IsNewestAt generation second (one_of active other second) (one_of other active second)
+newest_at false active other generation is behind = record {
+  place_is = ap (λ (o : Option ℕ). newer o (generation_of other)) is ∙ newer_first generation (generation_of other) behind;
+  generation_is = is;
+}
+newest_at true active other generation is behind = record {
+  place_is = ap (λ (o : Option ℕ). newer (generation_of other) o) is ∙ newer_second generation (generation_of other) behind;
+  generation_is = is;
+}
 
 -- ---- histories in bytes
 
@@ -214,6 +226,18 @@ survives_closed second active other generation image base events settled told cl
   gate = subst (λ (payloads : List (List ℕ)). length (area_bytes generation image payloads) < length active) (sym (payloads_erased (drop settled events))) closed.gate;
 }
 
+-- bytes of the area that counts, with its closed gate: the history survives there
+abbrev pub SurvivesThere : BaseView → List Event → ℕ → Bool → List ℕ → List ℕ → Type 0
+SurvivesThere base events generation second x y = SurvivesWholeClosed base events x y × IsNewestAt generation second x y
+
+pub survives_there : (second : Bool) (active other : List ℕ) (generation : ℕ) (image : List ℕ) (base : BaseView) (events : List Event) (settled : ℕ) → IsTellable generation image base events settled →
+    Closed (area_since generation image events settled) active → IsBehind second generation (generation_of other) →
+    SurvivesThere base events generation second (one_of active other second) (one_of other active second)
+survives_there second active other generation image base events settled told closed behind = (
+  survives_closed second active other generation image base events settled told closed behind,
+  newest_at second active other generation (generation_since generation image base events settled active told closed.stands) behind,
+)
+
 -- ---- stores
 
 pub at_some : (told : Option (List ℕ)) (P : List ℕ → Type 0) (bytes : List ℕ) → told ≡ Some bytes → IfSome told P → P bytes
@@ -255,14 +279,17 @@ module _ {D : Type 0} where
         (at_some (image s.other) (λ bytes. IsBehind s.second_active s.generation (generation_of bytes)) o is_o current.other))
         x y is_x is_y
 
-    -- a crash now leaves the history of a ready store
-    pub ready_survives_now : IsStore s → IsReady clock left_since image s → StopsNow clock left_since image s (SurvivesWholeClosed s.base s.events)
-    ready_survives_now store ready x y left_x left_y =
-        left_pairs clock left_since s.second_active s.active s.active s.other (SurvivesWholeClosed s.base s.events)
-        (λ a o left_a left_o. survives_closed s.second_active a o s.generation (image_of s) s.base s.events (settled_of s) (tellable_store s store)
+    -- a crash now leaves the history of a ready store, in its area
+    pub ready_there_now : IsStore s → IsReady clock left_since image s → StopsNow clock left_since image s (SurvivesThere s.base s.events s.generation s.second_active)
+    ready_there_now store ready x y left_x left_y =
+        left_pairs clock left_since s.second_active s.active s.active s.other (SurvivesThere s.base s.events s.generation s.second_active)
+        (λ a o left_a left_o. survives_there s.second_active a o s.generation (image_of s) s.base s.events (settled_of s) (tellable_store s store)
         (subst (Closed (body_of s)) (some_same ready.rests.bytes a (sym ready.rests.told ∙ ready.rests.pinned a left_a)) ready.rests.closed)
         (subst (λ (bytes : List ℕ). IsBehind s.second_active s.generation (generation_of bytes)) (some_same ready.other_bytes o (sym ready.other_told ∙ ready.other_pinned o left_o)) ready.behind))
         x y left_x left_y
+
+    pub ready_survives_now : IsStore s → IsReady clock left_since image s → StopsNow clock left_since image s (SurvivesWholeClosed s.base s.events)
+    ready_survives_now store ready x y left_x left_y = (ready_there_now store ready x y left_x left_y).0
 
     -- what a read of the disks of a ready store gives has its history, and the closed gate
     pub ready_survives : IsStore s → IsReady clock left_since image s → (x y : List ℕ) → image (first_disk s) ≡ Some x → image (second_disk s) ≡ Some y → SurvivesWholeClosed s.base s.events x y

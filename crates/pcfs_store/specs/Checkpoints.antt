@@ -10,9 +10,9 @@ use Rattle.checkpoint_image.specs.ImageSpelling.{image_spelling}
 use Rattle.pcfs_store.specs.Entries.{StoreEntry, happened, checkpointed, stopped as stop_mark}
 use Rattle.pcfs_store.specs.declared.reply.CheckpointReply.{CheckpointReply}
 use Rattle.pcfs_store.specs.declared.reply.CheckpointReply.TheVariants.{Checkpointed, Full, Stopped, NoMemory}
-use Rattle.pcfs_store.specs.Newest.{newest, SurvivesWholeClosed}
+use Rattle.pcfs_store.specs.Newest.{newest, SurvivesWholeClosed, IsNewestAt, IsNewestAtOrNext}
 use Rattle.pcfs_store.specs.StoreView.{StoreView, first_disk, second_disk, state_of_store}
-use Rattle.pcfs_store.specs.Ready.{SurvivesWithOrWithout, IsReady, IsCurrent, Keeps, StopsLeave, StopsNow}
+use Rattle.pcfs_store.specs.Ready.{SurvivesWithOrWithout, SurvivesStopAt, IsReady, IsCurrent, Keeps, StopsLeave, StopsNow}
 
 -- the image of the state does not fit with a closed gate after it, or there is no next generation
 abbrev pub IsFullForCheckpoint : {D : Type 0} → StoreView D → Type 0
@@ -43,6 +43,18 @@ abbrev pub SurvivesMet : BaseView → List Event → StoreEntry → List ℕ →
 SurvivesMet base events (happened event) first second = SurvivesWithOrWithout base events event first second
 SurvivesMet base events (checkpointed pass) first second = SurvivesWholeClosed base events first second
 SurvivesMet base events (stop_mark pass met) first second = SurvivesWholeClosed base events first second
+
+-- where the newest area is then, and its generation: as before, if an event was being kept; and if
+-- it was a checkpoint, so, or on the other disk, with the next generation
+abbrev pub IsNewestMet : ℕ → Bool → StoreEntry → List ℕ → List ℕ → Type 0
+IsNewestMet generation second (happened event) x y = IsNewestAt generation second x y
+IsNewestMet generation second (checkpointed pass) x y = IsNewestAtOrNext generation second x y
+IsNewestMet generation second (stop_mark pass met) x y = IsNewestAtOrNext generation second x y
+
+-- all that a crash leaves then: the history, in an area there
+abbrev pub SurvivesMetAt : BaseView → List Event → ℕ → Bool → StoreEntry → List ℕ → List ℕ → Type 0
+SurvivesMetAt base events generation second entry x y = SurvivesMet base events entry x y ×
+    IsNewestMet generation second entry x y
 
 -- What a checkpoint answers, and the store after it. Nothing else comes.
 pub data MakesCheckpoint {D : Type 0} (faults : D → ℕ) (old : StoreView D) (pass : ℕ) : CheckpointReply → StoreView D → Type 0 where
@@ -87,7 +99,7 @@ module _ {D : Type 0} (clock : D → ℕ) (left_since : D → ℕ → List ℕ �
     pub any_moment : IsReady clock left_since image old →
         StopsLeave clock left_since image old new (SurvivesWholeClosed old.base old.events)
     pub halts : IsReady clock left_since image old → result ≡ Stopped →
-        StopsNow clock left_since image new (SurvivesWholeClosed old.base old.events)
+        StopsNow clock left_since image new (SurvivesStopAt old.base old.events old.generation old.second_active None)
     pub newest : IsCurrent clock left_since image old → result ≡ Checkpointed →
         (first second : List ℕ) → image (first_disk new) ≡ Some first →
         image (second_disk new) ≡ Some second → IsNewestCheckpoint old first second

@@ -1,5 +1,5 @@
 -- Which of two areas counts, and what its bytes have to say. This project's own.
-use Rattle.std.specs.Prelude.{◌≡◌, ℕ, List, Option, Some, None, Bool, true, false, nat_lt, length, ◌<◌}
+use Rattle.std.specs.Prelude.{◌≡◌, ◌⊎◌, ◌+◌, ℕ, List, Option, Some, None, Bool, true, false, nat_lt, not, length, ◌<◌}
 use Rattle.std.specs.Option.{option_map}
 use Rattle.journal_core.specs.Area.{area_bytes, generation_of}
 use Rattle.journal_records.specs.declared.event.Event.{Event}
@@ -22,6 +22,17 @@ one_of first second true = second
 -- the bytes of the area that counts
 abbrev pub newest : List ℕ → List ℕ → Option (List ℕ)
 newest first second = option_map (one_of first second) (newer (generation_of first) (generation_of second))
+
+-- The newest area of these two disks' bytes is on the second of them, or on the first, and has this
+-- generation.
+pub record IsNewestAt (generation : ℕ) (second : Bool) (x y : List ℕ) : Type 0 where
+  pub place_is : newer (generation_of x) (generation_of y) ≡ Some second
+  pub generation_is : generation_of (one_of x y second) ≡ Some generation
+
+-- it is there; or on the other one, and has the next generation
+abbrev pub IsNewestAtOrNext : ℕ → Bool → List ℕ → List ℕ → Type 0
+IsNewestAtOrNext generation second x y = IsNewestAt generation second x y ⊎
+    IsNewestAt (generation + 1) (not second) x y
 
 -- The newest area of these two disks' bytes stands for a history that resumes the first `kept` of
 -- the events.

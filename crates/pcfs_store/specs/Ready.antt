@@ -5,7 +5,7 @@ use Rattle.journal_core.specs.Area.{StandsForBody, generation_of}
 use Rattle.journal_core.specs.Rest.{Rests}
 use Rattle.journal_records.specs.declared.event.Event.{Event}
 use Rattle.access_history.specs.Base.{BaseView}
-use Rattle.pcfs_store.specs.Newest.{SurvivesWholeClosed}
+use Rattle.pcfs_store.specs.Newest.{SurvivesWholeClosed, IsNewestAt, IsNewestAtOrNext}
 use Rattle.pcfs_store.specs.StoreView.{StoreView, first_disk, second_disk, body_of}
 
 -- what a generation that is equal lacks to count: the first area counts then
@@ -28,6 +28,17 @@ SurvivesWithOrWithout base events met first second = SurvivesWholeClosed base ev
 abbrev pub SurvivesStop : BaseView → List Event → Option Event → List ℕ → List ℕ → Type 0
 SurvivesStop base events None first second = SurvivesWholeClosed base events first second
 SurvivesStop base events (Some met) first second = SurvivesWithOrWithout base events met first second
+
+-- where the newest area is after a fault, and its generation: as before, if an event was being
+-- kept; and if it was a checkpoint, so, or on the other disk, with the next generation
+abbrev pub IsNewestStop : ℕ → Bool → Option Event → List ℕ → List ℕ → Type 0
+IsNewestStop generation second None x y = IsNewestAtOrNext generation second x y
+IsNewestStop generation second (Some met) x y = IsNewestAt generation second x y
+
+-- all that a crash leaves after a fault: the history, in an area there
+abbrev pub SurvivesStopAt : BaseView → List Event → ℕ → Bool → Option Event → List ℕ → List ℕ → Type 0
+SurvivesStopAt base events generation second met x y = SurvivesStop base events met x y ×
+    IsNewestStop generation second met x y
 
 -- Below, `clock d` is the present moment of a disk d, `left_since d t bytes` says that a crash at
 -- some moment since t may have left these bytes, and `image d` is what a read gives, if d tells it.
@@ -62,8 +73,8 @@ module _ {D : Type 0} (clock : D → ℕ) (left_since : D → ℕ → List ℕ �
 
   -- What a store keeps through all its steps and checkpoints: it is ready; or a disk failed, and a
   -- crash now leaves its history, or, if it failed in a step, with it the event that the step was
-  -- keeping.
+  -- keeping, in an area where it was, or, if it failed in a checkpoint, perhaps in the next one.
   pub data Keeps (s : StoreView D) : Type 0 where
     ready : IsReady s → Keeps s
-    halted : (pass : ℕ) → s.stop ≡ Some pass → StopsNow s (SurvivesStop s.base s.events s.met) →
-        Keeps s
+    halted : (pass : ℕ) → s.stop ≡ Some pass →
+        StopsNow s (SurvivesStopAt s.base s.events s.generation s.second_active s.met) → Keeps s

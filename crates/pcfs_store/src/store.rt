@@ -58,7 +58,7 @@ impl<D: Disk> Store<D> {
     ghost use Rattle.bl_syntax.specs.TimeOrder.{IsMoment};
     ghost use Rattle.access_history.specs.WellFormed.{IsWellFormed};
     ghost use Rattle.pcfs_store.specs.StoreView.{IsStore, first_disk, second_disk, state_of_store};
-    ghost use Rattle.pcfs_store.specs.Ready.{IsReady, IsCurrent, Keeps, StopsLeave, StopsNow, SurvivesStop};
+    ghost use Rattle.pcfs_store.specs.Ready.{IsReady, IsCurrent, Keeps, StopsLeave, StopsNow, SurvivesStopAt};
     ghost use Rattle.pcfs_store.specs.Steps.{Steps, LeavesStep};
     ghost use Rattle.pcfs_store.specs.Admitting.{Admits, LeavesAdmitting, Admitting};
     ghost use Rattle.pcfs_store.specs.Checkpoints.{MakesCheckpoint, IsNewestCheckpoint, Checkpoints};
@@ -173,9 +173,11 @@ impl<D: Disk> Store<D> {
         ensures any_moment { IsReady D.clock D.left_since D.image self.old →
             StopsLeave D.clock D.left_since D.image self.old self.new (LeavesStep self.old pass clock request) }
 
-        // After a fault of a disk both remain possible: with the event that the answer keeps, and without it.
+        // After a fault of a disk both remain possible: with the event that the answer keeps, and without it; in an area of the
+        // same generation, on the same disk.
         ensures met { IsReady D.clock D.left_since D.image self.old → result ≡ StoreReply.Stopped →
-            StopsNow D.clock D.left_since D.image self.new (SurvivesStop self.old.base self.old.events self.new.met) }
+            StopsNow D.clock D.left_since D.image self.new
+            (SurvivesStopAt self.old.base self.old.events self.old.generation self.old.second_active self.new.met) }
 
         ensures first_told { is_some (D.image (first_disk self.new)) ≡ is_some (D.image (first_disk self.old)) }
         ensures second_told { is_some (D.image (second_disk self.new)) ≡ is_some (D.image (second_disk self.old)) }
@@ -230,9 +232,11 @@ impl<D: Disk> Store<D> {
         ensures any_moment { IsReady D.clock D.left_since D.image self.old →
             StopsLeave D.clock D.left_since D.image self.old self.new (LeavesAdmitting self.old event) }
 
-        // After a fault of a disk both remain possible: with the event, and without it.
+        // After a fault of a disk both remain possible: with the event, and without it; in an area of the same generation, on the
+        // same disk.
         ensures met { IsReady D.clock D.left_since D.image self.old → result ≡ Admitted.Stopped →
-            StopsNow D.clock D.left_since D.image self.new (SurvivesStop self.old.base self.old.events self.new.met) }
+            StopsNow D.clock D.left_since D.image self.new
+            (SurvivesStopAt self.old.base self.old.events self.old.generation self.old.second_active self.new.met) }
 
         ensures first_told { is_some (D.image (first_disk self.new)) ≡ is_some (D.image (first_disk self.old)) }
         ensures second_told { is_some (D.image (second_disk self.new)) ≡ is_some (D.image (second_disk self.old)) }
@@ -293,10 +297,11 @@ impl<D: Disk> Store<D> {
         ensures any_moment { IsReady D.clock D.left_since D.image self.old →
             StopsLeave D.clock D.left_since D.image self.old self.new (SurvivesWholeClosed self.old.base self.old.events) }
 
-        // After a fault of a disk it is still there.
+        // After a fault of a disk it is still there: in the area of before, or in one of the next generation on the other disk.
         ensures halts { IsReady D.clock D.left_since D.image self.old →
             result ≡ CheckpointReply.Stopped →
-            StopsNow D.clock D.left_since D.image self.new (SurvivesWholeClosed self.old.base self.old.events) }
+            StopsNow D.clock D.left_since D.image self.new
+            (SurvivesStopAt self.old.base self.old.events self.old.generation self.old.second_active None) }
 
         // What a read gives then is the area of the next generation, with the image of the state.
         ensures newest { IsCurrent D.clock D.left_since D.image self.old →

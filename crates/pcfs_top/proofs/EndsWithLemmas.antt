@@ -17,7 +17,7 @@ use Rattle.pcfs_store.specs.Formats.{IsNewStore, IsNoneOrFresh, PairsLeft}
 use Rattle.pcfs_store.specs.Image.{fresh_image}
 use Rattle.pcfs_store.specs.StoredHistory.{area_since, payloads_of, state_after}
 use Rattle.pcfs_store.specs.Entries.{StoreEntry}
-use Rattle.pcfs_store.specs.Newest.{newer, newest, one_of}
+use Rattle.pcfs_store.specs.Newest.{newer, newest, one_of, IsNewestAtOrNext}
 use Rattle.pcfs_store.specs.StoreView.{StoreView, first_disk, second_disk, NoneFailed, IsStore, body_of, head_of, image_since, image_of, last_after, records_of, settled_of, state_of_store}
 use Rattle.pcfs_store.specs.Ready.{IsReady, IsCurrent, IsBehind}
 use Rattle.pcfs_store.specs.declared.format.FormatFault.{FormatFault}
@@ -25,7 +25,7 @@ use Rattle.pcfs_store.specs.declared.format.FormatFault.TheVariants as formats
 use Rattle.pcfs_store.specs.declared.checkpoints.Checkpoint.{Checkpoint}
 use Rattle.pcfs_store.specs.declared.reply.CheckpointReply.{CheckpointReply}
 use Rattle.pcfs_store.specs.declared.reply.CheckpointReply.TheVariants as checkpoints
-use Rattle.pcfs_store.specs.Checkpoints.{Checkpoints, IsFullForCheckpoint, IsNewestCheckpoint, MakesCheckpoint, place_after}
+use Rattle.pcfs_store.specs.Checkpoints.{Checkpoints, IsFullForCheckpoint, IsNewestCheckpoint, IsNewestMet, MakesCheckpoint, place_after}
 use Rattle.pcfs_store.specs.Checkpoints as makes
 use Rattle.pcfs_store.proofs.CountLemmas.{NoneFailed-checkpoint}
 use Rattle.pcfs_store.proofs.SurvivalLemmas.{at_some, told_pairs, tellable_store, generation_since, newest_active, ready_current, current_stands}
@@ -471,7 +471,12 @@ module _ {D : Type 0} (clock : D → ℕ) (left_since : D → ℕ → List ℕ �
     ends before after broken broken' result checkpoints.Stopped made input tells =
         told_as words secrets (rests_of a b (first_disk s') (second_disk s')) (record { streams = before; broken = broken; disks = disks_of a b }) (record { streams = after; broken = broken'; disks = disks_of (first_disk s') (second_disk s') }) 5 (codes "stopped") result
         (run.not_checkpointed s.generation s.opened (standing_over s None (first_asker script_pass)) is is_start (stopped_fits s s' pass opened.running made.answer) (risen_since secrets a b s s' opened (stopped_risen s s' pass opened.running made.answer)) (stays_by (stopped_stays s s' pass opened.running made.answer))
-        (λ x y is_x is_y closed x' y' is_x' is_y'. made.halts (opened.ready x y is_x is_y closed) refl x' y' (may_stay (first_disk s') x' is_x') (may_stay (second_disk s') y' is_y'))) input tells
+        (λ x y is_x is_y closed x' y' is_x' is_y'.
+        let halts = made.halts (opened.ready x y is_x is_y closed) refl x' y' (may_stay (first_disk s') x' is_x') (may_stay (second_disk s') y' is_y') in
+        let now = counts_now s store (opened.current x y is_x is_y) x y (opened.first_read.same ∙ is_x) (opened.second_read.same ∙ is_y) in (
+          halts.0,
+          λ second counts. subst (λ (w : Bool). IsNewestAtOrNext s.generation w x' y') (same_place s.second_active second (sym now ∙ counts)) halts.1,
+        ))) input tells
     ends before after broken broken' result checkpoints.NoMemory made input tells =
         untold_as words secrets (rests_of a b (first_disk s') (second_disk s')) (record { streams = before; broken = broken; disks = disks_of a b }) (record { streams = after; broken = broken'; disks = disks_of (first_disk s') (second_disk s') }) result
         (run.over_store (of_checkpoint is) (kept_by (unmade_same s s' pass made.answer))) input tells
@@ -507,7 +512,11 @@ module _ {D : Type 0} (clock : D → ℕ) (left_since : D → ℕ → List ℕ �
           none_failed = λ none. none_failed_since secrets a b s s' opened (goes.none_failed none);
           failed = λ entry same. risen_since secrets a b s s' opened (goes.failed entry same);
           survives = λ x y is_x is_y closed entry same x' y' is_x' is_y'.
-              goes.halts (opened.ready x y is_x is_y closed) entry same x' y' (may_stay (first_disk s') x' is_x') (may_stay (second_disk s') y' is_y');
+              (goes.halts (opened.ready x y is_x is_y closed) entry same x' y' (may_stay (first_disk s') x' is_x') (may_stay (second_disk s') y' is_y')).0;
+          newest_at = λ entry same x y is_x is_y closed second counts x' y' is_x' is_y'.
+              let now = counts_now s store (opened.current x y is_x is_y) x y (opened.first_read.same ∙ is_x) (opened.second_read.same ∙ is_y) in
+              subst (λ (w : Bool). IsNewestMet s'.generation w entry x' y') (place_moved added s'.checkpoints s.second_active second s'.second_active all (same_place s.second_active second (sym now ∙ counts)) goes.place_is)
+              (goes.halts (opened.ready x y is_x is_y closed) entry same x' y' (may_stay (first_disk s') x' is_x') (may_stay (second_disk s') y' is_y')).1;
           other_stays = λ none untried x y is_x is_y second counts.
               let now = counts_now s store (opened.current x y is_x is_y) x y (opened.first_read.same ∙ is_x) (opened.second_read.same ∙ is_y) in
               subst (λ (w : Bool). one_of (image (second_disk s')) (image (first_disk s')) w ≡ one_of (image b) (image a) w) (same_place s.second_active second (sym now ∙ counts))

@@ -14,8 +14,8 @@ use Rattle.checkpoint_image.specs.ImageSpelling.{image_spelling}
 use Rattle.pcfs_store.specs.Image.{fresh_image}
 use Rattle.pcfs_store.specs.StoredHistory.{payloads_of, state_after, StandsFor}
 use Rattle.pcfs_store.specs.Formats.{IsNoneOrFresh}
-use Rattle.pcfs_store.specs.Newest.{SurvivesWholeClosed, newer, newest, one_of}
-use Rattle.pcfs_store.specs.Checkpoints.{place_after, SurvivesMet}
+use Rattle.pcfs_store.specs.Newest.{SurvivesWholeClosed, IsNewestAtOrNext, newer, newest, one_of}
+use Rattle.pcfs_store.specs.Checkpoints.{place_after, SurvivesMet, IsNewestMet}
 use Rattle.pcfs_store.specs.Entries.{StoreEntry, checkpointed as checkpoint_mark}
 use Rattle.pcfs_store.specs.StoreView.{last_after, image_since}
 use Rattle.pcfs_store.specs.declared.format.FormatFault.{FormatFault}
@@ -107,8 +107,10 @@ image_in opened s = image_since opened (head_in s) s.checkpoints
 -- was none, and the events since; it is on the other disk after each checkpoint; and if the opened
 -- one had its closed gate, it has too, and nothing is pending. If one failed, its count rose; and
 -- if the opened area had its closed gate, the newest one that comes back stands for the history at
--- the end, or, if an event met the fault, for it with this event. The area that did not count is as
--- it was, if no checkpoint was made, and none met the fault.
+-- the end, or, if an event met the fault, for it with this event; it has that generation, and is on
+-- the disk on which the checkpoints put it; or, if a checkpoint met the fault, perhaps the next one,
+-- on the other disk. The area that did not count is as it was, if no checkpoint was made, and none
+-- met the fault.
 pub record Returns (rests : Rests) (generation : ℕ) (image : List ℕ) (before after : Disks) (start end : ScriptState) : Type 0 where
   pub grown : end.generation ≡ generation + length end.checkpoints
   pub whole : IfTold before (λ x y. end.met ≡ None → IfTold after (IsNewestOf end.generation (head_in end) (records_in end)))
@@ -123,6 +125,10 @@ pub record Returns (rests : Rests) (generation : ℕ) (image : List ℕ) (before
   pub failed : (met : StoreEntry) → end.met ≡ Some met → HasDiskFailed before after
   pub survives : IfTold before (λ x y. IsNewestClosed generation image start.events x y →
       (met : StoreEntry) → end.met ≡ Some met → IfTold after (SurvivesMet end.base end.events met))
+  pub newest_at : (met : StoreEntry) → end.met ≡ Some met → IfTold before (λ x y.
+      IsNewestClosed generation image start.events x y → (second : Bool) →
+      newer (generation_of x) (generation_of y) ≡ Some second →
+      IfTold after (IsNewestMet end.generation (place_after (length end.checkpoints) second) met))
   pub other_stays : end.checkpoints ≡ [] → ((pass : ℕ) → end.met ≡ Some (checkpoint_mark pass) → ⊥)
       → IfTold before (λ x y. (second : Bool) → newer (generation_of x) (generation_of y)
       ≡ Some second → one_of after.b after.a second ≡ one_of before.b before.a second)
@@ -195,7 +201,9 @@ pub data HasCause (secrets : Secrets) (words : List (String Global)) (rests : Re
       AsksFor words Checkpoint → IsOpened secrets generation image before start →
       (HasNoNextArea generation (state_of_start start) → ⊥) → HasDiskFailed before after →
       NewestStays before after →
-      IfTold before (λ x y. IsNewestClosed generation image start.events x y → IfTold after (SurvivesWholeClosed start.base start.events)) →
+      IfTold before (λ x y. IsNewestClosed generation image start.events x y → IfTold after (λ u v.
+      SurvivesWholeClosed start.base start.events u v × ((second : Bool) →
+      newer (generation_of x) (generation_of y) ≡ Some second → IsNewestAtOrNext generation second u v))) →
       HasCause secrets words rests before after 5 (codes "stopped")
   audited : (pieces : Option ℕ) (generation : ℕ) (image : List ℕ) (start : ScriptState) (report : Report) →
       AsksFor words (Audit pieces) → IsOpened secrets generation image before start →

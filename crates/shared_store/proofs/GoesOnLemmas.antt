@@ -21,7 +21,7 @@ use Rattle.pcfs_store.specs.declared.reply.StoreReply.{StoreReply}
 use Rattle.pcfs_store.specs.declared.reply.StoreReply.TheVariants as stores
 use Rattle.pcfs_store.specs.Newest.{one_of}
 use Rattle.pcfs_store.specs.StoreView.{StoreView, authority_of_store, first_disk, second_disk}
-use Rattle.pcfs_store.specs.Ready.{IsReady, IsCurrent, StopsNow, SurvivesStop}
+use Rattle.pcfs_store.specs.Ready.{IsReady, IsCurrent, StopsNow, SurvivesStopAt}
 use Rattle.pcfs_store.specs.declared.checkpoints.Checkpoint.{Checkpoint}
 use Rattle.pcfs_store.specs.declared.reply.CheckpointReply.{CheckpointReply}
 use Rattle.pcfs_store.specs.declared.reply.CheckpointReply.TheVariants as checkpoint_replies
@@ -98,7 +98,7 @@ module _ {D : Type 0} (clock : D → ℕ) (left_since : D → ℕ → List ℕ �
     pub answer : Steps faults old pass moment request result new
     pub stays_ready : IsReady clock left_since image old → result ≢ stores.Stopped → IsReady clock left_since image new
     pub stays_current : IsCurrent clock left_since image old → result ≢ stores.Stopped → IsCurrent clock left_since image new
-    pub met : IsReady clock left_since image old → result ≡ stores.Stopped → StopsNow clock left_since image new (SurvivesStop old.base old.events new.met)
+    pub met : IsReady clock left_since image old → result ≡ stores.Stopped → StopsNow clock left_since image new (SurvivesStopAt old.base old.events old.generation old.second_active new.met)
     pub first_told : is_some (image (first_disk new)) ≡ is_some (image (first_disk old))
     pub second_told : is_some (image (second_disk new)) ≡ is_some (image (second_disk old))
     pub first_never_falls : faults (first_disk old) ≤ faults (first_disk new)

@@ -6,7 +6,7 @@ use Rattle.journal_records.specs.declared.event.Event.{Event}
 use Rattle.access_history.specs.Lawful.{IsLawful}
 use Rattle.pcfs_store.specs.StoreView.{StoreView, authority_of_store, first_disk, second_disk, NoneFailed}
 use Rattle.pcfs_store.specs.Checkpoints.{place_after}
-use Rattle.pcfs_store.specs.Ready.{IsReady, IsCurrent, StopsNow, SurvivesStop}
+use Rattle.pcfs_store.specs.Ready.{IsReady, IsCurrent, StopsNow, SurvivesStopAt}
 
 -- of a disk of the store a count has risen since it was opened
 abbrev pub HasCountRisen : {D : Type 0} → (D → ℕ) → StoreView D → StoreView D → Type 0
@@ -26,7 +26,8 @@ module _ {D : Type 0} (clock : D → ℕ) (left_since : D → ℕ → List ℕ �
   -- no call of a disk has failed, a store that was ready is ready, and what a read gives stands for
   -- its history. If it is, a count rose above the one at the opening; and of a store that was ready
   -- a crash leaves the history, or, if it failed in a step, with it the event that the step was
-  -- keeping, which may follow.
+  -- keeping, which may follow; in the area where it was, or, if it failed in a checkpoint, perhaps
+  -- in one of the next generation on the other disk.
   pub record HasGoneOn (opening now : StoreView D) : Type 0 where
     pub began : opening.stop ≡ None
     pub key_stays : now.key ≡ opening.key
@@ -47,7 +48,7 @@ module _ {D : Type 0} (clock : D → ℕ) (left_since : D → ℕ → List ℕ �
     pub current : IsCurrent clock left_since image opening → now.stop ≡ None →
         IsCurrent clock left_since image now
     pub halts : IsReady clock left_since image opening → (pass : ℕ) → now.stop ≡ Some pass →
-        StopsNow clock left_since image now (SurvivesStop now.base now.events now.met)
+        StopsNow clock left_since image now (SurvivesStopAt now.base now.events now.generation now.second_active now.met)
     pub follows : (pass : ℕ) (event : Event) → now.stop ≡ Some pass → now.met ≡ Some event →
         IsLawful (authority_of_store now) now.base now.events →
         IsLawful (authority_of_store now) now.base (now.events ++ event ∷ [])
