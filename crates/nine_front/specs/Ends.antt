@@ -16,55 +16,59 @@ use Rattle.nine_front.specs.declared.nine_end.NineEnd.TheVariants as ends
 use Rattle.nine_front.specs.Said.{Speaks}
 use Rattle.nine_front.specs.Taken.{AreTaken, AreAllTaken, IsCutAtBad, IsReadWhole, IsCutOff, output_of, HoldsButLast}
 
-module _ {D : Type 0} (faults : D → ℕ) (gives : List StoreEntry → ℤ → Type 0) (nonce : List ℕ) where
+-- `Answered messages replies` says of messages that they were answered, with these replies
+module _ (Answered : List MessageView → List ReplyView → Type 0) where
   -- Which messages a connection answers that ends so: all of the input; those before a bad one, or
   -- before one that the end of the input cuts off; or all that were taken whole.
-  pub data NineReplies (old new : PassView (LockEntry D)) (before after : Streams) : NineEnd →
-      List MessageView → List ReplyView → Type 0 where
+  pub data NineRepliesBy (before after : Streams) : NineEnd → List MessageView → List ReplyView →
+      Type 0 where
     done : (messages : List MessageView) (replies : List ReplyView) →
-        IsReadWhole before.left after.left messages →
-        Speaks faults gives nonce old new messages replies →
-        NineReplies old new before after ends.Done messages replies
+        IsReadWhole before.left after.left messages → Answered messages replies →
+        NineRepliesBy before after ends.Done messages replies
     at_bad : (messages : List MessageView) (replies : List ReplyView) →
-        IsCutAtBad before.left after.left messages →
-        Speaks faults gives nonce old new messages replies →
-        NineReplies old new before after ends.BadMessage messages replies
+        IsCutAtBad before.left after.left messages → Answered messages replies →
+        NineRepliesBy before after ends.BadMessage messages replies
     cut_off : (messages : List MessageView) (replies : List ReplyView) →
-        IsCutOff before.left after.left messages →
-        Speaks faults gives nonce old new messages replies →
-        NineReplies old new before after ends.BadMessage messages replies
+        IsCutOff before.left after.left messages → Answered messages replies →
+        NineRepliesBy before after ends.BadMessage messages replies
     read_fault : (messages : List MessageView) (replies : List ReplyView) →
         HasRisen before.read_faults after.read_faults →
-        AreAllTaken before.left after.left messages →
-        Speaks faults gives nonce old new messages replies →
-        NineReplies old new before after ends.ReadFault messages replies
+        AreAllTaken before.left after.left messages → Answered messages replies →
+        NineRepliesBy before after ends.ReadFault messages replies
     input_too_long : (messages : List MessageView) (replies : List ReplyView) →
         TakesFirst INPUT_LIMIT before.left after.left →
-        AreAllTaken before.left after.left messages →
-        Speaks faults gives nonce old new messages replies →
-        NineReplies old new before after ends.InputTooLong messages replies
+        AreAllTaken before.left after.left messages → Answered messages replies →
+        NineRepliesBy before after ends.InputTooLong messages replies
 
   -- How a connection ends: all those replies were written. Or the output failed, or there was no
   -- memory for a reply's bytes or for a piece of the input: then all replies but the last to the
   -- messages that were answered, which are the first of those taken, and of the last some first
   -- part.
-  pub data NineEnds (old new : PassView (LockEntry D)) (before : Streams) : NineEnd → Streams →
-      Type 0 where
+  pub data NineEndsBy (before : Streams) : NineEnd → Streams → Type 0 where
     written : (how : NineEnd) (after : Streams) (messages : List MessageView) (replies : List ReplyView) →
-        NineReplies old new before after how messages replies →
+        NineRepliesBy before after how messages replies →
         after.held ≡ with_back before.held (output_of messages replies) →
-        NineEnds old new before how after
+        NineEndsBy before how after
     write_fault : (after : Streams) (messages : List MessageView) (replies : List ReplyView) →
         HasRisen before.write_faults after.write_faults →
-        AreTaken before.left after.left messages →
-        Speaks faults gives nonce old new messages replies →
+        AreTaken before.left after.left messages → Answered messages replies →
         HoldsButLast before.held after.held messages replies →
-        NineEnds old new before ends.WriteFault after
+        NineEndsBy before ends.WriteFault after
     no_memory : (after : Streams) (messages : List MessageView) (replies : List ReplyView) →
-        AreTaken before.left after.left messages →
-        Speaks faults gives nonce old new messages replies →
+        AreTaken before.left after.left messages → Answered messages replies →
         HoldsButLast before.held after.held messages replies →
-        NineEnds old new before ends.NoMemory after
+        NineEndsBy before ends.NoMemory after
+
+-- each of these, of messages that were answered from one moment of a pass to a later one
+module _ {D : Type 0} (faults : D → ℕ) (gives : List StoreEntry → ℤ → Type 0) (nonce : List ℕ) where
+  abbrev pub NineReplies : PassView (LockEntry D) → PassView (LockEntry D) → Streams → Streams →
+      NineEnd → List MessageView → List ReplyView → Type 0
+  NineReplies old new before after how messages replies =
+      NineRepliesBy (Speaks faults gives nonce old new) before after how messages replies
+
+  abbrev pub NineEnds : PassView (LockEntry D) → PassView (LockEntry D) → Streams → NineEnd →
+      Streams → Type 0
+  NineEnds old new before how after = NineEndsBy (Speaks faults gives nonce old new) before how after
 
 -- no call of the input failed, unless the connection ends by that: its count of faults stands still
 abbrev pub InputStandsStill : NineEnd → ℕ → ℕ → Type 0
