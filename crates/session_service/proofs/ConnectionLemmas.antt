@@ -1,6 +1,7 @@
 -- Which passes are those of connections, and how many.
 use Rattle.std.proofs.Common.{◌≡◌, ◌+◌, ◌≤◌, ℕ, Bool, true, false, List, [], ◌∷◌, length, refl, sym, subst, arith}
 use Rattle.std.specs.Prelude.{if◌then◌else◌}
+use Rattle.std.specs.List.{AllByRecursion}
 use Rattle.session_service.specs.Connections.{AreOfConnections, no_more, was_attended, was_not_attended}
 
 module _ {E : Type 0} (P : ℕ → List E → Type 0) where
@@ -9,6 +10,12 @@ module _ {E : Type 0} (P : ℕ → List E → Type 0) where
   connections-le _ _ no_more = omega arith
   connections-le _ _ (was_attended count number own passes had are) = let fewer = connections-le count passes are in omega (arith, fewer)
   connections-le _ _ (was_not_attended count number passes are) = let fewer = connections-le count passes are in omega (arith, fewer)
+
+  -- if as many are counted as there are passes, it holds of each
+  pub AreOfConnections-all : (count : ℕ) (passes : List (ℕ × List E)) → AreOfConnections P count passes → length passes ≡ count → AllByRecursion (λ (p : ℕ × List E). P p.0 p.1) passes
+  AreOfConnections-all _ _ no_more all = tt
+  AreOfConnections-all _ _ (was_attended count number own passes had are) all = (had, AreOfConnections-all count passes are (omega (arith, all)))
+  AreOfConnections-all _ _ (was_not_attended count number passes are) all = let fewer = connections-le count passes are in absurd (omega (arith, fewer, all))
 
   -- one more pass, of a connection that was attended, or without entries
   one_more : (is_attended : Bool) (count number : ℕ) (own : List E) (passes : List (ℕ × List E)) → (is_attended ≡ false → own ≡ []) → (is_attended ≡ true → P number own) → AreOfConnections P count passes →

@@ -1,20 +1,24 @@
--- Which input and which nonce are those of a connection's number.
-use Rattle.std.proofs.Common.{◌≡◌, ◌∙◌, ℕ, ◌+◌, ◌-◌, ◌*◌, List, length, map, Option, Some, None, ap, subst, arith}
-use Rattle.std.specs.Prelude.{slice_get}
+-- Which input, output and nonce are those of a connection's number.
+use Rattle.std.proofs.Common.{◌≡◌, ◌∙◌, ℕ, ◌+◌, ◌-◌, ◌*◌, List, length, Option, Some, None, ap, subst, arith}
 use Rattle.std.specs.Option.{option_map}
 use Rattle.std.proofs.lemmas.Option.{slice_get-map}
 use Rattle.pcfs_ports.specs.Telling.{IsAt, AreTakenOff, IsNextNonce, IsNonceAt}
 use Rattle.pcfs_server.proofs.TellingLemmas.{taken_none, taken_more}
 use Rattle.session_service.specs.Sessions.{IsInputOf, IsNonceOf, inputs_of}
+use Rattle.session_service.specs.Told.{IsConnectionOf}
 
--- ---- inputs
+-- ---- inputs and outputs
 
 -- the connection at a place, from 0, is that of the number after it
-pub input_of : {I O : Type 0} (left : I → Option (List ℕ)) (queue : Option (List (I × O))) (place number : ℕ) (input : I) (output : O) → number ≡ place + 1 → IsAt queue place input output → IsInputOf (inputs_of left queue) number (left input)
-input_of left None place number input output is at = tt
-input_of left (Some all) place number input output is at =
+pub connection_of : {I O : Type 0} (queue : Option (List (I × O))) (place number : ℕ) (input : I) (output : O) → number ≡ place + 1 → IsAt queue place input output → IsConnectionOf queue number input output
+connection_of queue place number input output is at =
     let here : place ≡ number - 1 = omega (arith, is) in
-    subst (λ (k : ℕ). slice_get (map (λ c. left c.0) all) k ≡ Some (left input)) here (slice_get-map (λ c. left c.0) all place ∙ ap (option_map (λ c. left c.0)) at)
+    subst (λ (k : ℕ). IsAt queue k input output) here at
+
+-- and so is its input
+pub input_of : {I O : Type 0} (left : I → Option (List ℕ)) (queue : Option (List (I × O))) (number : ℕ) (input : I) (output : O) → IsConnectionOf queue number input output → IsInputOf (inputs_of left queue) number (left input)
+input_of left None number input output is = tt
+input_of left (Some all) number input output is = slice_get-map (λ c. left c.0) all (number - 1) ∙ ap (option_map (λ c. left c.0)) is
 
 -- ---- nonces
 

@@ -1,7 +1,7 @@
 -- Laws of sessions: what a line of a session asks is what the definition of answers makes of its
 -- command, for somebody who calls in their own name and may see what is granted to them; and a
 -- session is placed in what its pass has seen.
-use Rattle.std.specs.Prelude.{◌≡◌, ◌≢◌, ℕ, ℤ, ◌*◌, ◌-◌, ◌≤◌, List, ◌++◌, length, take, drop, IsTrue, Some, Ok, Err}
+use Rattle.std.specs.Prelude.{◌≡◌, ◌≢◌, ℕ, ℤ, ◌*◌, ◌-◌, ◌≤◌, List, ◌++◌, length, take, drop, IsTrue, Option, Some, IfSome, Ok, Err}
 use mathlib.Core.List.{IsPrefix}
 use Rattle.bl_syntax.specs.declared.grant.Goal.{Goal}
 use Rattle.bl_syntax.specs.Grant.{GrantView}
@@ -18,10 +18,12 @@ use Rattle.access_history.specs.Books.{book_of}
 use Rattle.access_history.specs.Base.{BaseView}
 use Rattle.access_history.specs.declared.reply.StepReply.TheVariants.{Absent}
 use Rattle.access_history.specs.Citing.{AreFound, IsAbsent}
+use Rattle.line_text.specs.Lines.{lines_of}
 use Rattle.line_forms.specs.declared.command.Command.{Command}
 use Rattle.line_forms.specs.Modes.{is_admin}
 use Rattle.line_wire.specs.declared.reply.LineReply.{LineReply}
 use Rattle.line_wire.specs.declared.reply.LineReply.TheVariants as replies
+use Rattle.pcfs_ports.specs.Observable.{with_back}
 use Rattle.tree_lock.specs.Seen.{PassView}
 use Rattle.tree_lock.specs.Closing.{IsMadeAfter}
 use Rattle.pcfs_store.specs.Entries.{StoreEntry}
@@ -30,6 +32,7 @@ use Rattle.session_history.specs.declared.request.TurnRequest.TheVariants.{Step,
 use Rattle.session_history.specs.declared.task.LineTask.TheVariants as tasks
 use Rattle.session_history.specs.Turn.{StorePass}
 use Rattle.session_history.specs.Tasks.{IsUserTask}
+use Rattle.session_history.specs.Output.{session_output}
 use Rattle.session_history.specs.SessionState.{SessionState, guest_with}
 use Rattle.session_history.specs.Placed.{LinesPlaced}
 use Rattle.shared_store.specs.declared.entry.LockEntry.{LockEntry}
@@ -38,9 +41,11 @@ use Rattle.shared_store.specs.Turning.{pass_at}
 use Rattle.shared_store.specs.Asking.{entries_seen, HasHistory, InEachHistory, HasSeenFault}
 use Rattle.pcfs_session.specs.ScriptContext.{ScriptContext}
 use Rattle.pcfs_session.specs.LineAnswer.{replied, requested, checkpoint, ComesTo}
+use Rattle.session_service.specs.declared.session_end.SessionEnd.TheVariants.{Done}
 use Rattle.session_service.specs.Said.{SaysStopped}
 use Rattle.session_service.specs.SessionEnds.{Speaks}
-use Rattle.session_service.specs.Sessions.{SessionSources, IsNonceOf, AreOfSession}
+use Rattle.session_service.specs.Sessions.{SessionSources, IsNonceOf, AreOfSession, sources_of}
+use Rattle.session_service.specs.Told.{ConnectionTells}
 
 -- what is asked in one turn is what a look at any state makes of the command
 abbrev pub TurnsAskWhatCommandsComeTo : Type 0
@@ -123,6 +128,15 @@ LaterSessionsArePlacedAfter D faults gives = (nonce : List ℕ) (opening : Store
 abbrev pub EachEntryHasALine : SessionSources → Type 0
 EachEntryHasALine sources = (p : StorePass) (history own : List StoreEntry) →
     (s : AreOfSession sources p history own) → length own ≤ length s.lines
+
+-- a session that ended as its input did answered all lines of that, if it told its bytes, and all
+-- replies are out, after the greeting
+abbrev pub DoneAnswersAll : {I O : Type 0} → (List StoreEntry → ℤ → Type 0) → ConnectionTells I O →
+    Option (List (I × O)) → Option (List ℕ) → Type 0
+DoneAnswersAll gives tells queue nonces = (p : StorePass) (history own : List StoreEntry) →
+    (s : AreOfSession (sources_of gives tells queue nonces) p history own) → s.told.how ≡ Done →
+    IfSome (tells.left s.told.input) (λ bytes. s.lines ≡ lines_of bytes) ×
+    (tells.held s.told.output_after ≡ with_back (tells.held s.told.output) (session_output s.nonce s.answers))
 
 -- two sessions of one run have two nonces, if the bytes that are told for their numbers differ
 abbrev pub SessionsHaveTwoNonces : Type 0

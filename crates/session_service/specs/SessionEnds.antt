@@ -30,6 +30,53 @@ use Rattle.session_lines.specs.Turns.{CountsTurns}
 use Rattle.session_service.specs.Said.{AreAnswered, SaysStopped, turns_of}
 use Rattle.session_service.specs.Written.{HoldsButLast, HoldsUpToLast}
 
+-- `Answered lines answers` says of lines that they were answered, with these replies
+module _ (Answered : List (List ℕ) → List LineReply → Type 0) where
+  -- how far a session is: it answered lines that were taken, each with its end; or the input was
+  -- read to its end, and it answered all its lines, of which none is too long
+  pub data IsUnderWayBy (before after : Streams) (answers : List LineReply) : Type 0 where
+    while_reading : (lines : List (List ℕ)) → AreTaken before.left after.left lines →
+        Answered lines answers → IsUnderWayBy before after answers
+    all_read : (bytes : List ℕ) → ReadsToEnd before.left after.left bytes → AreShort bytes →
+        Answered (lines_of bytes) answers → IsUnderWayBy before after answers
+
+  -- What a session replies that ends so: to all lines of the input; to all lines that were taken
+  -- with their ends; or to these, and that the line after them is too long, which is the last
+  -- reply.
+  pub data SessionRepliesBy (before after : Streams) : SessionEnd → List LineReply → Type 0 where
+    done : (bytes : List ℕ) (answers : List LineReply) → ReadsToEnd before.left after.left bytes →
+        AreShort bytes → Answered (lines_of bytes) answers →
+        SessionRepliesBy before after Done answers
+    line_too_long : (lines : List (List ℕ)) (answers : List LineReply) →
+        IsCutAtLong before.left after.left lines → Answered lines answers →
+        SessionRepliesBy before after LineTooLong (answers ++ TooLong ∷ [])
+    read_fault : (lines : List (List ℕ)) (answers : List LineReply) →
+        HasRisen before.read_faults after.read_faults → AreAllTaken before.left after.left lines →
+        Answered lines answers → SessionRepliesBy before after ReadFault answers
+    input_too_long : (lines : List (List ℕ)) (answers : List LineReply) →
+        TakesFirst INPUT_LIMIT before.left after.left → AreAllTaken before.left after.left lines →
+        Answered lines answers → SessionRepliesBy before after InputTooLong answers
+
+  -- How a session with this nonce ends: the greeting and all those replies were written. Or the
+  -- output failed or memory ran out: some first part was written of the greeting, and no line was
+  -- answered; or the greeting was written, and of the lines that were answered all replies but the
+  -- last, of which some first part was, or that the next line is too long.
+  pub data SessionEndsBy (nonce : List ℕ) (before : Streams) : SessionEnd → Streams → Type 0 where
+    written : (how : SessionEnd) (after : Streams) (answers : List LineReply) →
+        SessionRepliesBy before after how answers →
+        after.held ≡ with_back before.held (session_output nonce answers) →
+        SessionEndsBy nonce before how after
+    cut_short : (fault : SendFault) (after : Streams) (answers : List LineReply) →
+        (fault ≡ Write → HasRisen before.write_faults after.write_faults) →
+        IsUnderWayBy before after answers →
+        HoldsUpToLast nonce before.held after.held answers →
+        SessionEndsBy nonce before (unsent_end fault) after
+    cut_at_long_line : (fault : SendFault) (after : Streams) (answers : List LineReply) →
+        (fault ≡ Write → HasRisen before.write_faults after.write_faults) →
+        SessionRepliesBy before after LineTooLong answers →
+        HoldsUpToLast nonce before.held after.held answers →
+        SessionEndsBy nonce before (unsent_end fault) after
+
 module _ {D : Type 0} (faults : D → ℕ) (gives : List StoreEntry → ℤ → Type 0) (nonce : List ℕ) where
   -- A session with this nonce answered these lines, from one moment of its pass to a later one. In
   -- each history that begins with what the pass has seen then, the replies are placed after all
@@ -50,54 +97,21 @@ module _ {D : Type 0} (faults : D → ℕ) (gives : List StoreEntry → ℤ → 
     pub turns : CountsTurns (turns_of answers) (2 * length lines) old.turns new.turns
     pub answered : AreAnswered gives (guest_with nonce) old lines answers end new
 
-  -- how far a session is: it answered lines that were taken, each with its end; or the input was
-  -- read to its end, and it answered all its lines, of which none is too long
-  pub data IsUnderWay (old new : PassView (LockEntry D)) (before after : Streams) (answers : List LineReply) : Type 0 where
-    while_reading : (lines : List (List ℕ)) → AreTaken before.left after.left lines →
-        Speaks old new lines answers → IsUnderWay old new before after answers
-    all_read : (bytes : List ℕ) → ReadsToEnd before.left after.left bytes → AreShort bytes →
-        Speaks old new (lines_of bytes) answers → IsUnderWay old new before after answers
+  -- each of these, of lines that were answered from one moment of a pass to a later one
+  abbrev pub IsUnderWay : PassView (LockEntry D) → PassView (LockEntry D) → Streams → Streams →
+      List LineReply → Type 0
+  IsUnderWay old new before after answers = IsUnderWayBy (Speaks old new) before after answers
 
-  -- What a session replies that ends so: to all lines of the input; to all lines that were taken
-  -- with their ends; or to these, and that the line after them is too long, which is the last
-  -- reply.
-  pub data SessionReplies (old new : PassView (LockEntry D)) (before after : Streams) : SessionEnd →
-      List LineReply → Type 0 where
-    done : (bytes : List ℕ) (answers : List LineReply) → ReadsToEnd before.left after.left bytes →
-        AreShort bytes → Speaks old new (lines_of bytes) answers →
-        SessionReplies old new before after Done answers
-    line_too_long : (lines : List (List ℕ)) (answers : List LineReply) →
-        IsCutAtLong before.left after.left lines → Speaks old new lines answers →
-        SessionReplies old new before after LineTooLong (answers ++ TooLong ∷ [])
-    read_fault : (lines : List (List ℕ)) (answers : List LineReply) →
-        HasRisen before.read_faults after.read_faults → AreAllTaken before.left after.left lines →
-        Speaks old new lines answers → SessionReplies old new before after ReadFault answers
-    input_too_long : (lines : List (List ℕ)) (answers : List LineReply) →
-        TakesFirst INPUT_LIMIT before.left after.left → AreAllTaken before.left after.left lines →
-        Speaks old new lines answers → SessionReplies old new before after InputTooLong answers
+  abbrev pub SessionReplies : PassView (LockEntry D) → PassView (LockEntry D) → Streams → Streams →
+      SessionEnd → List LineReply → Type 0
+  SessionReplies old new before after how answers =
+      SessionRepliesBy (Speaks old new) before after how answers
 
-  -- How a session ends: the greeting and all those replies were written. Or the output failed or
-  -- memory ran out: some first part was written of the greeting, and no line was answered; or the
-  -- greeting was written, and of the lines that were answered all replies but the last, of which
-  -- some first part was, or that the next line is too long.
-  pub data SessionEnds (old new : PassView (LockEntry D)) (before : Streams) : SessionEnd →
-      Streams → Type 0 where
-    written : (how : SessionEnd) (after : Streams) (answers : List LineReply) →
-        SessionReplies old new before after how answers →
-        after.held ≡ with_back before.held (session_output nonce answers) →
-        SessionEnds old new before how after
-    cut_short : (fault : SendFault) (after : Streams) (answers : List LineReply) →
-        (fault ≡ Write → HasRisen before.write_faults after.write_faults) →
-        IsUnderWay old new before after answers →
-        HoldsUpToLast nonce before.held after.held answers →
-        SessionEnds old new before (unsent_end fault) after
-    cut_at_long_line : (fault : SendFault) (after : Streams) (answers : List LineReply) →
-        (fault ≡ Write → HasRisen before.write_faults after.write_faults) →
-        SessionReplies old new before after LineTooLong answers →
-        HoldsUpToLast nonce before.held after.held answers →
-        SessionEnds old new before (unsent_end fault) after
+  abbrev pub SessionEnds : PassView (LockEntry D) → PassView (LockEntry D) → Streams →
+      SessionEnd → Streams → Type 0
+  SessionEnds old new before how after = SessionEndsBy (Speaks old new) nonce before how after
 
-  -- The same after the greeting is out.
+  -- How a session goes on to its end after the greeting is out.
   pub data GoesOnToEnd (old new : PassView (LockEntry D)) (before : Streams) : SessionEnd →
       Streams → Type 0 where
     rest_written : (how : SessionEnd) (after : Streams) (answers : List LineReply) →

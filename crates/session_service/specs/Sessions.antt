@@ -16,12 +16,15 @@ use Rattle.session_history.specs.Laws.{IsByAccepted, AreAskedFor}
 use Rattle.shared_store.specs.declared.entry.LockEntry.{LockEntry}
 use Rattle.shared_store.specs.LockHistory.{numbered, lock_history}
 use Rattle.shared_store.specs.Turning.{pass_at}
+use Rattle.session_service.specs.Told.{ConnectionTells, IsTold}
 
--- what sessions take from the ports: which moments the clock gives over which entries; and which
--- lines the connection of a number may say, under which nonce
+-- what sessions take from the ports, and give them: which moments the clock gives over which
+-- entries; which lines the connection of a number may say, under which nonce; and that it was told
+-- these replies to its lines
 pub record SessionSources : Type 1 where
   pub gives : List StoreEntry → ℤ → Type 0
   pub may_say : ℕ → List ℕ → List (List ℕ) → Type 0
+  pub is_told : ℕ → List ℕ → List (List ℕ) → List LineReply → Type 0
 
 -- if an input tells which bytes are still to come, these are the first of their lines
 abbrev pub AreFirstLines : Option (List ℕ) → List (List ℕ) → Type 0
@@ -54,15 +57,19 @@ pub record MaySay {I : Type 0} (left : I → Option (List ℕ))
   pub accepted : IsInputOf inputs number (left input)
   pub first : AreFirstLines (left input) lines
 
--- The clock gives these moments over these entries. Lines are said by inputs of one type, of which
--- `left` is what they
--- tell: those of the connection of a number are the first lines of its input as it was accepted,
--- under the nonce of that number. If the listener does
--- not tell its connections, they are those of any input, at any moment of it; and if it is not told
--- of which bytes nonces are made, the nonce is any.
-abbrev pub sources_of : {I : Type 0} → (List StoreEntry → ℤ → Type 0) → (I → Option (List ℕ)) →
-    Option (List (Option (List ℕ))) → Option (List ℕ) → SessionSources
-sources_of gives left inputs nonces = record { gives = gives; may_say = MaySay left inputs nonces }
+-- The clock gives these moments over these entries. Lines are said by inputs of one type, and
+-- replies are written to outputs of one type, which tell this of themselves: the lines of the
+-- connection of a number are the first of its input as it was accepted, under the nonce of that
+-- number, and the replies to them are written to its output. If the listener does not tell its
+-- connections, they are those of any input and any output, at any moment of them; and if it is not
+-- told of which bytes nonces are made, the nonce is any.
+abbrev pub sources_of : {I O : Type 0} → (List StoreEntry → ℤ → Type 0) → ConnectionTells I O →
+    Option (List (I × O)) → Option (List ℕ) → SessionSources
+sources_of gives tells queue nonces = record {
+  gives = gives;
+  may_say = MaySay tells.left (inputs_of tells.left queue) nonces;
+  is_told = IsTold tells queue;
+}
 
 -- The pass had a session in this history, of which these are the entries: the connection of its
 -- number said these lines, under this nonce, and at first nobody was logged in; each line has its
@@ -70,7 +77,8 @@ sources_of gives left inputs nonces = record { gives = gives; may_say = MaySay l
 -- places do not go back; and the entries are exactly those that were added in the turns of these
 -- lines, in this order. So each is what one of the lines asks for, at a moment that the clock
 -- gives over the entries that stand before it, also, of the mark of a disk that failed, the
--- event that was being kept; and one of the lines logged in whoever it is by. `from` is some place.
+-- event that was being kept; and one of the lines logged in whoever it is by. These lines and
+-- replies are what the connection was told. `from` is some place.
 pub record AreOfSession (sources : SessionSources) (p : StorePass) (history own : List StoreEntry) : Type 0 where
   pub nonce : List ℕ
   pub lines : List (List ℕ)
@@ -79,6 +87,7 @@ pub record AreOfSession (sources : SessionSources) (p : StorePass) (history own 
   pub end : SessionState
   pub to : ℕ
   pub said : sources.may_say p.number nonce lines
+  pub told : sources.is_told p.number nonce lines answers
   pub placed : LinesPlaced sources.gives p history (guest_with nonce) from lines answers end to own
   pub asked : AreAskedFor sources.gives p history (guest_with nonce) from lines own
   pub callers : AllByRecursion (IsByAccepted p.root.ring nonce lines) own

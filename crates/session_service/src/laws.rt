@@ -1,10 +1,11 @@
 //! Laws of sessions. The functions do nothing: each contract is a law.
 
-ghost use Rattle.session_service.specs.Laws.{TurnsAskWhatCommandsComeTo, ProofsAskWhatCommandsComeTo, FaultsAreWhatCommandsComeTo, AbsencesAreWhatCommandsComeTo, CheckpointsAreWhatCommandsComeTo, SessionsArePlaced, LaterSessionsArePlacedAfter, EachEntryHasALine, SessionsHaveTwoNonces};
+ghost use Rattle.session_service.specs.Laws.{TurnsAskWhatCommandsComeTo, ProofsAskWhatCommandsComeTo, FaultsAreWhatCommandsComeTo, AbsencesAreWhatCommandsComeTo, CheckpointsAreWhatCommandsComeTo, SessionsArePlaced, LaterSessionsArePlacedAfter, EachEntryHasALine, DoneAnswersAll, SessionsHaveTwoNonces};
 ghost use Rattle.std.specs.Prelude.{ℕ, List, Option};
 ghost use Rattle.session_service.specs.Sessions.{sources_of};
+ghost use Rattle.session_service.specs.Told.{tells_of};
 
-use pcfs_ports::{Disk, Source};
+use pcfs_ports::{Disk, Listener};
 use session_history::TurnClock;
 
 /// What a line of a session asks, in one turn or by a proof, is what the definition of answers makes of its command for
@@ -33,11 +34,23 @@ pub fn later_sessions_are_placed_after<D: Disk, C: TurnClock>(clock: &C)
 }
 
 /// A session has no more entries than lines: each line adds one at most, and nothing else adds any.
-pub fn each_entry_has_a_line<I: Source, C: TurnClock>(input: &I, clock: &C)
-    ensures { (inputs : Option (List (Option (List ℕ)))) (nonces : Option (List ℕ)) →
-        EachEntryHasALine (sources_of (C.gives clock.now) I.left inputs nonces) }
+pub fn each_entry_has_a_line<L: Listener, C: TurnClock>(net: &L, clock: &C)
+    ensures { (queue : Option (List (L.In × L.Out))) (nonces : Option (List ℕ)) →
+        EachEntryHasALine (sources_of (C.gives clock.now)
+        (tells_of L.In.left L.In.faults L.In.broken L.Out.held L.Out.faults L.Out.broken) queue nonces) }
 {
-    let _ = input;
+    let _ = net;
+    let _ = clock;
+}
+
+/// A session that ended as its input did answered all lines of that, if the input told its bytes, and its output holds what it
+/// held, the greeting and all replies.
+pub fn done_answers_all_lines<L: Listener, C: TurnClock>(net: &L, clock: &C)
+    ensures { (queue : Option (List (L.In × L.Out))) (nonces : Option (List ℕ)) →
+        DoneAnswersAll (C.gives clock.now)
+        (tells_of L.In.left L.In.faults L.In.broken L.Out.held L.Out.faults L.Out.broken) queue nonces }
+{
+    let _ = net;
     let _ = clock;
 }
 

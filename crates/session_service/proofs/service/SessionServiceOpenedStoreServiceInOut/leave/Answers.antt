@@ -2,21 +2,22 @@
 use Rattle.std.proofs.Common.{◌∙◌, ◌*◌, ℕ, ap, arith, length, subst, sym}
 use Rattle.tree_lock.specs.Seen.{PassView}
 use Rattle.pcfs_ports.specs.Telling.{AreTakenOff}
-use Rattle.session_service.specs.Sessions.{sources_of, inputs_of, AreOfSeenSession}
+use Rattle.session_service.specs.Sessions.{sources_of, AreOfSeenSession}
+use Rattle.session_service.specs.Told.{tells_of}
 use Rattle.session_service.proofs.ConnectionLemmas.{AreOfConnections-also, AreOfConnections-one_more, connections-le}
 use Rattle.session_service.proofs.SessionLemmas.{AreOfSeenSession-later}
 use Rattle.session_service.proofs.service.SessionServiceOpenedStoreServiceInOut.leave.Goals as goal
 
 pub served_after-door-requires-clause-fewer : goal.served_after-door-requires-clause-fewer
 served_after-door-requires-clause-fewer g c =
-    let sources = sources_of (g.C.TurnClock.gives c.args.self.now.clock.now) g.L.In.Source.left (inputs_of g.L.In.Source.left (g.L.Listener.queue c.args.self.now.net.value)) (g.N.Nonces.coming c.args.self.now.nonces.value) in
+    let sources = sources_of (g.C.TurnClock.gives c.args.self.now.clock.now) (tells_of g.L.In.Source.left g.L.In.Source.faults g.L.In.Source.broken g.L.Out.Sink.held g.L.Out.Sink.faults g.L.Out.Sink.broken) (g.L.Listener.queue c.args.self.now.net.value) (g.N.Nonces.coming c.args.self.now.nonces.value) in
     let within = connections-le (AreOfSeenSession sources c.args.door.now.door.seen) c.args.door.now.served c.args.door.now.door.retired c.requires.door.2 in
     let one_more = ap length c.retire.ensures.retired in
     omega (arith, within, one_more)
 
 pub returns-clause-belongs : goal.returns-clause-belongs
 returns-clause-belongs g c =
-    let sources = sources_of (g.C.TurnClock.gives c.args.self.now.clock.now) g.L.In.Source.left (inputs_of g.L.In.Source.left (g.L.Listener.queue c.args.self.now.net.value)) (g.N.Nonces.coming c.args.self.now.nonces.value) in
+    let sources = sources_of (g.C.TurnClock.gives c.args.self.now.clock.now) (tells_of g.L.In.Source.left g.L.In.Source.faults g.L.In.Source.broken g.L.Out.Sink.held g.L.Out.Sink.faults g.L.Out.Sink.broken) (g.L.Listener.queue c.args.self.now.net.value) (g.N.Nonces.coming c.args.self.now.nonces.value) in
     let pass = c.into_pass-pass.result.0 in
     let before = c.args.door.now.door in
     let after = c.retire.new.door in (

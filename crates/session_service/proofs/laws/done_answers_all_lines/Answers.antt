@@ -1,0 +1,6 @@
+use Rattle.session_service.specs.Told.{tells_of}
+use Rattle.session_service.proofs.ToldLemmas.{DoneAnswersAll-session}
+use Rattle.session_service.proofs.laws.done_answers_all_lines.Goals as goal
+
+pub returns : goal.returns
+returns g c = λ queue nonces. DoneAnswersAll-session (g.C.TurnClock.gives c.args.clock.now) (tells_of g.L.In.Source.left g.L.In.Source.faults g.L.In.Source.broken g.L.Out.Sink.held g.L.Out.Sink.faults g.L.Out.Sink.broken) queue nonces
