@@ -11,7 +11,8 @@ use Rattle.session_history.specs.Turn.{StorePass}
 use Rattle.shared_store.specs.declared.entry.LockEntry.{LockEntry}
 use Rattle.shared_store.specs.LockHistory.{numbered, lock_history}
 use Rattle.shared_store.specs.Turning.{pass_at}
-use Rattle.session_service.specs.Sessions.{IsInputOf, IsNonceOf}
+use Rattle.session_service.specs.Sessions.{IsInputOf, IsNonceOf, inputs_of}
+use Rattle.session_service.specs.Told.{ConnectionTells}
 use Rattle.nine_messages.specs.Cutting.{Cuts}
 use Rattle.nine_messages.specs.Requests.{MessageView}
 use Rattle.nine_messages.specs.Replies.{ReplyView}
@@ -19,12 +20,15 @@ use Rattle.nine_fids.specs.declared.connection.Connection.{Connection}
 use Rattle.nine_fids.specs.States.{begun_with}
 use Rattle.nine_front.specs.Asked.{IsByLogin, AreAskedByMessages}
 use Rattle.nine_front.specs.Placed.{MessagesPlaced}
+use Rattle.nine_service.specs.Told.{IsNineTold}
 
--- what connections take from the ports: which moments the clock gives after which entries; and which
--- messages the connection of a number may send, under which nonce
+-- what connections take from the ports, and give them: which moments the clock gives after which
+-- entries; which messages the connection of a number may send, under which nonce; and that it was
+-- told these replies to its messages
 pub record NineSources : Type 1 where
   pub gives : List StoreEntry → ℤ → Type 0
   pub may_send : ℕ → List ℕ → List MessageView → Type 0
+  pub is_told : ℕ → List MessageView → List ReplyView → Type 0
 
 -- bytes begin with these messages, of which the first may have 65,536 bytes
 pub record HasFirst (bytes : List ℕ) (messages : List MessageView) : Type 0 where
@@ -47,11 +51,16 @@ pub record MaySend {I : Type 0} (left : I → Option (List ℕ))
   pub accepted : IsInputOf inputs number (left input)
   pub first : AreFirstMessages (left input) messages
 
--- The clock gives these moments after these entries. Messages are sent by inputs of one type, of
--- which `left` is what they tell, as lines are of a session.
-abbrev pub nine_sources_of : {I : Type 0} → (List StoreEntry → ℤ → Type 0) → (I → Option (List ℕ)) →
-    Option (List (Option (List ℕ))) → Option (List ℕ) → NineSources
-nine_sources_of gives left inputs nonces = record { gives = gives; may_send = MaySend left inputs nonces }
+-- The clock gives these moments after these entries. Messages are sent by inputs of one type, and
+-- replies written to outputs of one type, which tell this of themselves, as the lines and the
+-- replies of a session are.
+abbrev pub nine_sources_of : {I O : Type 0} → (List StoreEntry → ℤ → Type 0) →
+    ConnectionTells I O → Option (List (I × O)) → Option (List ℕ) → NineSources
+nine_sources_of gives tells queue nonces = record {
+  gives = gives;
+  may_send = MaySend tells.left (inputs_of tells.left queue) nonces;
+  is_told = IsNineTold tells queue;
+}
 
 -- The pass attended a connection in this history, of which these are the entries: the connection of
 -- its number sent these messages, under this nonce, and at first nobody was logged in; each message
@@ -59,7 +68,8 @@ nine_sources_of gives left inputs nonces = record { gives = gives; may_send = Ma
 -- back; and the entries are exactly those that were added in the turns of these messages, in this
 -- order. So each is what one of the messages asks for, at a moment that the clock gives over the
 -- entries that stand before it, and an operation, or the mark of a disk that failed under one, of
--- somebody whom one of the messages logged in. `from` is some place.
+-- somebody whom one of the messages logged in. These messages and replies are what the connection
+-- was told. `from` is some place.
 pub record AreOfNine (sources : NineSources) (p : StorePass) (history own : List StoreEntry) : Type 0 where
   pub nonce : List ℕ
   pub messages : List MessageView
@@ -68,6 +78,7 @@ pub record AreOfNine (sources : NineSources) (p : StorePass) (history own : List
   pub end : Connection
   pub to : ℕ
   pub sent : sources.may_send p.number nonce messages
+  pub told : sources.is_told p.number messages replies
   pub placed : MessagesPlaced sources.gives p history (begun_with nonce) from messages replies end to own
   pub of_pass : AllOfPass p.number own
   pub asked : AreAskedByMessages sources.gives p history (begun_with nonce) from messages own

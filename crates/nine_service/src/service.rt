@@ -144,7 +144,8 @@ impl<'a, D: Disk + Send, C: TurnClock, N: Nonces + 'a, L: Listener> Service<L::I
     ghost use Rattle.std.specs.Prelude.{◌≡◌, ◌-◌, ◌*◌, ◌^◌, true, false};
     ghost use Rattle.session_service.specs.Connections.{AreOfConnections};
     ghost use Rattle.pcfs_ports.specs.Telling.{AreTakenOff};
-    ghost use Rattle.session_service.specs.Sessions.{inputs_of, IsInputOf, IsNonceOf};
+    ghost use Rattle.session_service.specs.Sessions.{IsNonceOf};
+    ghost use Rattle.session_service.specs.Told.{tells_of, IsConnectionOf};
     ghost use Rattle.nine_service.specs.Passes.{nine_sources_of, AreOfSeenNine, IsNinePass};
     ghost use Rattle.nine_front.specs.declared.nine_end.NineEnd.{NineEnd};
     ghost use Rattle.pcfs_session.specs.Streams.{streams_of};
@@ -155,13 +156,17 @@ impl<'a, D: Disk + Send, C: TurnClock, N: Nonces + 'a, L: Listener> Service<L::I
     // counted, with the entries that their messages were given, or have no entries.
     ghost is_door = { λ service door. (door.door.lock ≡ service.lock.now)
         × AreTakenOff (16 * door.door.made) (N.coming service.nonces.value) (N.coming door.nonces.now)
-        × AreOfConnections (AreOfSeenNine (nine_sources_of (C.gives service.clock.now) L.In.left (inputs_of L.In.left (L.queue service.net.value)) (N.coming service.nonces.value)) door.door.seen) door.served door.door.retired };
+        × AreOfConnections (AreOfSeenNine (nine_sources_of (C.gives service.clock.now)
+        (tells_of L.In.left L.In.faults L.In.broken L.Out.held L.Out.faults L.Out.broken)
+        (L.queue service.net.value) (N.coming service.nonces.value)) door.door.seen) door.served door.door.retired };
 
     // It has the nonce of its number. Before the connection is attended, its pass has no entries; after that it has those that its
-    // messages were given.
+    // messages were given, whose replies the connection was told.
     ghost is_token = { λ service token. (token.pass.lock ≡ service.lock.now)
         × IsNonceOf (N.coming service.nonces.value) token.pass.number token.nonce
-        × IsNinePass (nine_sources_of (C.gives service.clock.now) L.In.left (inputs_of L.In.left (L.queue service.net.value)) (N.coming service.nonces.value)) token.attended token.pass };
+        × IsNinePass (nine_sources_of (C.gives service.clock.now)
+        (tells_of L.In.left L.In.faults L.In.broken L.Out.held L.Out.faults L.Out.broken)
+        (L.queue service.net.value) (N.coming service.nonces.value)) token.attended token.pass };
 
     ghost attended = { λ token. token.attended };
 
@@ -169,8 +174,8 @@ impl<'a, D: Disk + Send, C: TurnClock, N: Nonces + 'a, L: Listener> Service<L::I
 
     ghost number = { λ token. token.pass.number };
 
-    // If the listener told its connections, the input is that of the connection of this number.
-    ghost expects = { λ service number input _. IsInputOf (inputs_of L.In.left (L.queue service.net.value)) number (L.In.left input) };
+    // If the listener told its connections, the input and the output are those of the connection of this number.
+    ghost expects = { λ service number input output. IsConnectionOf (L.queue service.net.value) number input output };
 
     ghost served = { λ door. door.served };
 
@@ -210,15 +215,17 @@ impl<'a, D: Disk + Send, C: TurnClock, N: Nonces + 'a, L: Listener> Service<L::I
     )
         requires belongs { (token.old.pass.lock ≡ self.now.lock.now)
             × IsNonceOf (N.coming self.now.nonces.value) token.old.pass.number token.old.nonce
-            × IsNinePass (nine_sources_of (C.gives self.now.clock.now) L.In.left
-            (inputs_of L.In.left (L.queue self.now.net.value)) (N.coming self.now.nonces.value))
+            × IsNinePass (nine_sources_of (C.gives self.now.clock.now)
+            (tells_of L.In.left L.In.faults L.In.broken L.Out.held L.Out.faults L.Out.broken)
+            (L.queue self.now.net.value) (N.coming self.now.nonces.value))
             token.old.attended token.old.pass }
         requires once { token.old.attended ≡ false }
-        requires expected { IsInputOf (inputs_of L.In.left (L.queue self.now.net.value)) token.old.pass.number (L.In.left input.old) }
+        requires expected { IsConnectionOf (L.queue self.now.net.value) token.old.pass.number input.old output.old }
         ensures belongs { (token.new.pass.lock ≡ self.now.lock.now)
             × IsNonceOf (N.coming self.now.nonces.value) token.new.pass.number token.new.nonce
-            × IsNinePass (nine_sources_of (C.gives self.now.clock.now) L.In.left
-            (inputs_of L.In.left (L.queue self.now.net.value)) (N.coming self.now.nonces.value))
+            × IsNinePass (nine_sources_of (C.gives self.now.clock.now)
+            (tells_of L.In.left L.In.faults L.In.broken L.Out.held L.Out.faults L.Out.broken)
+            (L.queue self.now.net.value) (N.coming self.now.nonces.value))
             token.new.attended token.new.pass }
         ensures attended { token.new.attended ≡ true }
 

@@ -3,7 +3,7 @@ use Rattle.std.proofs.Common.{◌≡◌, ◌∙◌, ◌*◌, refl, sym, ap, subs
 use Rattle.tree_lock.specs.Seen.{DoormanView}
 use Rattle.pcfs_ports.specs.Telling.{AreTakenOff}
 use Rattle.session_service.specs.Connections.{AreOfConnections}
-use Rattle.session_service.specs.Sessions.{inputs_of}
+use Rattle.session_service.specs.Told.{tells_of}
 use Rattle.nine_service.specs.Passes.{nine_sources_of, AreOfSeenNine}
 use Rattle.session_service.proofs.SourceLemmas.{nonce_more, nonce_none, nonce_of}
 use Rattle.nine_service.proofs.service.NineServiceOpenedStoreServiceInOut.admit.Goals as goal
@@ -13,7 +13,7 @@ returns-in-Ok-clause-belongs g c =
     let service = c.args.self.now in
     let first = g.N.Nonces.coming service.nonces.value in
     let old = c.args.door.now in
-    let sources = nine_sources_of (g.C.TurnClock.gives service.clock.now) g.L.In.Source.left (inputs_of g.L.In.Source.left (g.L.Listener.queue service.net.value)) first in
+    let sources = nine_sources_of (g.C.TurnClock.gives service.clock.now) (tells_of g.L.In.Source.left g.L.In.Source.faults g.L.In.Source.broken g.L.Out.Sink.held g.L.Out.Sink.faults g.L.Out.Sink.broken) (g.L.Listener.queue service.net.value) first in
     subst (λ (door : DoormanView _). (door.lock ≡ service.lock.now) × AreTakenOff (16 * door.made) first (g.N.Nonces.coming c.next.new.self) × AreOfConnections (AreOfSeenNine sources door.seen) old.served door.retired) (sym c.pass.ensures.door)
     (c.requires.belongs.0, nonce_more old.door.made first (g.N.Nonces.coming old.nonces.now) (g.N.Nonces.coming c.next.new.self) c.requires.belongs.1 c.in-Ok.ensures.coming, c.requires.belongs.2)
 

@@ -2,7 +2,7 @@
 use Rattle.std.proofs.Common.{◌∙◌, ◌*◌, ℕ, ap, arith, length, subst, sym}
 use Rattle.tree_lock.specs.Seen.{PassView}
 use Rattle.pcfs_ports.specs.Telling.{AreTakenOff}
-use Rattle.session_service.specs.Sessions.{inputs_of}
+use Rattle.session_service.specs.Told.{tells_of}
 use Rattle.nine_service.specs.Passes.{nine_sources_of, AreOfSeenNine}
 use Rattle.session_service.proofs.ConnectionLemmas.{AreOfConnections-also, AreOfConnections-one_more, connections-le}
 use Rattle.nine_service.proofs.PassLemmas.{AreOfSeenNine-later}
@@ -10,14 +10,14 @@ use Rattle.nine_service.proofs.service.NineServiceOpenedStoreServiceInOut.leave.
 
 pub served_after-door-requires-clause-fewer : goal.served_after-door-requires-clause-fewer
 served_after-door-requires-clause-fewer g c =
-    let sources = nine_sources_of (g.C.TurnClock.gives c.args.self.now.clock.now) g.L.In.Source.left (inputs_of g.L.In.Source.left (g.L.Listener.queue c.args.self.now.net.value)) (g.N.Nonces.coming c.args.self.now.nonces.value) in
+    let sources = nine_sources_of (g.C.TurnClock.gives c.args.self.now.clock.now) (tells_of g.L.In.Source.left g.L.In.Source.faults g.L.In.Source.broken g.L.Out.Sink.held g.L.Out.Sink.faults g.L.Out.Sink.broken) (g.L.Listener.queue c.args.self.now.net.value) (g.N.Nonces.coming c.args.self.now.nonces.value) in
     let within = connections-le (AreOfSeenNine sources c.args.door.now.door.seen) c.args.door.now.served c.args.door.now.door.retired c.requires.door.2 in
     let one_more = ap length c.retire.ensures.retired in
     omega (arith, within, one_more)
 
 pub returns-clause-belongs : goal.returns-clause-belongs
 returns-clause-belongs g c =
-    let sources = nine_sources_of (g.C.TurnClock.gives c.args.self.now.clock.now) g.L.In.Source.left (inputs_of g.L.In.Source.left (g.L.Listener.queue c.args.self.now.net.value)) (g.N.Nonces.coming c.args.self.now.nonces.value) in
+    let sources = nine_sources_of (g.C.TurnClock.gives c.args.self.now.clock.now) (tells_of g.L.In.Source.left g.L.In.Source.faults g.L.In.Source.broken g.L.Out.Sink.held g.L.Out.Sink.faults g.L.Out.Sink.broken) (g.L.Listener.queue c.args.self.now.net.value) (g.N.Nonces.coming c.args.self.now.nonces.value) in
     let pass = c.into_pass-pass.result.0 in
     let before = c.args.door.now.door in
     let after = c.retire.new.door in (

@@ -1,0 +1,45 @@
+-- What the connection of a number was told that speaks 9P2000 (this project's own).
+use Rattle.std.specs.Prelude.{◌≡◌, ℕ, ◌-◌, List, Option, Some, slice_get}
+use Rattle.pcfs_ports.specs.Observable.{HoldsSome}
+use Rattle.pcfs_server.specs.Ends.{FailedLast}
+use Rattle.nine_messages.specs.Requests.{MessageView}
+use Rattle.nine_messages.specs.Replies.{ReplyView}
+use Rattle.nine_front.specs.declared.nine_end.NineEnd.{NineEnd}
+use Rattle.nine_front.specs.declared.nine_end.NineEnd.TheVariants.{ReadFault, WriteFault}
+use Rattle.nine_front.specs.Ends.{NineEndsBy, NothingFailedBefore}
+use Rattle.nine_front.specs.Taken.{output_of}
+use Rattle.session_service.specs.Told.{ConnectionTells, IsConnectionOf, streams_at, AreThese}
+
+-- On the connection of a number these messages were answered with these replies: from its input and
+-- its output as they were when it was accepted, if the listener told them, to an input and an output
+-- of their types, at the end, that tell what a connection that ended so leaves. So the output holds
+-- what it held, and then these replies, or where it failed or memory ran out a first part of them;
+-- and if the input was read to its end, these messages are all of it, but for one that is cut off.
+-- If an input or an output does not tell its bytes, nothing is said of these.
+pub record IsNineTold {I O : Type 0} (tells : ConnectionTells I O) (queue : Option (List (I × O)))
+    (number : ℕ) (messages : List MessageView) (replies : List ReplyView) : Type 0 where
+  pub input : I
+  pub output : O
+  pub accepted : IsConnectionOf queue number input output
+  pub how : NineEnd
+  pub input_after : I
+  pub output_after : O
+  pub ends : NineEndsBy (AreThese messages replies) (streams_at tells input output) how
+      (streams_at tells input_after output_after)
+  pub nothing_failed : NothingFailedBefore (streams_at tells input output) how
+      (streams_at tells input_after output_after)
+  pub read_failed : how ≡ ReadFault → FailedLast (tells.read_faults input)
+      (tells.read_faults input_after) (tells.read_broken input_after)
+  pub write_failed : how ≡ WriteFault → FailedLast (tells.write_faults output)
+      (tells.write_faults output_after) (tells.write_broken output_after)
+
+-- The connection of a number, of those that were told, was told its own: an output of its type tells
+-- what its output told when it was accepted, and after that some first part of these replies.
+pub record IsNineToldItsOwn {I O : Type 0} (tells : ConnectionTells I O)
+    (connections : List (I × O)) (number : ℕ) (messages : List MessageView)
+    (replies : List ReplyView) : Type 0 where
+  pub input : I
+  pub output : O
+  pub accepted : slice_get connections (number - 1) ≡ Some (input, output)
+  pub output_after : O
+  pub holds : HoldsSome (tells.held output) (tells.held output_after) (output_of messages replies)
