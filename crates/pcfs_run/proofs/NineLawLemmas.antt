@@ -6,6 +6,7 @@ use Rattle.pcfs_store.specs.Entries.{Root, StoreEntry}
 use Rattle.session_history.specs.Passes.{AllOfPass}
 use Rattle.session_history.specs.Turn.{StorePass}
 use Rattle.session_service.specs.Connections.{AreOfConnections, no_more, was_attended, was_not_attended}
+use Rattle.session_service.specs.Sessions.{inputs_of}
 use Rattle.nine_messages.specs.Cutting.{Cuts}
 use Rattle.nine_messages.specs.Cutting as cutting
 use Rattle.nine_messages.specs.Requests.{MessageView}
@@ -82,7 +83,7 @@ none_of_none _ _ _ _ _ (cutting.one_more agreed left m rest messages to end next
 first_of_none : (messages : List MessageView) → AreFirstMessages (Some []) messages → messages ≡ []
 first_of_none messages first = none_of_none 65536 [] messages first.agreed first.rest first.cut refl
 
-pub none_sent_of_empty : {I : Type 0} (left : I → Option (List ℕ)) (inputs : List (Option (List ℕ))) (nonces : Option (List ℕ)) (number : ℕ) (nonce : List ℕ) (messages : List MessageView) → AllByRecursion (λ left. left ≡ Some []) inputs →
-    MaySend left (Some inputs) nonces number nonce messages → messages ≡ []
-none_sent_of_empty left inputs nonces number nonce messages empty sends =
-    first_of_none messages (subst (λ (told : Option (List ℕ)). AreFirstMessages told messages) (get_empty inputs (number - 1) (left sends.input) empty sends.accepted) sends.first)
+pub none_sent_of_empty : {I O : Type 0} (left : I → Option (List ℕ)) (connections : List (I × O)) (nonces : Option (List ℕ)) (number : ℕ) (nonce : List ℕ) (messages : List MessageView) → AllByRecursion (λ c. left c.0 ≡ Some []) connections →
+    MaySend left (inputs_of left (Some connections)) nonces number nonce messages → messages ≡ []
+none_sent_of_empty left connections nonces number nonce messages empty sends =
+    first_of_none messages (subst (λ (told : Option (List ℕ)). AreFirstMessages told messages) (get_empty left connections (number - 1) (left sends.input) empty sends.accepted) sends.first)

@@ -5,7 +5,7 @@ use Rattle.std.specs.List.{AllByRecursion}
 use Rattle.tree_lock.specs.Merge.{Merges, ends, takes}
 use Rattle.pcfs_store.specs.Entries.{Root, StoreEntry}
 use Rattle.session_history.specs.Turn.{StorePass}
-use Rattle.session_service.specs.Sessions.{SessionSources, AreFirstLines, MaySay, AreOfSession}
+use Rattle.session_service.specs.Sessions.{SessionSources, AreFirstLines, MaySay, AreOfSession, inputs_of}
 use Rattle.session_service.specs.Connections.{AreOfConnections, no_more, was_attended, was_not_attended}
 use Rattle.session_service.proofs.FewLemmas.{session_few}
 
@@ -31,16 +31,17 @@ first_of_none : (lines : List (List ℕ)) → AreFirstLines (Some []) lines → 
 first_of_none [] first = refl
 first_of_none (line ∷ lines) first = absurd cc
 
-pub get_empty : (inputs : List (Option (List ℕ))) (k : ℕ) (left : Option (List ℕ)) → AllByRecursion (λ left. left ≡ Some []) inputs → slice_get inputs k ≡ Some left → left ≡ Some []
-get_empty [] k left empty found = absurd cc
-get_empty (first ∷ inputs) zero left empty found = let both : Some first ≡ Some left = found in let same : first ≡ left = cc in sym same ∙ empty.0
-get_empty (first ∷ inputs) (suc k) left empty found = get_empty inputs k left empty.1 found
+-- what the inputs tell of connections of which each input tells that it is empty
+pub get_empty : {I O : Type 0} (left : I → Option (List ℕ)) (connections : List (I × O)) (k : ℕ) (told : Option (List ℕ)) → AllByRecursion (λ c. left c.0 ≡ Some []) connections → slice_get (map (λ c. left c.0) connections) k ≡ Some told → told ≡ Some []
+get_empty left [] k told empty found = absurd cc
+get_empty left (first ∷ connections) zero told empty found = let both : Some (left first.0) ≡ Some told = found in let same : left first.0 ≡ told = cc in sym same ∙ empty.0
+get_empty left (first ∷ connections) (suc k) told empty found = get_empty left connections k told empty.1 found
 
 -- so no line is said by a connection of which the input was empty
-pub none_said_of_empty : {I : Type 0} (left : I → Option (List ℕ)) (inputs : List (Option (List ℕ))) (nonces : Option (List ℕ)) (number : ℕ) (nonce : List ℕ) (lines : List (List ℕ)) → AllByRecursion (λ left. left ≡ Some []) inputs →
-    MaySay left (Some inputs) nonces number nonce lines → lines ≡ []
-none_said_of_empty left inputs nonces number nonce lines empty says =
-    first_of_none lines (subst (λ (told : Option (List ℕ)). AreFirstLines told lines) (get_empty inputs (number - 1) (left says.input) empty says.accepted) says.first)
+pub none_said_of_empty : {I O : Type 0} (left : I → Option (List ℕ)) (connections : List (I × O)) (nonces : Option (List ℕ)) (number : ℕ) (nonce : List ℕ) (lines : List (List ℕ)) → AllByRecursion (λ c. left c.0 ≡ Some []) connections →
+    MaySay left (inputs_of left (Some connections)) nonces number nonce lines → lines ≡ []
+none_said_of_empty left connections nonces number nonce lines empty says =
+    first_of_none lines (subst (λ (told : Option (List ℕ)). AreFirstLines told lines) (get_empty left connections (number - 1) (left says.input) empty says.accepted) says.first)
 
 module _ (sources : SessionSources) (none_said : (number : ℕ) (nonce : List ℕ) (lines : List (List ℕ)) → sources.may_say number nonce lines → lines ≡ []) where
   no_entries : (p : StorePass) (history own : List StoreEntry) → AreOfSession sources p history own → own ≡ []

@@ -4,7 +4,8 @@ ghost use Rattle.std.specs.Prelude.{◌≡◌, ◌≤◌, ℕ, List, Bool, Match
 ghost use Rattle.command_words.specs.declared.given.TheConstants.{MOST_CONNECTIONS};
 ghost use Rattle.command_words.specs.declared.words.Task.TheVariants.{Serve, Serve9};
 ghost use Rattle.pcfs_ports.specs.Disk.{IsPinned};
-ghost use Rattle.session_service.specs.Sessions.{sources_of, inputs_of, AreOfSession};
+ghost use Rattle.session_service.specs.Sessions.{sources_of, AreOfSession};
+ghost use Rattle.session_service.specs.Told.{tells_of};
 ghost use Rattle.nine_service.specs.Passes.{nine_sources_of, AreOfNine};
 ghost use Rattle.pcfs_run.specs.Served.{EndsServing, RunEnds, net_of};
 ghost use Rattle.pcfs_top.specs.Ports.{ports_beside, ports_of, rests_of};
@@ -66,8 +67,9 @@ fn serve<
     requires some { 1 ≤ count }
     requires few { count ≤ MOST_CONNECTIONS }
     ensures { (left : Option (List ℕ)) (read_faults : ℕ) (read_broken : Bool) →
-        EndsServing (AreOfSession (sources_of (C.gives clock.now) L.In.left
-        (inputs_of L.In.left (L.queue net.old)) (N.coming nonces.old))) secrets.now count
+        EndsServing (AreOfSession (sources_of (C.gives clock.now)
+        (tells_of L.In.left L.In.faults L.In.broken L.Out.held L.Out.faults L.Out.broken)
+        (L.queue net.old) (N.coming nonces.old))) secrets.now count
         (rests_of (IsPinned D.clock D.left_since D.image) a b result.a result.b)
         (record {
           ports = ports_beside left read_faults read_broken O.held O.faults O.broken D.image D.faults output.old a b;
@@ -167,10 +169,12 @@ pub fn run<
     nonces: &mut N,
 ) -> Ended<D>
     ensures { RunEnds
-        (AreOfSession (sources_of (C.gives clock.now) L.In.left
-        (inputs_of L.In.left (L.queue net.old)) (N.coming nonces.old)))
-        (AreOfNine (nine_sources_of (C.gives clock.now) L.In.left
-        (inputs_of L.In.left (L.queue net.old)) (N.coming nonces.old)))
+        (AreOfSession (sources_of (C.gives clock.now)
+        (tells_of L.In.left L.In.faults L.In.broken L.Out.held L.Out.faults L.Out.broken)
+        (L.queue net.old) (N.coming nonces.old)))
+        (AreOfNine (nine_sources_of (C.gives clock.now)
+        (tells_of L.In.left L.In.faults L.In.broken L.Out.held L.Out.faults L.Out.broken)
+        (L.queue net.old) (N.coming nonces.old)))
         secrets.now words.now.items
         (rests_of (IsPinned D.clock D.left_since D.image) a b result.a result.b)
         (record {

@@ -2,39 +2,55 @@
 
 ghost use Rattle.std.specs.Prelude.{◌≡◌, ℕ, List, [], Option, Some};
 ghost use Rattle.std.specs.List.{AllByRecursion};
+ghost use Rattle.session_service.specs.Told.{tells_of};
 ghost use Rattle.nine_service.specs.Passes.{nine_sources_of};
-ghost use Rattle.pcfs_run.specs.NineLaws.{MessagesAddNothing, NothingIsAddedUnsent, EachEntryHasItsMessage};
+ghost use Rattle.pcfs_run.specs.NineLaws.{MessagesAddNothing, NothingIsAddedUnsent, EachEntryHasItsMessage, EachIsNineToldItsOwn};
 
-use pcfs_ports::Source;
+use pcfs_ports::Listener;
 use session_history::TurnClock;
 
 /// If no connection may send a message, nothing is added.
-pub fn nothing_is_added_unsent<I: Source, C: TurnClock>(input: &I, clock: &C)
-    ensures { (inputs : Option (List (Option (List ℕ)))) (nonces : Option (List ℕ)) →
-        NothingIsAddedUnsent (nine_sources_of (C.gives clock.now) I.left inputs nonces) }
+pub fn nothing_is_added_unsent<L: Listener, C: TurnClock>(net: &L, clock: &C)
+    ensures { (queue : Option (List (L.In × L.Out))) (nonces : Option (List ℕ)) →
+        NothingIsAddedUnsent (nine_sources_of (C.gives clock.now)
+        (tells_of L.In.left L.In.faults L.In.broken L.Out.held L.Out.faults L.Out.broken) queue nonces) }
 {
-    let _ = input;
+    let _ = net;
     let _ = clock;
 }
 
 /// If the listener tells its connections before the run, and the inputs of all of them tell that they are empty, nothing is
 /// added.
-pub fn empty_connections_send_nothing<I: Source, C: TurnClock>(input: &I, clock: &C)
-    ensures { (inputs : List (Option (List ℕ))) (nonces : Option (List ℕ)) →
-        AllByRecursion (λ left. left ≡ Some []) inputs →
-        MessagesAddNothing (nine_sources_of (C.gives clock.now) I.left (Some inputs) nonces) }
+pub fn empty_connections_send_nothing<L: Listener, C: TurnClock>(net: &L, clock: &C)
+    ensures { (connections : List (L.In × L.Out)) (nonces : Option (List ℕ)) →
+        AllByRecursion (λ c. L.In.left c.0 ≡ Some []) connections →
+        MessagesAddNothing (nine_sources_of (C.gives clock.now)
+        (tells_of L.In.left L.In.faults L.In.broken L.Out.held L.Out.faults L.Out.broken) (Some connections) nonces) }
 {
-    let _ = input;
+    let _ = net;
     let _ = clock;
 }
 
 /// Each entry that was added is one that a message of the connection of its pass's number asks for, at a moment that the clock
 /// gives, and an operation of somebody whom a message logged in; and so is the event with which a disk failed, which may be on
 /// the disk.
-pub fn each_entry_has_its_message<I: Source, C: TurnClock>(input: &I, clock: &C)
-    ensures { (inputs : Option (List (Option (List ℕ)))) (nonces : Option (List ℕ)) →
-        EachEntryHasItsMessage (nine_sources_of (C.gives clock.now) I.left inputs nonces) }
+pub fn each_entry_has_its_message<L: Listener, C: TurnClock>(net: &L, clock: &C)
+    ensures { (queue : Option (List (L.In × L.Out))) (nonces : Option (List ℕ)) →
+        EachEntryHasItsMessage (nine_sources_of (C.gives clock.now)
+        (tells_of L.In.left L.In.faults L.In.broken L.Out.held L.Out.faults L.Out.broken) queue nonces) }
 {
-    let _ = input;
+    let _ = net;
+    let _ = clock;
+}
+
+/// If the listener tells its connections before the run, each pass is that of a connection that was told its own: after what
+/// its output held when it was accepted, some first part of the replies that are placed under that pass. Two passes have two
+/// connections.
+pub fn each_connection_is_told_its_own<L: Listener, C: TurnClock>(net: &L, clock: &C)
+    ensures { (connections : List (L.In × L.Out)) (nonces : Option (List ℕ)) →
+        EachIsNineToldItsOwn (C.gives clock.now)
+        (tells_of L.In.left L.In.faults L.In.broken L.Out.held L.Out.faults L.Out.broken) connections nonces }
+{
+    let _ = net;
     let _ = clock;
 }

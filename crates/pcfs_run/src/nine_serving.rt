@@ -6,7 +6,7 @@ ghost use Rattle.command_words.specs.declared.given.TheConstants.{MOST_CONNECTIO
 ghost use Rattle.journal_records.specs.EventSpelling.{IsReadEvent};
 ghost use Rattle.pcfs_server.specs.Ends.{number_of};
 ghost use Rattle.session_service.specs.Connections.{AreOfConnections};
-ghost use Rattle.session_service.specs.Sessions.{inputs_of};
+ghost use Rattle.session_service.specs.Told.{tells_of};
 ghost use Rattle.nine_service.specs.Passes.{nine_sources_of, AreOfNine, AreOfSeenNine};
 ghost use Rattle.shared_store.specs.GoesOn.{HasGoneOn};
 ghost use Rattle.pcfs_run.specs.Passes.{IsGrown};
@@ -62,8 +62,9 @@ fn attend_all<
     ensures out { front.new.door.out ≡ front.old.door.out }
     ensures opening { front.new.door.opening ≡ front.old.door.opening }
     ensures of_connections { AreOfConnections
-        (AreOfSeenNine (nine_sources_of (C.gives service.now.clock.now) L.In.left
-        (inputs_of L.In.left (L.queue net.old)) (N.coming front.old.nonces.now))
+        (AreOfSeenNine (nine_sources_of (C.gives service.now.clock.now)
+        (tells_of L.In.left L.In.faults L.In.broken L.Out.held L.Out.faults L.Out.broken)
+        (L.queue net.old) (N.coming front.old.nonces.now))
         front.new.door.seen) (number_of result) front.new.door.retired }
     ensures made { front.new.door.made ≤ count }
     ensures every { front.new.door.made ≡ number_of result }
@@ -100,8 +101,9 @@ fn serve_under<
     ensures out { result.1.out ≡ door.out }
     ensures opening { result.1.opening ≡ door.opening }
     ensures of_connections { AreOfConnections
-        (AreOfSeenNine (nine_sources_of (C.gives clock.now) L.In.left
-        (inputs_of L.In.left (L.queue net.old)) (N.coming nonces.old)) result.1.seen)
+        (AreOfSeenNine (nine_sources_of (C.gives clock.now)
+        (tells_of L.In.left L.In.faults L.In.broken L.Out.held L.Out.faults L.Out.broken)
+        (L.queue net.old) (N.coming nonces.old)) result.1.seen)
         (number_of result.0) result.1.retired }
     ensures made { result.1.made ≤ count }
     ensures every { result.1.made ≡ number_of result.0 }
@@ -150,8 +152,9 @@ fn serve_nine_store<
     requires some { 1 ≤ count }
     requires few { count ≤ MOST_CONNECTIONS }
     ensures gone_on { HasGoneOn D.clock D.left_since D.image D.faults store result.1 }
-    ensures grown { IsGrown (AreOfNine (nine_sources_of (C.gives clock.now) L.In.left
-        (inputs_of L.In.left (L.queue net.old)) (N.coming nonces.old))) (number_of result.0) count
+    ensures grown { IsGrown (AreOfNine (nine_sources_of (C.gives clock.now)
+        (tells_of L.In.left L.In.faults L.In.broken L.Out.held L.Out.faults L.Out.broken)
+        (L.queue net.old) (N.coming nonces.old))) (number_of result.0) count
         store result.1 }
     ensures attended { AreAttended count
         (record { waiting = L.waiting net.old; over = L.over net.old; faults = L.faults net.old; nonce_faults = N.faults nonces.old })
@@ -192,8 +195,9 @@ pub(crate) fn serve9<
     requires some { 1 ≤ count }
     requires few { count ≤ MOST_CONNECTIONS }
     ensures { (left : Option (List ℕ)) (read_faults : ℕ) (read_broken : Bool) →
-        EndsServing (AreOfNine (nine_sources_of (C.gives clock.now) L.In.left
-        (inputs_of L.In.left (L.queue net.old)) (N.coming nonces.old))) secrets.now count
+        EndsServing (AreOfNine (nine_sources_of (C.gives clock.now)
+        (tells_of L.In.left L.In.faults L.In.broken L.Out.held L.Out.faults L.Out.broken)
+        (L.queue net.old) (N.coming nonces.old))) secrets.now count
         (rests_of (IsPinned D.clock D.left_since D.image) a b result.a result.b)
         (record {
           ports = ports_beside left read_faults read_broken O.held O.faults O.broken D.image D.faults output.old a b;

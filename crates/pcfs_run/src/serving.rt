@@ -6,7 +6,8 @@ ghost use Rattle.command_words.specs.declared.given.TheConstants.{MOST_CONNECTIO
 ghost use Rattle.journal_records.specs.EventSpelling.{IsReadEvent};
 ghost use Rattle.pcfs_server.specs.Ends.{number_of};
 ghost use Rattle.session_service.specs.Connections.{AreOfConnections};
-ghost use Rattle.session_service.specs.Sessions.{sources_of, inputs_of, AreOfSession, AreOfSeenSession};
+ghost use Rattle.session_service.specs.Sessions.{sources_of, AreOfSession, AreOfSeenSession};
+ghost use Rattle.session_service.specs.Told.{tells_of};
 ghost use Rattle.shared_store.specs.GoesOn.{HasGoneOn};
 ghost use Rattle.pcfs_run.specs.Passes.{IsGrown};
 ghost use Rattle.pcfs_run.specs.Served.{AreAttended};
@@ -54,8 +55,9 @@ fn attend_all<
     ensures out { front.new.door.out ≡ front.old.door.out }
     ensures opening { front.new.door.opening ≡ front.old.door.opening }
     ensures of_connections { AreOfConnections
-        (AreOfSeenSession (sources_of (C.gives service.now.clock.now) L.In.left
-        (inputs_of L.In.left (L.queue net.old)) (N.coming front.old.nonces.now))
+        (AreOfSeenSession (sources_of (C.gives service.now.clock.now)
+        (tells_of L.In.left L.In.faults L.In.broken L.Out.held L.Out.faults L.Out.broken)
+        (L.queue net.old) (N.coming front.old.nonces.now))
         front.new.door.seen) (number_of result) front.new.door.retired }
     ensures made { front.new.door.made ≤ count }
     ensures every { front.new.door.made ≡ number_of result }
@@ -92,8 +94,9 @@ fn serve_under<
     ensures out { result.1.out ≡ door.out }
     ensures opening { result.1.opening ≡ door.opening }
     ensures of_connections { AreOfConnections
-        (AreOfSeenSession (sources_of (C.gives clock.now) L.In.left
-        (inputs_of L.In.left (L.queue net.old)) (N.coming nonces.old)) result.1.seen)
+        (AreOfSeenSession (sources_of (C.gives clock.now)
+        (tells_of L.In.left L.In.faults L.In.broken L.Out.held L.Out.faults L.Out.broken)
+        (L.queue net.old) (N.coming nonces.old)) result.1.seen)
         (number_of result.0) result.1.retired }
     ensures made { result.1.made ≤ count }
     ensures every { result.1.made ≡ number_of result.0 }
@@ -142,8 +145,9 @@ pub fn serve_store<
     requires some { 1 ≤ count }
     requires few { count ≤ MOST_CONNECTIONS }
     ensures gone_on { HasGoneOn D.clock D.left_since D.image D.faults store result.1 }
-    ensures grown { IsGrown (AreOfSession (sources_of (C.gives clock.now) L.In.left
-        (inputs_of L.In.left (L.queue net.old)) (N.coming nonces.old))) (number_of result.0) count
+    ensures grown { IsGrown (AreOfSession (sources_of (C.gives clock.now)
+        (tells_of L.In.left L.In.faults L.In.broken L.Out.held L.Out.faults L.Out.broken)
+        (L.queue net.old) (N.coming nonces.old))) (number_of result.0) count
         store result.1 }
     ensures attended { AreAttended count
         (record { waiting = L.waiting net.old; over = L.over net.old; faults = L.faults net.old; nonce_faults = N.faults nonces.old })

@@ -5,12 +5,13 @@ use Rattle.pcfs_server.specs.Ends.{number_of}
 use Rattle.shared_store.specs.LockHistory.{lock_entries}
 use Rattle.session_service.specs.Connections.{AreOfConnections}
 use Rattle.pcfs_ports.specs.Telling.{IsAt}
-use Rattle.session_service.specs.Sessions.{sources_of, inputs_of, AreOfSeenSession}
+use Rattle.session_service.specs.Sessions.{sources_of, AreOfSeenSession}
+use Rattle.session_service.specs.Told.{tells_of}
 use denote.Param.Send.{param_send, param_sync, arg_send, arg_sync}
 use Rattle.session_service.proofs.service.SessionToken.TheSendSync as token
 use denote.Param.{param}
 use Rattle.pcfs_run.proofs.SentLemmas.{opened_send, service_sync}
-use Rattle.session_service.proofs.SourceLemmas.{input_of, nonce_first}
+use Rattle.session_service.proofs.SourceLemmas.{connection_of, nonce_first}
 use Rattle.pcfs_run.proofs.PassLemmas.{nobody_yet}
 use Rattle.pcfs_run.proofs.ServedLemmas.{one_of_two}
 use Rattle.pcfs_run.proofs.serving.attend_all.Goals as goal
@@ -31,7 +32,7 @@ serve_conns-requires-clause-belongs g c κs within = (
 pub serve_conns-requires-clause-expected : goal.serve_conns-requires-clause-expected
 serve_conns-requires-clause-expected g c κs within = λ place input output at.
     let number : c.args.front.now.door.made + place + 1 ≡ place + 1 = omega (arith, c.requires.unmade) in
-    input_of g.L.In.Source.left (g.L.Listener.queue c.args.service.now.net.value) place (c.args.front.now.door.made + place + 1) input output number
+    connection_of (g.L.Listener.queue c.args.service.now.net.value) place (c.args.front.now.door.made + place + 1) input output number
     (subst (λ net. IsAt (g.L.Listener.queue net) place input output) (sym c.requires.net) at)
 
 pub returns-clause-same_reference : goal.returns-clause-same_reference
@@ -56,9 +57,9 @@ returns-clause-attended g c = record {
 pub returns-clause-of_connections : goal.returns-clause-of_connections
 returns-clause-of_connections g c =
     let gives = g.C.TurnClock.gives c.args.service.now.clock.now in
-    let left = g.L.In.Source.left in
+    let tells = (tells_of g.L.In.Source.left g.L.In.Source.faults g.L.In.Source.broken g.L.Out.Sink.held g.L.Out.Sink.faults g.L.Out.Sink.broken) in
     let all : c.serve_conns.new.door.served ≡ number_of c.serve_conns.result = omega (arith, c.serve_conns.ensures.served, c.requires.unserved) in
-    subst (λ (n : ℕ). AreOfConnections (AreOfSeenSession (sources_of gives left (inputs_of left (g.L.Listener.queue c.args.net.now)) (g.N.Nonces.coming c.args.front.now.nonces.now)) c.serve_conns.new.door.door.seen) n c.serve_conns.new.door.door.retired) all
-    (subst (λ net. AreOfConnections (AreOfSeenSession (sources_of gives left (inputs_of left (g.L.Listener.queue net)) (g.N.Nonces.coming c.args.front.now.nonces.now)) c.serve_conns.new.door.door.seen) c.serve_conns.new.door.served c.serve_conns.new.door.door.retired) c.requires.net
-    (subst (λ nonces. AreOfConnections (AreOfSeenSession (sources_of gives left (inputs_of left (g.L.Listener.queue c.args.service.now.net.value)) (g.N.Nonces.coming nonces)) c.serve_conns.new.door.door.seen) c.serve_conns.new.door.served c.serve_conns.new.door.door.retired) c.requires.nonces
+    subst (λ (n : ℕ). AreOfConnections (AreOfSeenSession (sources_of gives tells (g.L.Listener.queue c.args.net.now) (g.N.Nonces.coming c.args.front.now.nonces.now)) c.serve_conns.new.door.door.seen) n c.serve_conns.new.door.door.retired) all
+    (subst (λ net. AreOfConnections (AreOfSeenSession (sources_of gives tells (g.L.Listener.queue net) (g.N.Nonces.coming c.args.front.now.nonces.now)) c.serve_conns.new.door.door.seen) c.serve_conns.new.door.served c.serve_conns.new.door.door.retired) c.requires.net
+    (subst (λ nonces. AreOfConnections (AreOfSeenSession (sources_of gives tells (g.L.Listener.queue c.args.service.now.net.value) (g.N.Nonces.coming nonces)) c.serve_conns.new.door.door.seen) c.serve_conns.new.door.served c.serve_conns.new.door.door.retired) c.requires.nonces
     c.serve_conns.ensures.belongs.2))
