@@ -1,26 +1,29 @@
 -- Lines that are answered over a store, one after the other.
-use Rattle.std.proofs.Common.{◌≡◌, ◌↔◌, ℕ, ◌≤◌, List, ◌∷◌, [], ◌++◌, length, true, false, Option, Some, None, refl, sym, subst, append-nil}
-use Rattle.std.specs.Prelude.{IsTrue, IsSome}
+use Rattle.std.proofs.Common.{◌≡◌, ◌↔◌, ℕ, ◌≤◌, List, ◌∷◌, [], ◌++◌, length, true, false, Option, Some, None, refl, sym, ap, subst, ◌∙◌, append-nil}
+use Rattle.std.specs.Prelude.{◌≢◌, IsTrue, IsSome}
 use Rattle.pcfs_ports.specs.Observable.{with_back, HoldsSome}
 use Rattle.line_text.specs.Words.{HasNo}
 use Rattle.line_framer.specs.Framing.{FramerState, IsFirst}
 use Rattle.line_wire.specs.declared.reply.LineReply.{LineReply}
+use Rattle.line_wire.specs.declared.reply.LineReply.TheVariants as replies
 use Rattle.line_wire.specs.ReplyText.{reply_text, output_of}
-use Rattle.pcfs_store.specs.Entries.{StoreEntry}
-use Rattle.pcfs_session.specs.Answered.{IsOutAt, WasRun, AreAnswered, HaltsAt, AnswersHeld, HaltsWithin}
+use Rattle.pcfs_store.specs.Entries.{StoreEntry, happened, checkpointed, stopped as stop_mark}
+use Rattle.pcfs_session.specs.Answered.{IsOutAt, IsMetAt, WasRun, AreAnswered, HaltsAt, AnswersHeld, HaltsWithin}
 use Rattle.pcfs_session.specs.InterpreterView.{InterpreterView, standing_of}
 use Rattle.pcfs_session.specs.Outbox.{GoesOut}
-use Rattle.pcfs_session.specs.ScriptRun.{IsLawfulStanding, IsReplied}
+use Rattle.pcfs_session.specs.ScriptContext.{ScriptContext}
+use Rattle.pcfs_session.specs.ScriptRun.{ScriptState, IsLawfulStanding, standing_after, Becomes, IsReplied}
 use Rattle.pcfs_session.specs.ScriptRun as script
 use Rattle.pcfs_session.specs.Stored.{IsStopFor, LeadsTo}
 use Rattle.pcfs_session.specs.Taken.{AreFirst}
 use Rattle.pcfs_session.specs.declared.outbox.SendFault.{SendFault}
+use Rattle.pcfs_session.specs.declared.outbox.SendFault.TheVariants.{Write, NoMemory}
 use Rattle.pcfs_session.specs.declared.script_end.Halt.{Halt}
 use Rattle.pcfs_session.specs.declared.script_end.Halt.TheVariants.{Unsent, Stopped}
 use Rattle.pcfs_session.proofs.LawfulRunLemmas.{IsLawfulStanding-run}
 use Rattle.pcfs_session.proofs.OutboxLemmas.{GoesOut-none, GoesOut-all, GoesOut-whole, GoesOut-part, GoesOut-then, out_then, some_then}
 use Rattle.pcfs_session.proofs.ScriptLemmas.{ScriptRun-then, output-append, output-one}
-use Rattle.pcfs_session.proofs.StoredLemmas.{StoreGoesOn-on, StoreGoesOn-same, runs_for}
+use Rattle.pcfs_session.proofs.StoredLemmas.{none_some, StoreGoesOn-on, StoreGoesOn-same, runs_for}
 use Rattle.pcfs_session.proofs.TakenLemmas.{AreFirst-none, AreFirst-more}
 
 -- a store that did not stop met nothing
@@ -39,6 +42,29 @@ met_some (Some pass) (Some event) is some = (event, refl)
 not_some : (stop : Option ℕ) → (IsTrue false ↔ IsSome stop) → stop ≡ None
 not_some None tells = refl
 not_some (Some pass) tells = let is : IsTrue false = tells.1 refl in absurd cc
+
+-- if the output failed or memory ran out for a reply, no disk had failed
+unmet : (fault : SendFault) (met : Option StoreEntry) → met ≡ None → IsMetAt (Unsent fault) met
+unmet Write met none = tt
+unmet NoMemory met none = none
+
+-- ---- the reply to a line that met the fault of a disk
+
+met_none : (before : ScriptState) (entry : Option StoreEntry) (asker : ScriptContext) → (standing_after before entry asker).met ≡ before.met
+met_none before None asker = refl
+met_none before (Some (happened event)) asker = refl
+met_none before (Some (checkpointed pass)) asker = refl
+met_none before (Some (stop_mark pass met)) asker = refl
+
+-- what it became
+told_stopped : (before : ScriptState) (told : LineReply) (asker : ScriptContext) (added : Option StoreEntry) (reply : LineReply) (after : ScriptState) (met : StoreEntry) → before.met ≡ None → after.met ≡ Some met → Becomes before told asker added reply after → reply ≡ replies.Stopped
+told_stopped before told asker _ _ _ met running is (script.kept added room) = none_some met (sym running ∙ sym (met_none before added asker) ∙ is)
+told_stopped before told asker _ _ _ met running is (script.full entry full) = none_some met (sym running ∙ is)
+told_stopped before told asker _ _ _ met running is (script.stopped entry room) = refl
+
+is_stopped : (line : List ℕ) (before : ScriptState) (reply : LineReply) (after : ScriptState) (met : StoreEntry) → before.met ≡ None → after.met ≡ Some met → IsReplied line before reply after → reply ≡ replies.Stopped
+is_stopped line before _ _ met running is (script.answered told added asker reply after answers becomes) = told_stopped before told asker added reply after met running is becomes
+is_stopped line before _ _ met running is script.without_memory = none_some met (sym running ∙ is)
 
 -- ---- what is out
 
@@ -110,7 +136,7 @@ module _ {D : Type 0} (clock : D → ℕ) (left_since : D → ℕ → List ℕ �
     told = one.told;
     met = None;
     was = one.was;
-    is_met = tt;
+    is_met = unmet fault None refl;
     out = GoesOut-part held between held_after (collected ++ output_of one.told) kept one.out some;
   }
 
@@ -133,33 +159,44 @@ module _ {D : Type 0} (clock : D → ℕ) (left_since : D → ℕ → List ℕ �
     out = one_out held held_after collected after reply out;
   }
 
-  pub HaltsAt-line : (line : List ℕ) (old new : InterpreterView D) (reply : LineReply) (held held_after : Option (List ℕ)) (collected : List ℕ) (fault : SendFault) → Leads line old reply new → HoldsSome held held_after (collected ++ (reply_text reply ++ 10 ∷ [])) →
-      Halts (line ∷ []) old new held collected (Unsent fault) held_after
-  HaltsAt-line line old new reply held held_after collected fault l some = record {
+  -- its reply was not sent
+  pub HaltsAt-line : (line : List ℕ) (old new : InterpreterView D) (reply : LineReply) (held held_after : Option (List ℕ)) (collected : List ℕ) (fault : SendFault) → Leads line old reply new → (IsTrue false ↔ IsSome new.store.stop) →
+      HoldsSome held held_after (collected ++ (reply_text reply ++ 10 ∷ [])) → Halts (line ∷ []) old new held collected (Unsent fault) held_after
+  HaltsAt-line line old new reply held held_after collected fault l tells some = record {
     told = reply ∷ [];
     met = l.met;
     was = one_line line old new reply l;
-    is_met = tt;
+    is_met = unmet fault l.met (met_nothing new.store.stop l.met l.goes_on.stop_for (not_some new.store.stop tells));
     out = subst (λ (b : List ℕ). HoldsSome held held_after (collected ++ b)) (sym (output-one reply)) some;
   }
 
+  -- what is told where a disk failed for it
+  stopped_line : (line : List ℕ) (old new : InterpreterView D) (reply : LineReply) (l : Leads line old reply new) (met : StoreEntry) → l.met ≡ Some met → reply_text replies.Stopped ++ 10 ∷ [] ≡ output_of (reply ∷ [])
+  stopped_line line old new reply l met is =
+      sym (output-one replies.Stopped) ∙ ap (λ (r : LineReply). output_of (r ∷ [])) (sym (is_stopped line (standing_of old None) reply (standing_of new l.met) met refl is l.holds))
+
   -- a disk failed for it
-  pub HaltsAt-stopped : (line : List ℕ) (old new : InterpreterView D) (reply : LineReply) (held between held_after : Option (List ℕ)) (collected after : List ℕ) (halt : Halt) → Leads line old reply new → (IsTrue true ↔ IsSome new.store.stop) →
-      GoesOut held (collected ++ (reply_text reply ++ 10 ∷ [])) between after → (halt ≡ Stopped → held_after ≡ with_back between after) → HoldsSome between held_after after → Halts (line ∷ []) old new held collected halt held_after
-  HaltsAt-stopped line old new reply held between held_after collected after (Unsent fault) l tells out all some = record {
-    told = reply ∷ [];
-    met = l.met;
-    was = one_line line old new reply l;
-    is_met = tt;
-    out = GoesOut-part held between held_after (collected ++ output_of (reply ∷ [])) after (one_out held between collected after reply out) some;
-  }
-  HaltsAt-stopped line old new reply held between held_after collected after Stopped l tells out all some = record {
-    told = reply ∷ [];
-    met = l.met;
-    was = one_line line old new reply l;
-    is_met = met_some new.store.stop l.met l.goes_on.stop_for (tells.0 refl);
-    out = GoesOut-whole held between held_after (collected ++ output_of (reply ∷ [])) after (one_out held between collected after reply out) (all refl);
-  }
+  pub HaltsAt-stopped : (line : List ℕ) (old new : InterpreterView D) (reply : LineReply) (held held_after : Option (List ℕ)) (collected : List ℕ) (halt : Halt) → Leads line old reply new → (IsTrue true ↔ IsSome new.store.stop) → halt ≢ Unsent NoMemory →
+      (halt ≡ Stopped → held_after ≡ with_back held (collected ++ (reply_text replies.Stopped ++ 10 ∷ []))) → (halt ≡ Unsent Write → HoldsSome held held_after (collected ++ (reply_text replies.Stopped ++ 10 ∷ []))) → Halts (line ∷ []) old new held collected halt held_after
+  HaltsAt-stopped line old new reply held held_after collected (Unsent Write) l tells had all some =
+      let met = met_some new.store.stop l.met l.goes_on.stop_for (tells.0 refl) in
+      record {
+        told = reply ∷ [];
+        met = l.met;
+        was = one_line line old new reply l;
+        is_met = tt;
+        out = subst (λ (b : List ℕ). HoldsSome held held_after (collected ++ b)) (stopped_line line old new reply l met.0 met.1) (some refl);
+      }
+  HaltsAt-stopped line old new reply held held_after collected (Unsent NoMemory) l tells had all some = absurd (had refl)
+  HaltsAt-stopped line old new reply held held_after collected Stopped l tells had all some =
+      let met = met_some new.store.stop l.met l.goes_on.stop_for (tells.0 refl) in
+      record {
+        told = reply ∷ [];
+        met = l.met;
+        was = one_line line old new reply l;
+        is_met = met;
+        out = subst (λ (b : List ℕ). held_after ≡ with_back held (collected ++ b)) (stopped_line line old new reply l met.0 met.1) (all refl);
+      }
 
   -- ---- the lines that a framer holds
 

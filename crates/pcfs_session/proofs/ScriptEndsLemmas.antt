@@ -50,10 +50,11 @@ halted_write Stopped how is same = absurd cc
 -- ---- nothing was answered
 
 -- memory ran out before anything was taken
-pub ScriptEnds-unbegun : (start : ScriptState) (before after : Streams) → IsLawfulStanding start → after.left ≡ before.left → after.held ≡ before.held → ScriptEnds start start before after script_ends.NoMemory
-ScriptEnds-unbegun start before after stands left held =
+pub ScriptEnds-unbegun : (start : ScriptState) (before after : Streams) → IsLawfulStanding start → start.met ≡ None → after.left ≡ before.left → after.held ≡ before.held → ScriptEnds start start before after script_ends.NoMemory
+ScriptEnds-unbegun start before after stands running left held =
     ends.out_of_memory []
     (ends.while_reading [] (record { bytes = []; rest = []; taken = with_front-nil before.left ∙ ap (with_front []) (sym left); first = AreFirst-none []; few = omega arith }) (RunsOver-none start stands))
+    running
     (record { count = 0; within = omega arith; held = held ∙ with_back-nil before.held })
 
 module _ {D : Type 0} (clock : D → ℕ) (left_since : D → ℕ → List ℕ → Type 0) (image : D → Option (List ℕ)) (faults : D → ℕ) where
@@ -128,7 +129,7 @@ module _ {D : Type 0} (clock : D → ℕ) (left_since : D → ℕ → List ℕ �
         lines = [];
         rest = before ++ piece;
         first = AreFirst-none (before ++ piece);
-        halts = record { told = []; met = None; was = WasRun-none clock left_since image faults i running; is_met = tt; out = record { count = 0; within = omega arith; held = same ∙ with_back-nil held } };
+        halts = record { told = []; met = None; was = WasRun-none clock left_since image faults i running; is_met = refl; out = record { count = 0; within = omega arith; held = same ∙ with_back-nil held } };
       })
 
   pub PieceEnds-halted : (before piece bytes : List ℕ) (old new : InterpreterView D) (held held_after : Option (List ℕ)) (collected : List ℕ) (halt : Halt) (how : ScriptEnd) → how ≡ halted_end halt → collected ≡ [] → bytes ≡ before ++ piece →
@@ -202,7 +203,7 @@ module _ {D : Type 0} (clock : D → ℕ) (left_since : D → ℕ → List ℕ �
     -- memory ran out before anything was taken
     pub AnswersScript-unbegun : (after : Streams) → IsLawfulStanding (standing_of start None) → start.store.stop ≡ None → after.left ≡ before.left → after.held ≡ before.held → AnswersScript clock left_since image faults start before script_ends.NoMemory start after
     AnswersScript-unbegun after stands running left held =
-        record { met = None; ends = ScriptEnds-unbegun (standing_of start None) before after stands left held; goes_on = StoreGoesOn-same clock left_since image faults start.store running }
+        record { met = None; ends = ScriptEnds-unbegun (standing_of start None) before after stands refl left held; goes_on = StoreGoesOn-same clock left_since image faults start.store running }
 
     -- the bytes of a piece are taken too
     also_taken : (open_line piece : List ℕ) (lines : List (List ℕ)) (left left_after : Option (List ℕ)) → before.left ≡ with_front (ended lines ++ open_line) left → left ≡ with_front piece left_after →
@@ -263,7 +264,7 @@ module _ {D : Type 0} (clock : D → ℕ) (left_since : D → ℕ → List ℕ �
       halted : (halt : Halt) (lines : List (List ℕ)) (new : InterpreterView D) → (h : Halts lines start new before.held [] halt after.held) → IsUnderWay (standing_of start None) (standing_of new h.met) before after (output_of h.told) →
           (halted_end halt ≡ script_ends.WriteFault → HasRisen before.write_faults after.write_faults) → AnswersScript clock left_since image faults start before (halted_end halt) new after
       halted (Unsent Write) lines new h way risen = record { met = h.met; ends = ends.cut_short (output_of h.told) (risen refl) way h.out; goes_on = h.was.goes_on }
-      halted (Unsent NoMemory) lines new h way risen = record { met = h.met; ends = ends.out_of_memory (output_of h.told) way h.out; goes_on = h.was.goes_on }
+      halted (Unsent NoMemory) lines new h way risen = record { met = h.met; ends = ends.out_of_memory (output_of h.told) way h.is_met h.out; goes_on = h.was.goes_on }
       halted Stopped lines new h way risen =
           record { met = h.met; ends = ends.written script_ends.Stopped (output_of h.told) (ends.stopped (output_of h.told) h.is_met.0 way h.is_met.1) h.out; goes_on = h.was.goes_on }
 

@@ -17,6 +17,7 @@ use Rattle.pcfs_session.specs.ScriptRun.{ScriptRun}
 use Rattle.pcfs_session.specs.Stored.{StoreGoesOn}
 use Rattle.pcfs_session.specs.Taken.{AreFirst}
 use Rattle.pcfs_session.specs.declared.outbox.SendFault.{SendFault}
+use Rattle.pcfs_session.specs.declared.outbox.SendFault.TheVariants.{Write, NoMemory}
 use Rattle.pcfs_session.specs.declared.script_end.Halt.{Halt}
 use Rattle.pcfs_session.specs.declared.script_end.Halt.TheVariants.{Unsent, Stopped}
 use Rattle.pcfs_session.specs.declared.script_end.ScriptEnd.{ScriptEnd}
@@ -27,9 +28,11 @@ abbrev pub IsOutAt : Halt → Option (List ℕ) → Option (List ℕ) → List �
 IsOutAt (Unsent fault) held held_after bytes = HoldsSome held held_after bytes
 IsOutAt Stopped held held_after bytes = held_after ≡ with_back held bytes
 
--- after a fault of a disk there is the event or the checkpoint that met it
+-- after a fault of a disk there is the event or the checkpoint that met it; if memory ran out for a
+-- reply, no disk failed; and if the output failed, one may have, just before
 abbrev pub IsMetAt : Halt → Option StoreEntry → Type 0
-IsMetAt (Unsent fault) met = Unit {0}
+IsMetAt (Unsent Write) met = Unit {0}
+IsMetAt (Unsent NoMemory) met = met ≡ None
 IsMetAt Stopped met = (entry : StoreEntry) × (met ≡ Some entry)
 
 -- what was collected was written, and all lines were answered; or the output failed

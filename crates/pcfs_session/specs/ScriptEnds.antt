@@ -71,7 +71,7 @@ pub data ScriptWrites (start end : ScriptState) (before after : Streams) : Scrip
 
 -- How a script ends: all of that was written. Or the output failed or memory ran out, and some
 -- first part was written of the replies to the first lines, or of what is written at a line that is
--- too long.
+-- too long. If memory ran out, no line met the fault of a disk.
 pub data ScriptEnds (start end : ScriptState) (before after : Streams) : ScriptEnd → Type 0 where
   written : (how : ScriptEnd) (whole : List ℕ) → ScriptWrites start end before after how whole →
       after.held ≡ with_back before.held whole → ScriptEnds start end before after how
@@ -81,7 +81,7 @@ pub data ScriptEnds (start end : ScriptState) (before after : Streams) : ScriptE
   cut_at_long_line : (whole : List ℕ) → HasRisen before.write_faults after.write_faults →
       ScriptWrites start end before after LineTooLong whole →
       HoldsSome before.held after.held whole → ScriptEnds start end before after WriteFault
-  out_of_memory : (whole : List ℕ) → IsUnderWay start end before after whole →
+  out_of_memory : (whole : List ℕ) → IsUnderWay start end before after whole → end.met ≡ None →
       HoldsSome before.held after.held whole → ScriptEnds start end before after NoMemory
   out_of_memory_at_long_line : (whole : List ℕ) →
       ScriptWrites start end before after LineTooLong whole →

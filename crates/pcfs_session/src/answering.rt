@@ -1,26 +1,30 @@
 //! Lines that are answered, with their replies on their way.
 
-ghost use Rattle.std.specs.Prelude.{◌≡◌, ◌≤◌, ◌∷◌, [], true, None, OnOk, IfErr, IsErrOf};
+ghost use Rattle.std.specs.Prelude.{◌≡◌, ◌≢◌, ◌≤◌, ◌∷◌, ◌++◌, [], true, None, OnOk, IfErr, IsErrOf};
 ghost use Rattle.pcfs_ports.specs.Faults.{HasRisen, raise};
 ghost use Rattle.pcfs_ports.specs.Observable.{with_back, HoldsSome};
+ghost use Rattle.line_wire.specs.declared.reply.LineReply.TheVariants.{Stopped as StoppedReply};
+ghost use Rattle.line_wire.specs.ReplyText.{reply_text};
 ghost use Rattle.pcfs_session.specs.Answered.{AreAnswered, HaltsAt, AnswersHeld, HaltsWithin};
 ghost use Rattle.pcfs_session.specs.Ends.{HaltStandsStill};
 ghost use Rattle.pcfs_session.specs.InterpreterView.{standing_of};
 ghost use Rattle.pcfs_session.specs.ScriptRun.{IsLawfulStanding};
 
 use crate::interpreter::Interpreter;
-use crate::outbox::{SendFault, flush, send};
+use crate::outbox::{SendFault, flush, send, send_stopped};
 use crate::script_end::Halt;
 use bl_syntax::Bytes;
 use line_framer::Framer;
 use pcfs_ports::{Disk, Sink};
 use std::alloc::Global;
 
-// Writes all replies that were collected, after a disk failed.
+// Writes all replies that were collected, and that a disk failed. No memory is taken.
 fn stop<O: Sink>(collected: &mut Bytes, output: &mut O) -> Halt
+    ensures had_memory { result ≢ Halt.Unsent SendFault.NoMemory }
     ensures out { (result ≡ Halt.Stopped) →
-        O.held output.new ≡ with_back (O.held output.old) collected.old }
-    ensures some { HoldsSome (O.held output.old) (O.held output.new) collected.old }
+        O.held output.new ≡ with_back (O.held output.old) (collected.old ++ (reply_text StoppedReply ++ 10 ∷ [])) }
+    ensures some { (result ≡ Halt.Unsent SendFault.Write) →
+        HoldsSome (O.held output.old) (O.held output.new) (collected.old ++ (reply_text StoppedReply ++ 10 ∷ [])) }
     ensures risen { (result ≡ Halt.Unsent SendFault.Write) →
         HasRisen (O.faults output.old) (O.faults output.new) }
     ensures never_falls { O.faults output.old ≤ O.faults output.new }
@@ -29,7 +33,7 @@ fn stop<O: Sink>(collected: &mut Bytes, output: &mut O) -> Halt
         O.faults output.new ≡ raise (O.faults output.old) }
     ensures broken { (result ≡ Halt.Unsent SendFault.Write) → O.broken output.new ≡ true }
 {
-    match flush(collected, output) {
+    match send_stopped(collected, output) {
         Ok(()) => Halt::Stopped,
         Err(_) => Halt::Unsent(SendFault::Write),
     }
@@ -39,7 +43,7 @@ fn stop<O: Sink>(collected: &mut Bytes, output: &mut O) -> Halt
 ///
 /// It halts if a disk failed, and then all replies are out, or if the reply could not be sent, and then some first part of
 /// the replies is. `Write` comes only if the output's count of faults rose, and `NoMemory` if there was no memory for the
-/// text of the reply.
+/// text of the reply: that a disk failed is told without memory, so then none did.
 pub fn answer_line<D: Disk, O: Sink>(
     alloc: Global,
     interpreter: &mut Interpreter<D>,
@@ -67,16 +71,16 @@ pub fn answer_line<D: Disk, O: Sink>(
     ensures broken { IsErrOf result (Halt.Unsent SendFault.Write) → O.broken output.new ≡ true }
 {
     let reply = interpreter.reply_to(alloc, line);
+    if interpreter.is_stopped() {
+        drop(reply);
+        return Err(stop(collected, output));
+    }
     let sent = send(alloc, collected, &reply, enough, output);
     drop(reply);
     match sent {
-        Ok(()) => {}
-        Err(fault) => return Err(Halt::Unsent(fault)),
+        Ok(()) => Ok(()),
+        Err(fault) => Err(Halt::Unsent(fault)),
     }
-    if interpreter.is_stopped() {
-        return Err(stop(collected, output));
-    }
-    Ok(())
 }
 
 /// Answers the lines that a framer holds with their ends, as `answer_line` does each, and takes them.

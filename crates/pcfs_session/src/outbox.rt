@@ -3,6 +3,7 @@
 ghost use Rattle.std.specs.Prelude.{◌≡◌, ◌≤◌, ◌++◌, ◌∷◌, [], true, OnOk, OnErr, IsErrOf};
 ghost use Rattle.pcfs_ports.specs.Faults.{HasRisen, raise};
 ghost use Rattle.pcfs_ports.specs.Observable.{with_back, HoldsSome};
+ghost use Rattle.line_wire.specs.declared.reply.LineReply.TheVariants.{Stopped as StoppedReply};
 ghost use Rattle.line_wire.specs.ReplyText.{reply_text};
 ghost use Rattle.pcfs_session.specs.Outbox.{GoesOut};
 ghost use Rattle.pcfs_session.specs.declared.outbox.SendFault.TheVariants.{Write as WriteFailed};
@@ -109,6 +110,23 @@ pub fn send<O: Sink>(
     match write_reply(alloc, collected, reply) {
         Ok(()) => Ok(flush_if_enough(collected, enough, output)?),
         Err(_) => Err(give_up(collected, output)),
+    }
+}
+
+/// Writes what was collected, and then the line that tells that a disk failed. No memory is taken. After a fault of the output
+/// some first part of it was written.
+pub fn send_stopped<O: Sink>(collected: &mut Bytes, output: &mut O) -> Result<(), Failed>
+    ensures ok { OnOk result (O.held output.new ≡ with_back (O.held output.old) (collected.old ++ (reply_text StoppedReply ++ 10 ∷ []))) }
+    ensures steady { OnOk result (O.faults output.new ≡ O.faults output.old) }
+    ensures err { OnErr result (HoldsSome (O.held output.old) (O.held output.new) (collected.old ++ (reply_text StoppedReply ++ 10 ∷ []))) }
+    ensures risen { OnErr result (HasRisen (O.faults output.old) (O.faults output.new)) }
+    ensures never_falls { O.faults output.old ≤ O.faults output.new }
+    ensures by_one { OnErr result (O.faults output.new ≡ raise (O.faults output.old)) }
+    ensures broken { OnErr result (O.broken output.new ≡ true) }
+{
+    match flush(collected, output) {
+        Ok(()) => write_all(output, b"stopped\n"),
+        Err(failed) => Err(failed),
     }
 }
 

@@ -1,28 +1,17 @@
 -- The line is answered, and its reply is on its way; or no further line is answered.
-use Rattle.std.proofs.Common.{◌≡◌, ◌∙◌, ap, Err}
-use Rattle.pcfs_ports.specs.Faults.{raise}
-use Rattle.pcfs_session.specs.declared.outbox.SendFault.TheVariants.{Write}
-use Rattle.pcfs_session.specs.declared.script_end.Halt.TheVariants.{Unsent}
-use Rattle.pcfs_session.proofs.StillLemmas.{halt_unsent, halt_then}
+use Rattle.std.proofs.Common.{ap, Err}
+use Rattle.pcfs_session.proofs.StillLemmas.{halt_unsent}
 use Rattle.pcfs_session.proofs.AnsweredLemmas.{AreAnswered-line, HaltsAt-line, HaltsAt-stopped}
 use Rattle.pcfs_session.proofs.answering.answer_line.Goals as goal
 
-pub returns-in-Err-clause-halts : goal.returns-in-Err-clause-halts
-returns-in-Err-clause-halts g c = HaltsAt-line g.D.Disk.clock g.D.Disk.left_since g.D.Disk.image g.D.Disk.faults _ _ _ _ _ _ _ c.in-Err.fault c.reply_to-reply.ensures c.in-Err.ensures.err
-
 pub returns-then-is_stopped-clause-halts : goal.returns-then-is_stopped-clause-halts
-returns-then-is_stopped-clause-halts g c = HaltsAt-stopped g.D.Disk.clock g.D.Disk.left_since g.D.Disk.image g.D.Disk.faults _ _ _ _ _ _ _ _ _ _ c.reply_to-reply.ensures c.if-is_stopped.ensures c.in-Ok.ensures.ok c.stop.ensures.out c.stop.ensures.some
+returns-then-is_stopped-clause-halts g c = HaltsAt-stopped g.D.Disk.clock g.D.Disk.left_since g.D.Disk.image g.D.Disk.faults _ _ _ _ _ _ _ c.stop.result c.reply_to-reply.ensures c.if-is_stopped.ensures c.stop.ensures.had_memory c.stop.ensures.out c.stop.ensures.some
 
-pub returns-clause-ok : goal.returns-clause-ok
-returns-clause-ok g c = AreAnswered-line g.D.Disk.clock g.D.Disk.left_since g.D.Disk.image g.D.Disk.faults _ _ _ _ _ _ _ _ c.reply_to-reply.ensures c.if-is_stopped.ensures c.in-Ok.ensures.ok
+pub returns-in-Ok-clause-ok : goal.returns-in-Ok-clause-ok
+returns-in-Ok-clause-ok g c = AreAnswered-line g.D.Disk.clock g.D.Disk.left_since g.D.Disk.image g.D.Disk.faults _ _ _ _ _ _ _ _ c.reply_to-reply.ensures c.if-is_stopped.ensures c.in-Ok.ensures.ok
+
+pub returns-in-Err-clause-halts : goal.returns-in-Err-clause-halts
+returns-in-Err-clause-halts g c = HaltsAt-line g.D.Disk.clock g.D.Disk.left_since g.D.Disk.image g.D.Disk.faults _ _ _ _ _ _ _ c.in-Err.fault c.reply_to-reply.ensures c.if-is_stopped.ensures c.in-Err.ensures.err
 
 pub returns-in-Err-clause-steady_halt : goal.returns-in-Err-clause-steady_halt
 returns-in-Err-clause-steady_halt g c = halt_unsent c.in-Err.fault _ _ (λ is. c.in-Err.ensures.steady_unsent (ap Err is))
-
-pub returns-then-is_stopped-clause-steady_halt : goal.returns-then-is_stopped-clause-steady_halt
-returns-then-is_stopped-clause-steady_halt g c = halt_then c.stop.result _ _ _ c.in-Ok.ensures.steady c.stop.ensures.steady
-
-pub returns-then-is_stopped-clause-by_one : goal.returns-then-is_stopped-clause-by_one
-returns-then-is_stopped-clause-by_one g c is =
-    let same : c.stop.result ≡ Unsent Write = cc in
-    c.stop.ensures.by_one same ∙ ap raise c.in-Ok.ensures.steady
