@@ -1,4 +1,4 @@
--- Of a run no call of a disk failed; or a count rose, and it ends with one of three statuses.
+-- Of a run no call of a disk failed; or a count rose, and it ends with one of two statuses.
 use Rattle.std.proofs.Common.{◌≡◌, ◌∙◌, inl, inr, ℕ, List, String, Option, Some, None, refl, sym, ap}
 use Rattle.std.specs.declared.alloc.Global.{Global}
 use Rattle.event_messages.specs.Messages.{Message}
@@ -10,6 +10,7 @@ use Rattle.pcfs_session.specs.ScriptEnds as scripts
 use Rattle.pcfs_session.specs.ScriptRun.{ScriptState}
 use Rattle.pcfs_session.specs.Streams.{Streams}
 use Rattle.pcfs_session.specs.declared.script_end.ScriptEnd.{ScriptEnd}
+use Rattle.pcfs_session.specs.declared.script_end.ScriptEnd.TheVariants.{LineTooLong}
 use Rattle.pcfs_session.proofs.StoredLemmas.{none_some}
 use Rattle.pcfs_store.specs.Entries.{StoreEntry}
 use Rattle.pcfs_tools.specs.Broken.{Broken}
@@ -38,12 +39,20 @@ module _ (start end : ScriptState) (met : StoreEntry) (is : end.met ≡ Some met
   by_writes before last after broken status faults held _ _ (scripts.input_too_long lines written first all run running) tells = runs_on running
   by_writes before last after broken status faults held _ _ (scripts.stopped written entry way there) tells = inl tells.0
 
+  -- at a line that is too long
+  long_runs : (before last : Streams) (how : ScriptEnd) (whole : List ℕ) → how ≡ LineTooLong → ScriptWrites start end before last how whole → end.met ≡ None
+  long_runs before last _ _ is (scripts.done bytes written reads short run running) = running
+  long_runs before last _ _ is (scripts.line_too_long lines written cut run running) = running
+  long_runs before last _ _ is (scripts.read_fault lines written risen all run running) = running
+  long_runs before last _ _ is (scripts.input_too_long lines written first all run running) = running
+  long_runs before last _ _ is (scripts.stopped written entry way there) = absurd cc
+
   by_end : (before last after : Streams) (broken : Broken) (status faults : ℕ) (held : Option (List ℕ)) (how : ScriptEnd) → ScriptEnds start end before last how → TellsEnd how held faults status after.held after.write_faults broken.output → IsFaultStatus status
   by_end before last after broken status faults held _ (scripts.written how whole writes out) tells = by_writes before last after broken status faults held how whole writes tells
-  by_end before last after broken status faults held _ (scripts.cut_short whole risen way some) tells = inr (inl tells.0)
-  by_end before last after broken status faults held _ (scripts.cut_at_long_line whole risen writes some) tells = inr (inl tells.0)
-  by_end before last after broken status faults held _ (scripts.out_of_memory whole way some) tells = inr (inr tells.0)
-  by_end before last after broken status faults held _ (scripts.out_of_memory_at_long_line whole writes some) tells = inr (inr tells.0)
+  by_end before last after broken status faults held _ (scripts.cut_short whole risen way some) tells = inr tells.0
+  by_end before last after broken status faults held _ (scripts.cut_at_long_line whole risen writes some) tells = inr tells.0
+  by_end before last after broken status faults held _ (scripts.out_of_memory whole way running some) tells = runs_on running
+  by_end before last after broken status faults held _ (scripts.out_of_memory_at_long_line whole writes some) tells = runs_on (long_runs before last LineTooLong whole refl writes)
 
   of_script : (before after : Streams) (broken : Broken) (status : ℕ) → ScriptStatus start end before after broken status → IsFaultStatus status
   of_script before after broken status s = by_end before (record after { held = s.held; write_faults = s.write_faults }) after broken status s.write_faults s.held s.how s.ends s.tells
@@ -57,7 +66,7 @@ module _ (start end : ScriptState) (met : StoreEntry) (is : end.met ≡ Some met
 
   of_following : (before after : Streams) (broken : Broken) (status : ℕ) → FollowEnds start end before after broken status → IsFaultStatus status
   of_following before after broken _ (follows.written status messages lines last over ended out writes) = by_ended before after broken messages status last ended
-  of_following before after broken _ (follows.last_line_cut status messages lines last over ended failed some) = inr (inl refl)
+  of_following before after broken _ (follows.last_line_cut status messages lines last over ended failed some) = inr refl
   of_following before after broken _ (follows.cut_short messages lines over taken reads running failed some) = runs_on running
   of_following before after broken _ (follows.out_of_memory messages lines over taken reads running some writes) = runs_on running
 
@@ -81,13 +90,13 @@ module _ (secrets : Secrets) (words : List (String Global)) where
   by_cause rests before after _ _ (runs.usage none same) = stands before after 1 (same_counts before after same)
   by_cause rests before after _ _ (runs.made asks is b stood) = stands before after 0 stood
   by_cause rests before after _ _ (runs.exists asks is_open same) = stands before after 10 same.none_failed
-  by_cause rests before after _ _ (runs.not_made asks failed kept) = (inr (failed, inl refl), inr (failed, inr (inl refl)))
+  by_cause rests before after _ _ (runs.not_made asks failed kept) = (inr (failed, inl refl), inr (failed, inr refl))
   by_cause rests before after _ _ (runs.no_store asks none same) = stands before after 4 same.none_failed
   by_cause rests before after _ _ (runs.damaged number damage asks found same) = stands before after 3 same.none_failed
-  by_cause rests before after _ _ (runs.not_opened asks failed kept) = (inr (failed, inl refl), inr (failed, inr (inl refl)))
+  by_cause rests before after _ _ (runs.not_opened asks failed kept) = (inr (failed, inl refl), inr (failed, inr refl))
   by_cause rests before after _ _ (runs.checkpointed generation image start asks opened fits stays stood made) = stands before after 0 stood
   by_cause rests before after _ _ (runs.full generation image start asks opened none same rest) = stands before after 14 same.none_failed
-  by_cause rests before after _ _ (runs.not_checkpointed generation image start asks opened fits failed stays survives) = (inr (failed, inl refl), inr (failed, inr (inl refl)))
+  by_cause rests before after _ _ (runs.not_checkpointed generation image start asks opened fits failed stays survives) = (inr (failed, inl refl), inr (failed, inr refl))
   by_cause rests before after _ _ (runs.audited pieces generation image start report asks opened found same rest) = stands before after _ same.none_failed
   by_cause rests before after _ _ (runs.loaded rounds seed told asks is same) = stands before after 0 (same_counts before after same)
 
@@ -118,10 +127,10 @@ module _ (secrets : Secrets) (words : List (String Global)) where
 
     by_serving : (is_of : PassEntries) (count : ℕ) (rests : Rests) (status : ℕ) (line : List ℕ) → ServeWrites is_of secrets count rests before after status line → AtLine before.ports.disks after.ports.disks status
     by_serving is_of count rests _ _ (serving.served end status line served attended is) = stands before.ports.disks after.ports.disks status (served.none_failed refl)
-    by_serving is_of count rests _ _ (serving.disk_failed end pass served attended) = (inr (served.risen pass refl, inl refl), inr (served.risen pass refl, inr (inl refl)))
+    by_serving is_of count rests _ _ (serving.disk_failed end pass served attended) = (inr (served.risen pass refl, inl refl), inr (served.risen pass refl, inr refl))
     by_serving is_of count rests _ _ (serving.no_store none same net) = stands before.ports.disks after.ports.disks 4 same.none_failed
     by_serving is_of count rests _ _ (serving.damaged number damage found same net) = stands before.ports.disks after.ports.disks 3 same.none_failed
-    by_serving is_of count rests _ _ (serving.not_opened failed kept net) = (inr (failed, inl refl), inr (failed, inr (inl refl)))
+    by_serving is_of count rests _ _ (serving.not_opened failed kept net) = (inr (failed, inl refl), inr (failed, inr refl))
 
     of_serving : (is_of : PassEntries) (count : ℕ) (rests : Rests) (status : ℕ) → EndsServing is_of secrets count rests before after status → Ends status
     of_serving is_of count rests _ (serving.told status line writes out still) = (by_serving is_of count rests status line writes).0

@@ -108,7 +108,7 @@ module _ (secrets : Secrets) (words : List (String Global)) (before after : Serv
     by_end _ (scripts.written how whole writes out) tells = by_writes how whole writes tells
     by_end _ (scripts.cut_short whole risen way some) tells = absurd (unwritten risen tells)
     by_end _ (scripts.cut_at_long_line whole risen writes some) tells = absurd (unwritten risen tells)
-    by_end _ (scripts.out_of_memory whole way some) tells = subst Ends (sym tells.0) healthy.out_of_memory
+    by_end _ (scripts.out_of_memory whole way running some) tells = subst Ends (sym tells.0) healthy.out_of_memory
     by_end _ (scripts.out_of_memory_at_long_line whole writes some) tells = subst Ends (sym tells.0) healthy.out_of_memory
 
   of_script : (status : ℕ) (start end : ScriptState) → AsksFor words Script ⊎ AsksFor words Stored → ((met : StoreEntry) → end.met ≡ Some met → status ≡ 5 → ⊥) → ScriptStatus start end before.ports.streams after.ports.streams after.ports.broken status → Ends status

@@ -7,17 +7,17 @@ use Rattle.pcfs_run.specs.Passes.{PassEntries}
 use Rattle.pcfs_run.specs.Served.{RunEnds}
 use Rattle.pcfs_run.specs.Healthy.{Moment, ports_at, rests_between}
 
--- A status with which a run ends of which a call of a disk failed: 5; or 7 or 9, if the output
--- failed or memory ran out when that was to be told.
+-- A status with which a run ends of which a call of a disk failed: 5; or 7, with which a run ends
+-- if the output failed.
 abbrev pub IsFaultStatus : ℕ → Type 0
-IsFaultStatus status = (status ≡ 5) ⊎ ((status ≡ 7) ⊎ (status ≡ 9))
+IsFaultStatus status = (status ≡ 5) ⊎ (status ≡ 7)
 
 -- no call of a disk failed; or a count of faults rose, and the status is such a one
 abbrev pub DisksAt : Disks → Disks → ℕ → Type 0
 DisksAt before after status = NoDiskFailed before after ⊎
     (HasDiskFailed before after × IsFaultStatus status)
 
--- so it is at the end of each run: so at each other status no call of a disk failed
+-- so it is at the end of each run: so at each other status, also at 9, no call of a disk failed
 abbrev pub DisksFailAtFewEnds : {D L : Type 0} → PassEntries → PassEntries → (D → Type 0) →
     (L → Type 0) → Type 0
 DisksFailAtFewEnds {D} {L} of_session of_nine pinned over = (secrets : Secrets) (words : List (String Global)) (before after : Moment D L) (status : ℕ) →

@@ -72,8 +72,7 @@ pub fn healthy_runs_end_so<D: Disk, C: TurnClock, L: Listener>(disk: &D, clock: 
     let _ = net;
 }
 
-/// Of a run no call of a disk failed; or a count of faults rose, and it ends with 5, or with 7 or 9 if the output failed or
-/// memory ran out when that was to be told.
+/// Of a run no call of a disk failed; or a count of faults rose, and it ends with 5 or 7. So it ends with 9 only if none failed.
 pub fn disks_fail_at_few_ends<D: Disk, C: TurnClock, L: Listener>(disk: &D, clock: &C, net: &L)
     ensures { (queue : Option (List (L.In × L.Out))) (nonces : Option (List ℕ)) →
         DisksFailAtFewEnds (AreOfSession (sources_of (C.gives clock.now)

@@ -85,7 +85,7 @@ done_ends start end before after _ script held is left first last (ends.written 
     (subst (RunsOver start (lines_of script) end) same both.0, both.1)
 done_ends start end before after _ script held is left first last (ends.cut_short whole risen way some) = absurd cc
 done_ends start end before after _ script held is left first last (ends.cut_at_long_line whole risen writes some) = absurd cc
-done_ends start end before after _ script held is left first last (ends.out_of_memory whole way some) = absurd cc
+done_ends start end before after _ script held is left first last (ends.out_of_memory whole way met some) = absurd cc
 done_ends start end before after _ script held is left first last (ends.out_of_memory_at_long_line whole writes some) = absurd cc
 
 module _ {D : Type 0} (clock : D → ℕ) (left_since : D → ℕ → List ℕ → Type 0) (image : D → Option (List ℕ)) (faults : D → ℕ) where
