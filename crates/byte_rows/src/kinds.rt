@@ -78,10 +78,10 @@ pub(crate) fn term_end(alloc: Global, bytes: &[u8]) -> Result<End, CodecFault> {
 
 pub(crate) fn formula_end(alloc: Global, bytes: &[u8]) -> Result<End, CodecFault> {
     match read_formula(alloc, bytes) {
-        Ok((formula, count)) => {
+        Ok(found) => {
             let mut out = Bytes::new(alloc);
-            let written = write_formula(&formula, &mut out);
-            end_of(written, &out, bytes, count)
+            let written = write_formula(&found.0, &mut out);
+            end_of(written, &out, bytes, found.1)
         }
         Err(fault) => Err(fault),
     }
