@@ -21,7 +21,7 @@ use std::cmp::Ordering;
 pub(crate) fn node_name_at(input: usize, bytes: &[u8]) -> Result<(Short<64>, &[u8]), CodecFault>
     ensures { GivesReading (λ x. (x.0, x.1.now)) result (node_name_at input bytes.now) }
 {
-    let (name, rest) = with_length_at(0, LONGEST_NAME, input, bytes)?;
+    let (name, rest) = with_length_at(0, LONGEST_NAME as u8, input, bytes)?;
     match node_name_or_none(name) {
         Some(short) => Ok((short, rest)),
         None => Err(CodecFault::NotCanonical(place(input, bytes))),
@@ -63,7 +63,7 @@ pub(crate) fn attribute_name_at<'a>(
 ) -> Result<(Short<64>, &'a [u8]), CodecFault>
     ensures { GivesReading (λ x. (x.0, x.1.now)) result (attribute_name_at previous.now input bytes.now) }
 {
-    let (name, rest) = with_length_at(1, LONGEST_NAME, input, bytes)?;
+    let (name, rest) = with_length_at(1, LONGEST_NAME as u8, input, bytes)?;
     match name_after(previous, name) {
         Some(short) => Ok((short, rest)),
         None => Err(CodecFault::NotCanonical(place(input, bytes))),
