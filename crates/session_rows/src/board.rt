@@ -1,7 +1,8 @@
 //! What the connections of a case say and are told, in one order for all of them.
 
-use bl_syntax::Bytes;
+use bl_syntax::{Bytes, NoMemory};
 use pcfs_ports::SetClock;
+use std::alloc::Global;
 use std::sync::atomic::{AtomicBool, AtomicUsize, Ordering};
 
 /// What becomes of a connection at a step.
@@ -72,15 +73,21 @@ pub struct Board {
 }
 
 impl Board {
-    /// No step was made.
-    pub fn new(steps: Vec<Step>) -> Board {
+    /// There is no step.
+    pub fn new(alloc: Global) -> Board {
         Board {
             clock: SetClock::new(0),
-            steps,
+            steps: Vec::new(alloc),
             made: AtomicUsize::new(0),
             first_wrong: AtomicUsize::new(0),
             is_in_vain: AtomicBool::new(false),
         }
+    }
+
+    /// Adds a step after the others.
+    pub fn add(&mut self, step: Step) -> Result<(), NoMemory> {
+        self.steps.push(step)?;
+        Ok(())
     }
 
     /// The next step, with how many come before it; none if all were made.

@@ -1,18 +1,11 @@
-//! A case: an operator's script, what connections say and are told, and what another script finds then.
+//! What the rows of a case give and want: an operator's script, what connections say and are told, and what another script
+//! finds then.
 
-use crate::board::{Board, Outcome, Step, Turn};
+use crate::board::{Board, Step, Turn};
 use crate::command::Command;
-use crate::connection::RowListener;
 use crate::plans::Plans;
-use bl_syntax::{Bytes, NoMemory, Numbers, copy_bytes};
-use pcfs_ports::{ListNonces, MemoryDisk, MemorySink, MemorySource};
-use pcfs_run::run;
-use pcfs_secrets::Secrets;
-use pcfs_top::run::{Ended, run_alone};
+use bl_syntax::{Bytes, NoMemory, copy_bytes};
 use std::alloc::{AllocError, AllocFailed, Global};
-use std::io::Eprint;
-use std::sync::Wait;
-use std::thread::Threads;
 
 /// Why a case was not run.
 #[derive(Clone, Copy, Debug, PartialEq, Eq)]
@@ -44,30 +37,20 @@ impl<T: Drop> From<AllocFailed<T>> for RowFault {
 /// What the rows of a case give and want.
 #[derive(Drop)]
 pub struct Case {
-    secrets: Bytes,
-    script: Bytes,
-    command: Command,
-    plans: Plans,
-    nonces: Bytes,
-    connections: u64,
+    pub secrets: Bytes,
+    pub script: Bytes,
+    pub command: Command,
+    pub plans: Plans,
+    pub nonces: Bytes,
+    pub connections: u64,
+    pub board: Board,
+    /// The script that comes at last, and what it is to be told.
+    pub checks: Bytes,
+    pub wanted: Bytes,
+    /// What the next step has so far.
     second: i64,
     connection: u64,
     line: Bytes,
-    steps: Vec<Step>,
-    checks: Bytes,
-    wanted: Bytes,
-}
-
-/// How a case ended.
-#[derive(Drop)]
-pub struct CaseEnd {
-    /// How the connections did.
-    pub outcome: Outcome,
-    /// The command ended as it has to.
-    pub is_served: bool,
-    /// What the script that came then was told, and what was wanted.
-    pub found: Bytes,
-    pub wanted: Bytes,
 }
 
 // The number that a word writes.
@@ -86,6 +69,14 @@ fn add_bytes(alloc: Global, digits: &str, out: &mut Bytes) -> Result<(), RowFaul
     }
 }
 
+// The bytes of hexadecimal digits.
+fn bytes_of(alloc: Global, digits: &str) -> Result<Bytes, RowFault> {
+    match hex::decode(alloc, digits) {
+        Ok(bytes) => Ok(Bytes::from_vec(bytes)),
+        Err(_) => Err(RowFault::BadRow),
+    }
+}
+
 // Adds the text as a line with its end.
 fn add_line(text: &str, out: &mut Bytes) -> Result<(), RowFault> {
     out.extend(text.as_bytes())?;
@@ -93,142 +84,11 @@ fn add_line(text: &str, out: &mut Bytes) -> Result<(), RowFault> {
     Ok(())
 }
 
-// These words.
-fn words_of(alloc: Global, words: &[&str]) -> Result<Vec<String>, RowFault> {
-    let mut own = Vec::new(alloc);
-    for word in words {
-        own.push(word.to_string(alloc)?)?;
-    }
-    Ok(own)
-}
-
-// A disk in memory with these bytes, of which these calls fail.
-fn new_disk(alloc: Global, image: &[u8], failing: Numbers) -> Result<MemoryDisk, RowFault> {
-    let mut bytes = Bytes::new(alloc);
-    bytes.extend(image)?;
-    match MemoryDisk::new(alloc, bytes, failing) {
-        Ok(disk) => Ok(disk),
-        Err(_) => Err(RowFault::NoMemory),
-    }
-}
-
-// Runs a command over the disks with this input.
-fn run_over<R: Threads + Wait + Sync + AllocGlobal + Eprint>(
-    rt: &R,
-    words: &[&str],
-    secrets: &Secrets,
-    input: Bytes,
-    output: &mut MemorySink,
-    a: MemoryDisk,
-    b: MemoryDisk,
-) -> Result<Ended<MemoryDisk>, RowFault> {
-    let alloc = rt.alloc();
-    let words = words_of(alloc, words)?;
-    let mut input = MemorySource::new(alloc, input, Numbers::new(alloc));
-    Ok(run_alone(rt, alloc, &words, secrets, &mut input, output, a, b))
-}
-
-// The disks after the operator's script.
-fn set_up<R: Threads + Wait + Sync + AllocGlobal + Eprint>(
-    rt: &R,
-    secrets: &Secrets,
-    script: Bytes,
-) -> Result<Ended<MemoryDisk>, RowFault> {
-    let alloc = rt.alloc();
-    let mut output = MemorySink::new(alloc, Numbers::new(alloc));
-    let none = Bytes::new(alloc);
-    let a = new_disk(alloc, &[], Numbers::new(alloc))?;
-    let b = new_disk(alloc, &[], Numbers::new(alloc))?;
-    let made = run_over(rt, &["init"], secrets, none, &mut output, a, b)?;
-    let words = ["script", "--stored"];
-    run_over(rt, &words, secrets, script, &mut output, made.a, made.b)
-}
-
-// Runs the command, which gives the connections of the board sessions over disks with the bytes of these. Returns how it left
-// its disks, and whether it ended as it has to.
-fn serve<R: Threads + Wait + Sync + AllocGlobal + Eprint>(
-    rt: &R,
-    secrets: &Secrets,
-    board: &Board,
-    command: &Command,
-    plans: Plans,
-    connections: u64,
-    nonces: Bytes,
-    disks: &Ended<MemoryDisk>,
-) -> Result<(Ended<MemoryDisk>, bool), RowFault> {
-    let alloc = rt.alloc();
-    let Plans {
-        net: failing_net,
-        nonces: failing_nonces,
-        a: failing_a,
-        b: failing_b,
-        output: failing_output,
-    } = plans;
-    let a = new_disk(alloc, disks.a.image(), failing_a)?;
-    let b = new_disk(alloc, disks.b.image(), failing_b)?;
-    let mut input = MemorySource::new(alloc, Bytes::new(alloc), Numbers::new(alloc));
-    let mut output = MemorySink::new(alloc, failing_output);
-    let mut nonces = ListNonces::new(alloc, nonces, failing_nonces);
-    let mut net = RowListener::new(board, connections, failing_net);
-    let ended = run(
-        rt,
-        alloc,
-        command.words(),
-        secrets,
-        &mut input,
-        &mut output,
-        a,
-        b,
-        &board.clock,
-        &mut net,
-        &mut nonces,
-    );
-    let is_served = command.ends_with(ended.status, output.held());
-    Ok((ended, is_served))
-}
-
-// What a script is told that opens disks with the bytes of these.
-fn found_by<R: Threads + Wait + Sync + AllocGlobal + Eprint>(
-    rt: &R,
-    secrets: &Secrets,
-    script: Bytes,
-    disks: &Ended<MemoryDisk>,
-) -> Result<Bytes, RowFault> {
-    let alloc = rt.alloc();
-    let a = new_disk(alloc, disks.a.image(), Numbers::new(alloc))?;
-    let b = new_disk(alloc, disks.b.image(), Numbers::new(alloc))?;
-    let mut output = MemorySink::new(alloc, Numbers::new(alloc));
-    let words = ["script", "--stored"];
-    let _ = run_over(rt, &words, secrets, script, &mut output, a, b)?;
-    Ok(copy_bytes(alloc, output.held())?)
-}
-
-// Runs the operator's script, the command with the connections, and the script that looks at what is kept. Returns whether the
-// command ended as it has to, and what that script is told.
-fn run_all<R: Threads + Wait + Sync + AllocGlobal + Eprint>(
-    rt: &R,
-    secrets: &Secrets,
-    board: &Board,
-    command: &Command,
-    plans: Plans,
-    connections: u64,
-    script: Bytes,
-    nonces: Bytes,
-    checks: Bytes,
-) -> Result<(bool, Bytes), RowFault> {
-    let made = set_up(rt, secrets, script)?;
-    let (disks, is_served) = serve(
-        rt,
-        secrets,
-        board,
-        command,
-        plans,
-        connections,
-        nonces,
-        &made,
-    )?;
-    match found_by(rt, secrets, checks, &disks) {
-        Ok(found) => Ok((is_served, found)),
+// The text as a line with its end.
+fn line_of(alloc: Global, text: &str) -> Result<Bytes, RowFault> {
+    let mut line = Bytes::new(alloc);
+    match add_line(text, &mut line) {
+        Ok(()) => Ok(line),
         Err(fault) => Err(fault),
     }
 }
@@ -243,23 +103,20 @@ impl Case {
             plans: Plans::new(alloc),
             nonces: Bytes::new(alloc),
             connections: 0,
+            board: Board::new(alloc),
+            checks: Bytes::new(alloc),
+            wanted: Bytes::new(alloc),
             second: 0,
             connection: 0,
             line: Bytes::new(alloc),
-            steps: Vec::new(alloc),
-            checks: Bytes::new(alloc),
-            wanted: Bytes::new(alloc),
         }
     }
 
     // One connection more. Its nonce has this number in each of its bytes.
     fn add_connection(&mut self, number: &str) -> Result<(), RowFault> {
-        let byte = match number.parse::<u8>() {
-            Ok(byte) => byte,
+        match number.parse::<u8>() {
+            Ok(byte) => self.nonces.extend(&[byte; 16])?,
             Err(_) => return Err(RowFault::BadRow),
-        };
-        for _ in 0..16u32 {
-            self.nonces.push(byte)?;
         }
         self.connections = self.connections.saturating_add(1);
         Ok(())
@@ -298,16 +155,18 @@ impl Case {
 
     // Adds the step, with the bytes that are told.
     fn add_told(&mut self, alloc: Global, digits: &str) -> Result<(), RowFault> {
-        let mut reply = Bytes::new(alloc);
-        add_bytes(alloc, digits, &mut reply)?;
-        self.add_step(alloc, reply, Turn::Replied)
+        match bytes_of(alloc, digits) {
+            Ok(reply) => self.add_step(alloc, reply, Turn::Replied),
+            Err(fault) => Err(fault),
+        }
     }
 
     // Adds the step, with the line that is told.
     fn add_reply(&mut self, alloc: Global, text: &str) -> Result<(), RowFault> {
-        let mut reply = Bytes::new(alloc);
-        add_line(text, &mut reply)?;
-        self.add_step(alloc, reply, Turn::Replied)
+        match line_of(alloc, text) {
+            Ok(reply) => self.add_step(alloc, reply, Turn::Replied),
+            Err(fault) => Err(fault),
+        }
     }
 
     // Adds the step at which a connection reads no line.
@@ -318,17 +177,16 @@ impl Case {
 
     // Adds the step.
     fn add_step(&mut self, alloc: Global, reply: Bytes, turn: Turn) -> Result<(), RowFault> {
-        let mut line = Bytes::new(alloc);
-        line.extend(self.line.as_slice())?;
-        let step = Step {
-            connection: self.connection,
-            second: self.second,
-            line,
-            reply,
-            turn,
-        };
-        match self.steps.push(step) {
-            Ok(()) => Ok(()),
+        match copy_bytes(alloc, self.line.as_slice()) {
+            Ok(line) => Ok(
+                self.board.add(Step {
+                    connection: self.connection,
+                    second: self.second,
+                    line,
+                    reply,
+                    turn,
+                })?,
+            ),
             Err(_) => Err(RowFault::NoMemory),
         }
     }
@@ -344,20 +202,27 @@ impl Case {
         }
     }
 
-    // Adds what a row of the connections and their steps says.
+    // Adds what a row of a step says, by what it begins with.
     fn add_said(&mut self, alloc: Global, kind: &str, text: &str) -> Result<(), RowFault> {
+        match kind {
+            "+" => self.begin_step(text),
+            "long" => self.begin_long_line(text),
+            "say" => self.begin_bytes(alloc, text),
+            _ => self.begin_line(kind, text),
+        }
+    }
+
+    // Adds the step that a row ends, or what a row of the connections says.
+    fn add_ended(&mut self, alloc: Global, kind: &str, text: &str) -> Result<(), RowFault> {
         match kind {
             "nonce" => self.add_connection(text),
             "at" => self.set_clock(text),
-            "+" => self.begin_step(text),
             "." => self.add_last(alloc, text, Turn::Ends),
             "!" => self.add_last(alloc, text, Turn::ReadFails),
-            "long" => self.begin_long_line(text),
-            "say" => self.begin_bytes(alloc, text),
             "<" => self.add_reply(alloc, text),
             "told" => self.add_told(alloc, text),
             "<!" => self.add_step(alloc, Bytes::new(alloc), Turn::WriteFails),
-            _ => self.begin_line(kind, text),
+            _ => self.add_said(alloc, kind, text),
         }
     }
 
@@ -374,56 +239,15 @@ impl Case {
             "then" => add_line(text, &mut self.checks),
             "is" => add_line(text, &mut self.wanted),
             "" | "#" => Ok(()),
-            _ => self.add_said(alloc, kind, text),
+            _ => self.add_ended(alloc, kind, text),
         }
     }
 
-    /// Runs the case.
-    pub fn run<R: Threads + Wait + Sync + AllocGlobal + Eprint>(
-        self,
-        rt: &R,
-    ) -> Result<CaseEnd, RowFault> {
-        let Case {
-            secrets,
-            script,
-            command,
-            plans,
-            nonces,
-            connections,
-            second: _,
-            connection: _,
-            line: _,
-            steps,
-            checks,
-            wanted,
-        } = self;
-        let secrets = match Secrets::parse(rt.alloc(), secrets.as_slice()) {
-            Ok(secrets) => secrets,
-            Err(_) => return Err(RowFault::BadRow),
-        };
-        let mut command = command;
-        command.complete(rt.alloc(), connections)?;
-        let board = Board::new(steps);
-        let ran = run_all(
-            rt,
-            &secrets,
-            &board,
-            &command,
-            plans,
-            connections,
-            script,
-            nonces,
-            checks,
-        );
-        let outcome = board.outcome();
-        match ran {
-            Ok((is_served, found)) => Ok(CaseEnd {
-                outcome,
-                is_served,
-                found,
-                wanted,
-            }),
-            Err(fault) => Err(fault),
+    /// Adds what no row says of the command.
+    pub fn complete(&mut self, alloc: Global) -> Result<(), NoMemory> {
+        match self.command.complete(alloc, self.connections) {
+            Ok(()) => Ok(()),
+            Err(_) => Err(NoMemory),
         }
     }
 }

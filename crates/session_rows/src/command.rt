@@ -5,6 +5,14 @@ use bl_syntax::Bytes;
 use bl_syntax::decimal::put_counted;
 use std::alloc::Global;
 
+/// Adds the words of a text.
+pub fn add_words(alloc: Global, text: &str, words: &mut Vec<String>) -> Result<(), RowFault> {
+    for word in text.split(' ') {
+        words.push(word.to_string(alloc)?)?;
+    }
+    Ok(())
+}
+
 /// What rows say of the command.
 #[derive(Drop)]
 pub struct Command {
@@ -25,10 +33,7 @@ impl Command {
 
     /// Adds its words.
     pub fn add_words(&mut self, alloc: Global, words: &str) -> Result<(), RowFault> {
-        for word in words.split(' ') {
-            self.words.push(word.to_string(alloc)?)?;
-        }
-        Ok(())
+        add_words(alloc, words, &mut self.words)
     }
 
     /// Sets the status that it has to end with.
@@ -54,9 +59,8 @@ impl Command {
         if !self.words.is_empty() {
             return Ok(());
         }
-        let number = count.to_string(alloc)?;
-        self.add_words(alloc, "serve 4040")?;
-        self.add_words(alloc, number.as_str())
+        let words = format!(in alloc; "serve 4040 {count}")?;
+        self.add_words(alloc, words.as_str())
     }
 
     // If no row says what it has to write, that is how many were served, at status 0.

@@ -12,6 +12,7 @@ mod command;
 mod connection;
 mod plans;
 mod rows;
+mod running;
 
 use bl_syntax::{Bytes, NoMemory};
 use pcfs_ports::{StdSink, write_all};

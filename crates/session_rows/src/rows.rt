@@ -1,7 +1,8 @@
 //! A file of rows: what stands before its first case begins each of its cases.
 
 use crate::board::Outcome;
-use crate::case::{Case, CaseEnd, RowFault};
+use crate::case::{Case, RowFault};
+use crate::running::{self, CaseEnd};
 use bl_syntax::decimal::put_counted;
 use bl_syntax::{Bytes, NoMemory};
 use std::alloc::Global;
@@ -16,10 +17,11 @@ fn add_report(text: &str, name: &str, report: &mut Bytes) -> Result<(), NoMemory
     report.push(b'\n')
 }
 
-// Adds a line that ends with a number.
-fn add_counted(text: &str, number: usize, report: &mut Bytes) -> Result<(), NoMemory> {
+// Adds a line that ends with the number of what differs, and returns that the case does not agree.
+fn add_counted(text: &str, number: usize, report: &mut Bytes) -> Result<bool, NoMemory> {
     put_counted(report, text, number as u64)?;
-    report.push(b'\n')
+    report.push(b'\n')?;
+    Ok(false)
 }
 
 // Adds in what the script was told something else than wanted, and returns that the case does not agree.
@@ -29,30 +31,37 @@ fn add_found(name: &str, ended: &CaseEnd, report: &mut Bytes) -> Result<bool, No
     Ok(false)
 }
 
-// Adds that the case agrees, or what differs, and returns whether it agrees.
-fn judge(name: &str, ended: &CaseEnd, report: &mut Bytes) -> Result<bool, NoMemory> {
-    match ended.outcome {
-        Outcome::AsWanted => {}
-        Outcome::Differs(step) => {
-            add_report("differs: ", name, report)?;
-            add_counted("  at step ", step, report)?;
-            return Ok(false);
-        }
-        Outcome::InVain(made) => {
-            add_report("waits in vain: ", name, report)?;
-            add_counted("  after steps: ", made, report)?;
-            return Ok(false);
-        }
-    }
+// Adds that the case agrees, whose connections did as wanted, or what differs, and returns whether it agrees.
+fn judge_end(
+    name: &str,
+    wanted: &[u8],
+    ended: &CaseEnd,
+    report: &mut Bytes,
+) -> Result<bool, NoMemory> {
     if !ended.is_served {
         add_report("ends otherwise: ", name, report)?;
         return Ok(false);
     }
-    if ended.found.as_slice() != ended.wanted.as_slice() {
+    if ended.found.as_slice() != wanted {
         return add_found(name, ended, report);
     }
     add_report("agrees: ", name, report)?;
     Ok(true)
+}
+
+// Adds that the case agrees, or what differs, and returns whether it agrees.
+fn judge(name: &str, wanted: &[u8], ended: &CaseEnd, report: &mut Bytes) -> Result<bool, NoMemory> {
+    match ended.outcome {
+        Outcome::AsWanted => judge_end(name, wanted, ended, report),
+        Outcome::Differs(step) => {
+            add_report("differs: ", name, report)?;
+            add_counted("  at step ", step, report)
+        }
+        Outcome::InVain(made) => {
+            add_report("waits in vain: ", name, report)?;
+            add_counted("  after steps: ", made, report)
+        }
+    }
 }
 
 // Adds which row is bad, unless there was no memory.
@@ -92,47 +101,48 @@ fn read_case(
 ) -> Result<bool, NoMemory> {
     let begins = read_rows(alloc, beginning, case, report)?;
     let goes_on = read_rows(alloc, rows, case, report)?;
+    case.complete(alloc)?;
     Ok(begins && goes_on)
-}
-
-// Adds that the case is not run.
-fn add_unread(name: &str, report: &mut Bytes) -> Result<bool, NoMemory> {
-    add_report("not run: ", name, report)?;
-    Ok(false)
 }
 
 // Runs the case of this name, and adds how it ended.
 fn run_case<R: Threads + Wait + Sync + AllocGlobal + Eprint>(
     rt: &R,
     name: &str,
-    case: Case,
+    case: &Case,
     report: &mut Bytes,
 ) -> Result<bool, NoMemory> {
-    match case.run(rt) {
-        Ok(ended) => judge(name, &ended, report),
+    match running::run_case(rt, rt.alloc(), case) {
+        Ok(ended) => judge(name, case.wanted.as_slice(), &ended, report),
         Err(fault) => add_fault(fault, name, report),
     }
 }
 
-// Reads and runs a case, of which the first line is its name.
+// Reads and runs a case, which is empty yet and of which the first line is its name.
 fn run_block<R: Threads + Wait + Sync + AllocGlobal + Eprint>(
+    rt: &R,
+    beginning: &str,
+    block: &str,
+    case: &mut Case,
+    report: &mut Bytes,
+) -> Result<bool, NoMemory> {
+    let (name, rows) = block.split_once('\n').unwrap_or((block, ""));
+    if read_case(rt.alloc(), beginning, rows, case, report)? {
+        return run_case(rt, name, case, report);
+    }
+    add_report("not run: ", name, report)?;
+    Ok(false)
+}
+
+// Runs a case, of which the first line is its name.
+fn run_new<R: Threads + Wait + Sync + AllocGlobal + Eprint>(
     rt: &R,
     beginning: &str,
     block: &str,
     report: &mut Bytes,
 ) -> Result<bool, NoMemory> {
-    let (name, rows) = block.split_once('\n').unwrap_or((block, ""));
     let mut case = Case::new(rt.alloc());
-    match read_case(rt.alloc(), beginning, rows, &mut case, report) {
-        Ok(is_read) => {
-            if is_read {
-                run_case(rt, name, case, report)
-            } else {
-                add_unread(name, report)
-            }
-        }
-        Err(refused) => Err(refused),
-    }
+    run_block(rt, beginning, block, &mut case, report)
 }
 
 /// Runs each case of a file of rows, adds to the report how it ended, and returns whether all agree.
@@ -145,7 +155,7 @@ pub fn run_rows<R: Threads + Wait + Sync + AllocGlobal + Eprint>(
     let beginning = blocks.next().unwrap_or("");
     let mut agree = true;
     for block in blocks {
-        agree &= run_block(rt, beginning, block, report)?;
+        agree &= run_new(rt, beginning, block, report)?;
     }
     Ok(agree)
 }

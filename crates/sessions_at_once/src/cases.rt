@@ -2,10 +2,9 @@
 
 use crate::connection::{Speeches, TwoConnections};
 use crate::meeting::{BOTH_ARE_IN, FIRST_IS_AT_HAND, Meeting};
-use crate::setting::{Setting, bytes_of, speeches_of};
+use crate::setting::{Setting, speeches_of};
 use bl_syntax::{Bytes, Numbers};
-use pcfs_ports::{ListNonces, MemoryDisk, MemorySink, MemorySource};
-use pcfs_run::run;
+use pcfs_ports::{MemoryDisk, MemorySink};
 use pcfs_top::run::Ended;
 use std::alloc::Global;
 use std::io::Eprint;
@@ -81,53 +80,39 @@ verify alice #1 read 3 saysR(claim(0,init(1)))
 do list #1 @3
 ";
 
+// Adds the line of a user who makes this file.
+fn add_making(
+    alloc: Global,
+    letter: &str,
+    number: u32,
+    procap: &str,
+    text: &mut Bytes,
+) -> Option<()> {
+    let line = format!(in alloc; "do create #1 {letter}{number} {procap}\n").ok()?;
+    text.extend(line.as_bytes()).ok()
+}
+
+// Adds the lines of a user who makes so many files.
+fn add_all_making(
+    alloc: Global,
+    letter: &str,
+    procap: &str,
+    count: u32,
+    text: &mut Bytes,
+) -> Option<()> {
+    for number in 0..count {
+        add_making(alloc, letter, number, procap, text)?;
+    }
+    Some(())
+}
+
 // The lines of a user who makes so many files, with names that begin with this letter.
 fn making(alloc: Global, letter: &str, procap: &str, count: u32) -> Option<Bytes> {
     let mut text = Bytes::new(alloc);
-    for number in 0..count {
-        let line = format!(in alloc; "do create #1 {letter}{number} {procap}\n").ok()?;
-        text.extend(line.as_bytes()).ok()?;
+    match add_all_making(alloc, letter, procap, count, &mut text) {
+        Some(()) => Some(text),
+        None => None,
     }
-    Some(text)
-}
-
-// What both say.
-fn speeches(alloc: Global, case: &Case) -> Option<Speeches> {
-    let alice = making(alloc, "a", ALICE_WRITES, case.files_each)?;
-    let bob = making(alloc, "b", case.bob_writes, case.files_each)?;
-    speeches_of(alloc, alice, case.bob_awaits, bob)
-}
-
-// Serves both over the disks. Returns the disks, and whether two were served.
-fn serve<R: Threads + Wait + Sync + Eprint>(
-    rt: &R,
-    alloc: Global,
-    setting: &Setting,
-    meeting: &Meeting,
-    speeches: &Speeches,
-    nonces: Bytes,
-    disks: Ended<MemoryDisk>,
-) -> (Ended<MemoryDisk>, bool) {
-    let mut none = MemorySource::new(alloc, Bytes::new(alloc), Numbers::new(alloc));
-    let mut output = MemorySink::new(alloc, Numbers::new(alloc));
-    let mut nonces = ListNonces::new(alloc, nonces, Numbers::new(alloc));
-    let mut net = TwoConnections::new(meeting, speeches);
-    let Ended { status: _, a, b } = disks;
-    let ended = run(
-        rt,
-        alloc,
-        &setting.serve,
-        &setting.secrets,
-        &mut none,
-        &mut output,
-        a,
-        b,
-        meeting,
-        &mut net,
-        &mut nonces,
-    );
-    let is_served = ended.status == 0 && output.held() == b"served 2\n".as_slice();
-    (ended, is_served)
 }
 
 // Whether the last script found so many events and files.
@@ -136,24 +121,54 @@ fn is_found(case: &Case, found: &[u8]) -> bool {
     found.starts_with(case.found.as_bytes()) && numbers == case.nodes.saturating_add(2)
 }
 
-// Serves both over the disks, and runs the last script. Returns whether all is as wanted.
+// Whether the last script finds what it has to on the disks.
+fn is_kept<R: Threads + Wait + Sync>(
+    rt: &R,
+    alloc: Global,
+    setting: &Setting,
+    case: &Case,
+    disks: Ended<MemoryDisk>,
+) -> Option<bool> {
+    let mut output = MemorySink::new(alloc, Numbers::new(alloc));
+    match setting.add_script(rt, alloc, CHECKS, &mut output, disks) {
+        Some(_) => Some(is_found(case, output.held())),
+        None => None,
+    }
+}
+
+// Serves both over new disks, and runs the last script. Returns whether all is as wanted.
 fn serve_and_look<R: Threads + Wait + Sync + Eprint>(
     rt: &R,
     alloc: Global,
     setting: &Setting,
     case: &Case,
     meeting: &Meeting,
-    speeches: &Speeches,
-    nonces: Bytes,
-    checks: Bytes,
-    disks: Ended<MemoryDisk>,
-) -> bool {
-    let (disks, is_served) = serve(rt, alloc, setting, meeting, speeches, nonces, disks);
-    let mut output = MemorySink::new(alloc, Numbers::new(alloc));
-    let _ = setting.add_script(rt, alloc, checks, &mut output, disks);
-    is_served
-        && meeting.went_well(case.nodes.saturating_add(2), case.nodes)
-        && is_found(case, output.held())
+    speeches: Speeches<'_>,
+) -> Option<bool> {
+    let disks = setting.set_up(rt, alloc, case.script)?;
+    let mut net = TwoConnections::new(meeting, speeches);
+    let (disks, is_served) = setting.serve(rt, alloc, meeting, &mut net, disks)?;
+    let is_kept = is_kept(rt, alloc, setting, case, disks)?;
+    let went_well = meeting.went_well(case.nodes.saturating_add(2), case.nodes);
+    Some(is_served && went_well && is_kept)
+}
+
+// Whether all is as wanted at this meeting.
+fn meet<R: Threads + Wait + Sync + Eprint>(
+    rt: &R,
+    alloc: Global,
+    setting: &Setting,
+    case: &Case,
+    meeting: &Meeting,
+) -> Option<bool> {
+    let alice = making(alloc, "a", ALICE_WRITES, case.files_each)?;
+    match making(alloc, "b", case.bob_writes, case.files_each) {
+        Some(bob) => {
+            let speeches = speeches_of(alice.as_slice(), case.bob_awaits, bob.as_slice());
+            serve_and_look(rt, alloc, setting, case, meeting, speeches)
+        }
+        None => None,
+    }
 }
 
 // Whether all of the case is as wanted; none if there is no memory.
@@ -164,14 +179,7 @@ fn agrees<R: Threads + Wait + Sync + Eprint>(
     case: &Case,
 ) -> Option<bool> {
     let meeting = Meeting::new(alloc, case.nodes.saturating_add(2), case.holds_clock)?;
-    let speeches = speeches(alloc, case)?;
-    let script = bytes_of(alloc, case.script.as_bytes())?;
-    let checks = bytes_of(alloc, CHECKS.as_bytes())?;
-    let nonces = bytes_of(alloc, &[0; 32])?;
-    let disks = setting.set_up(rt, alloc, script)?;
-    Some(serve_and_look(
-        rt, alloc, setting, case, &meeting, &speeches, nonces, checks, disks,
-    ))
+    meet(rt, alloc, setting, case, &meeting)
 }
 
 /// Whether an operation that waits for its turn is decided at the moment of the turn.

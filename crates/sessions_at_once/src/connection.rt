@@ -3,24 +3,23 @@
 ghost use Rattle.std.specs.Prelude.{◌≡◌, ◌≤◌, false, None, length};
 
 use crate::meeting::Meeting;
-use bl_syntax::Bytes;
 use pcfs_ports::{Accepted, Failed, Listener, Sink, Source};
 use std::alloc::Global;
 use std::str;
 
 /// What a connection says: it logs in, and says the rest once the meeting is at this stage.
-#[derive(Drop)]
-pub struct Speech {
-    pub login: Bytes,
+#[derive(Clone, Copy)]
+pub struct Speech<'b> {
+    pub login: &'b [u8],
     pub awaits: usize,
-    pub rest: Bytes,
+    pub rest: &'b [u8],
 }
 
 /// What two connections say.
-#[derive(Drop)]
-pub struct Speeches {
-    pub first: Speech,
-    pub second: Speech,
+#[derive(Clone, Copy)]
+pub struct Speeches<'b> {
+    pub first: Speech<'b>,
+    pub second: Speech<'b>,
 }
 
 // Puts the first of the bytes into the buffer, and returns how many.
@@ -36,13 +35,13 @@ fn give(bytes: &[u8], buf: &mut [u8]) -> usize
 #[derive(Drop)]
 pub struct Speaker<'b> {
     meeting: &'b Meeting,
-    speech: &'b Speech,
+    speech: Speech<'b>,
     reads: u32,
 }
 
 impl<'b> Speaker<'b> {
     /// Nothing was given.
-    pub fn new(meeting: &'b Meeting, speech: &'b Speech) -> Speaker<'b> {
+    pub fn new(meeting: &'b Meeting, speech: Speech<'b>) -> Speaker<'b> {
         Speaker {
             meeting,
             speech,
@@ -62,12 +61,12 @@ impl<'b> Source for Speaker<'b> {
         let reads = self.reads;
         self.reads = reads.saturating_add(1);
         match reads {
-            0 => Ok(give(self.speech.login.as_slice(), buf)),
+            0 => Ok(give(self.speech.login, buf)),
             1 => {
                 self.meeting.advance();
                 self.meeting.wait_for(self.speech.awaits);
                 self.meeting.advance();
-                Ok(give(self.speech.rest.as_slice(), buf))
+                Ok(give(self.speech.rest, buf))
             }
             _ => Ok(0),
         }
@@ -105,13 +104,13 @@ impl<'b> Sink for Hearer<'b> {
 #[derive(Drop)]
 pub struct TwoConnections<'b> {
     meeting: &'b Meeting,
-    speeches: &'b Speeches,
+    speeches: Speeches<'b>,
     accepted: u32,
 }
 
 impl<'b> TwoConnections<'b> {
     /// None was accepted.
-    pub fn new(meeting: &'b Meeting, speeches: &'b Speeches) -> TwoConnections<'b> {
+    pub fn new(meeting: &'b Meeting, speeches: Speeches<'b>) -> TwoConnections<'b> {
         TwoConnections {
             meeting,
             speeches,
@@ -144,10 +143,9 @@ impl<'b> Listener for TwoConnections<'b> {
     fn accept(&mut self, _alloc: Global) -> Accepted<Speaker<'b>, Hearer<'b>> {
         let accepted = self.accepted;
         self.accepted = accepted.saturating_add(1);
-        let speeches = self.speeches;
         let speech = match accepted {
-            0 => &speeches.first,
-            1 => &speeches.second,
+            0 => self.speeches.first,
+            1 => self.speeches.second,
             _ => return Accepted::Closed,
         };
         Accepted::Conn(

@@ -10,11 +10,12 @@ ghost use Rattle.journal_records.specs.EventSpelling.{IsReadEvent};
 use crate::connection::{Hearer, Speaker, Speech, Speeches};
 use crate::meeting::{FIRST_IS_AT_HAND, Meeting, SECOND_WAS_TOLD};
 use crate::pair::{Errand, both_at_once};
-use crate::setting::{Setting, bytes_of, speeches_of};
+use crate::setting::{Setting, speeches_of};
 use bl_syntax::Goal;
 use pcfs_ports::{Disk, MemoryDisk};
 use pcfs_store::Store;
 use pcfs_top::run::Ended;
+use policy_statement::Keyring;
 use proof_term::ProofTree;
 use proof_verifier::{CheckFault, Checked, Cites, check};
 use recover::open_store;
@@ -72,7 +73,7 @@ struct Talk<'a, V: Recorded> {
     lock: &'a TreeLock<V>,
     pass: Pass<V>,
     meeting: &'a Meeting,
-    speech: &'a Speech,
+    speech: Speech<'a>,
 }
 
 impl<'a, R: Wait, D: Disk + Send> Errand<R> for Talk<'a, OpenedStore<D>> {
@@ -103,18 +104,32 @@ impl<'a, R: Wait, D: Disk + Send> Errand<R> for Talk<'a, OpenedStore<D>> {
     }
 }
 
+// Opens the store on the disks under this ring; none if that fails.
+fn open_under(
+    alloc: Global,
+    seal_key: &[u8],
+    ring: Keyring,
+    disks: Ended<MemoryDisk>,
+) -> Option<Store<MemoryDisk>>
+    ensures running { IfSome result (λ store. store.stop ≡ None) }
+    ensures unsettled { IfSome result (λ store. store.checkpoints ≡ []) }
+    ensures each { IfSome result (λ store. AllByRecursion IsReadEvent store.events) }
+{
+    let Ended { status: _, a, b } = disks;
+    match open_store(alloc, a, b, seal_key, ring) {
+        Ok(store) => Some(store),
+        Err(_) => None,
+    }
+}
+
 // Opens the store on the disks; none if that fails.
 fn open(alloc: Global, setting: &Setting, disks: Ended<MemoryDisk>) -> Option<Store<MemoryDisk>>
     ensures running { IfSome result (λ store. store.stop ≡ None) }
     ensures unsettled { IfSome result (λ store. store.checkpoints ≡ []) }
     ensures each { IfSome result (λ store. AllByRecursion IsReadEvent store.events) }
 {
-    let Ok(ring) = setting.secrets.ring.copy(alloc) else {
-        return None;
-    };
-    let Ended { status: _, a, b } = disks;
-    match open_store(alloc, a, b, setting.secrets.seal_key.as_slice(), ring) {
-        Ok(store) => Some(store),
+    match setting.secrets.ring.copy(alloc) {
+        Ok(ring) => open_under(alloc, setting.secrets.seal_key.as_slice(), ring, disks),
         Err(_) => None,
     }
 }
@@ -126,7 +141,7 @@ fn talk_under<R: Threads + Wait + Sync, D: Disk + Send>(
     lock: &TreeLock<OpenedStore<D>>,
     door: &mut Doorman<OpenedStore<D>>,
     meeting: &Meeting,
-    speeches: &Speeches,
+    speeches: Speeches<'_>,
 ) -> bool
     requires lock { door.old.lock ≡ lock.now }
     requires unmade { door.old.made ≡ 0 }
@@ -136,14 +151,14 @@ fn talk_under<R: Threads + Wait + Sync, D: Disk + Send>(
         lock,
         pass: lock.pass(door),
         meeting,
-        speech: &speeches.first,
+        speech: speeches.first,
     };
     let second = Talk {
         alloc,
         lock,
         pass: lock.pass(door),
         meeting,
-        speech: &speeches.second,
+        speech: speeches.second,
     };
     both_at_once(rt, first, second)
 }
@@ -153,7 +168,7 @@ fn talk_at_once<R: Threads + Wait + Sync, D: Disk + Send + Drop>(
     rt: &R,
     alloc: Global,
     meeting: &Meeting,
-    speeches: &Speeches,
+    speeches: Speeches<'_>,
     store: Store<D>,
 ) -> bool
     requires running { store.stop ≡ None }
@@ -173,13 +188,27 @@ fn talk_over<R: Threads + Wait + Sync>(
     alloc: Global,
     setting: &Setting,
     meeting: &Meeting,
-    speeches: &Speeches,
+    speeches: Speeches<'_>,
     disks: Ended<MemoryDisk>,
 ) -> bool {
     match open(alloc, setting, disks) {
         Some(store) => talk_at_once(rt, alloc, meeting, speeches, store),
         None => false,
     }
+}
+
+// Whether all is as wanted at this meeting, and so many are told that statement 1 is absent.
+fn meet<R: Threads + Wait + Sync>(
+    rt: &R,
+    alloc: Global,
+    setting: &Setting,
+    meeting: &Meeting,
+    speeches: Speeches<'_>,
+    absences: usize,
+) -> Option<bool> {
+    let disks = setting.set_up(rt, alloc, SET_UP)?;
+    let ended = talk_over(rt, alloc, setting, meeting, speeches, disks);
+    Some(ended && meeting.went_well(4, 1) && meeting.absences() == absences)
 }
 
 // Whether all is as wanted, and so many were told that statement 1 is absent, if bob asks this; none if there is no memory.
@@ -191,13 +220,8 @@ fn agrees<R: Threads + Wait + Sync>(
     absences: usize,
 ) -> Option<bool> {
     let meeting = Meeting::new(alloc, 3, false)?;
-    let alice = bytes_of(alloc, PROVING.as_bytes())?;
-    let bob = bytes_of(alloc, asked.as_bytes())?;
-    let speeches = speeches_of(alloc, alice, FIRST_IS_AT_HAND, bob)?;
-    let script = bytes_of(alloc, SET_UP.as_bytes())?;
-    let disks = setting.set_up(rt, alloc, script)?;
-    let ended = talk_over(rt, alloc, setting, &meeting, &speeches, disks);
-    Some(ended && meeting.went_well(4, 1) && meeting.absences() == absences)
+    let speeches = speeches_of(PROVING.as_bytes(), FIRST_IS_AT_HAND, asked.as_bytes());
+    meet(rt, alloc, setting, &meeting, speeches, absences)
 }
 
 /// Whether one session has a turn while the proof of another is checked.

@@ -38,24 +38,40 @@ pub struct Meeting {
     is_wrong: AtomicBool,
 }
 
+// Adds that of so many nodes none was told.
+fn add_untold(count: usize, nodes: &mut Vec<AtomicBool>) -> Option<()> {
+    for _ in 0..count {
+        nodes.push(AtomicBool::new(false)).ok()?;
+    }
+    Some(())
+}
+
+// That of so many nodes none was told.
+fn untold(alloc: Global, count: usize) -> Option<Vec<AtomicBool>> {
+    let mut nodes = Vec::new(alloc);
+    match add_untold(count, &mut nodes) {
+        Some(()) => Some(nodes),
+        None => None,
+    }
+}
+
 impl Meeting {
     /// Nobody has logged in, and it is second 100. Nodes below this number can be told. If `holds_clock`, reading the clock takes
     /// the first one's operation so long that the second asks meanwhile, and then it is second 200.
     pub fn new(alloc: Global, node_count: usize, holds_clock: bool) -> Option<Meeting> {
-        let mut nodes = Vec::new(alloc);
-        for _ in 0..node_count {
-            nodes.push(AtomicBool::new(false)).ok()?;
+        match untold(alloc, node_count) {
+            Some(nodes) => Some(Meeting {
+                clock: SetClock::new(100),
+                holds_clock,
+                stage: AtomicUsize::new(0),
+                is_in_vain: AtomicBool::new(false),
+                replies: AtomicUsize::new(0),
+                absences: AtomicUsize::new(0),
+                nodes,
+                is_wrong: AtomicBool::new(false),
+            }),
+            None => None,
         }
-        Some(Meeting {
-            clock: SetClock::new(100),
-            holds_clock,
-            stage: AtomicUsize::new(0),
-            is_in_vain: AtomicBool::new(false),
-            replies: AtomicUsize::new(0),
-            absences: AtomicUsize::new(0),
-            nodes,
-            is_wrong: AtomicBool::new(false),
-        })
     }
 
     /// It is one stage further.
