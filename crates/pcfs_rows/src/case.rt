@@ -4,7 +4,7 @@ use crate::case_input::CaseInput;
 use crate::short_form::{RowFault, Texts, add_numbered, add_written_out, number_of, parts_at};
 use crate::values::add_value;
 use bl_syntax::decimal::put_counted;
-use bl_syntax::{Bytes, NoMemory, Numbers};
+use bl_syntax::{Bytes, NoMemory, Numbers, copy_numbers};
 use line_text::write_hex;
 use pcfs_ports::{MemoryDisk, MemorySink};
 use pcfs_secrets::Secrets;
@@ -25,9 +25,11 @@ pub struct Case {
     second: Area,
     stop: Option<Stop>,
     shows: Shows,
-    found: Bytes,
-    wanted: Bytes,
-    status: u8,
+    /// What its calls said, and after the run what that wrote too; and what is wanted.
+    pub found: Bytes,
+    pub wanted: Bytes,
+    /// The status that is wanted.
+    pub status: u8,
 }
 
 /// A disk of a case: its bytes, and the calls of it that fail, or the number from which on all fail.
@@ -76,7 +78,8 @@ impl Left {
         let Ended { status, a, b } = ended;
         let first = keep_disk(a, stop, &mut self.first);
         let second = keep_disk(b, stop, &mut self.second);
-        unless_refused(first.and(second), Ok(status))
+        first.and(second)?;
+        Ok(status)
     }
 
     // Adds the line that shows the disks.
@@ -97,15 +100,6 @@ impl Left {
             }
         }
     }
-}
-
-/// How a case ended: what its calls said and then what the run wrote, the run's status, and what was wanted of both.
-#[derive(Drop)]
-pub struct CaseEnd {
-    pub found: Bytes,
-    pub status: u8,
-    pub wanted: Bytes,
-    pub wanted_status: u8,
 }
 
 // Keeps the bytes of a disk, after a crash if there is one.
@@ -156,20 +150,27 @@ impl Area {
         }
     }
 
-    // The disk in memory.
-    fn into_disk(self, alloc: Global) -> Result<MemoryDisk, RowFault> {
-        let Area {
-            bytes,
-            failing,
-            fuse,
-        } = self;
-        match fuse {
-            Some(calls) => Ok(MemoryDisk::fused(alloc, bytes, calls)),
-            None => match MemoryDisk::new(alloc, bytes, failing) {
-                Ok(disk) => Ok(disk),
-                Err(_) => Err(RowFault::NoMemory),
-            },
+    // The disk in memory, if all calls from a number on fail.
+    fn fused(&self, alloc: Global, calls: u64) -> Result<MemoryDisk, RowFault> {
+        let bytes = self.bytes.copy(alloc)?;
+        Ok(MemoryDisk::fused(alloc, bytes, calls))
+    }
+
+    // The disk in memory, if these calls fail.
+    fn unfused(&self, alloc: Global, failing: Numbers) -> Result<MemoryDisk, RowFault> {
+        match self.bytes.copy(alloc) {
+            Ok(bytes) => Ok(MemoryDisk::new(alloc, bytes, failing)?),
+            Err(_) => Err(RowFault::NoMemory),
         }
+    }
+
+    // The disk in memory.
+    fn disk(&self, alloc: Global) -> Result<MemoryDisk, RowFault> {
+        if let Some(calls) = self.fuse {
+            return self.fused(alloc, calls);
+        }
+        let failing = copy_numbers(alloc, self.failing.as_slice())?;
+        self.unfused(alloc, failing)
     }
 }
 
@@ -229,17 +230,6 @@ fn add_lines(alloc: Global, text: &str, out: &mut Bytes) -> Result<(), RowFault>
         out.push(b'\n')?;
     }
     Ok(())
-}
-
-// The status, unless a growth was refused.
-fn unless_refused(
-    grown: Result<(), NoMemory>,
-    status: Result<u8, RowFault>,
-) -> Result<u8, RowFault> {
-    match grown {
-        Ok(()) => status,
-        Err(_) => Err(RowFault::NoMemory),
-    }
 }
 
 impl Case {
@@ -357,47 +347,70 @@ impl Case {
         }
     }
 
-    /// Runs the case, and keeps how it left its disks. Bad secrets count as a bad row.
-    pub fn run<R: Threads + Wait + Sync + AllocGlobal>(
-        self,
+    // Runs the case. Returns its disks and the status.
+    fn run_on<R: Threads + Wait + Sync>(
+        &mut self,
         rt: &R,
-        left: &mut Left,
-    ) -> Result<CaseEnd, RowFault> {
-        let alloc = rt.alloc();
-        let Case {
-            texts: _,
-            secrets,
-            words,
-            mut input,
-            failing_writes,
-            first,
-            second,
-            stop,
-            shows,
-            mut found,
-            wanted,
-            status: wanted_status,
-        } = self;
-        let mut output = MemorySink::new(alloc, failing_writes);
-        let a = first.into_disk(alloc)?;
-        let b = second.into_disk(alloc)?;
-        let status = match Secrets::parse(alloc, secrets.as_slice()) {
-            Ok(secrets) => {
-                let ended = run_alone(rt, alloc, &words, &secrets, &mut input, &mut output, a, b);
-                left.keep(ended, stop)
-            }
-            Err(_) => Err(RowFault::BadRow),
-        };
-        let written = found.extend(output.held());
-        let shown = left.show(alloc, shows, &mut found);
-        match unless_refused(written.and(shown), status) {
-            Ok(status) => Ok(CaseEnd {
-                found,
-                status,
-                wanted,
-                wanted_status,
-            }),
+        alloc: Global,
+        secrets: &Secrets,
+        output: &mut MemorySink,
+    ) -> Result<Ended<MemoryDisk>, RowFault> {
+        let a = self.first.disk(alloc)?;
+        match self.second.disk(alloc) {
+            Ok(b) => Ok(run_alone(
+                rt,
+                alloc,
+                &self.words,
+                secrets,
+                &mut self.input,
+                output,
+                a,
+                b,
+            )),
             Err(fault) => Err(fault),
+        }
+    }
+
+    // Keeps how a run left its disks, and what it wrote, and returns its status.
+    fn keep(
+        &mut self,
+        alloc: Global,
+        ended: Ended<MemoryDisk>,
+        written: &[u8],
+        left: &mut Left,
+    ) -> Result<u8, RowFault> {
+        let status = left.keep(ended, self.stop)?;
+        self.found.extend(written)?;
+        left.show(alloc, self.shows, &mut self.found)?;
+        Ok(status)
+    }
+
+    // Runs the case under these secrets.
+    fn run_under<R: Threads + Wait + Sync>(
+        &mut self,
+        rt: &R,
+        alloc: Global,
+        secrets: &Secrets,
+        left: &mut Left,
+    ) -> Result<u8, RowFault> {
+        let failing = copy_numbers(alloc, self.failing_writes.as_slice())?;
+        let mut output = MemorySink::new(alloc, failing);
+        match self.run_on(rt, alloc, secrets, &mut output) {
+            Ok(ended) => self.keep(alloc, ended, output.held(), left),
+            Err(fault) => Err(fault),
+        }
+    }
+
+    /// Runs the case, keeps how it left its disks, and returns its status. Bad secrets count as a bad row.
+    pub fn run<R: Threads + Wait + Sync>(
+        &mut self,
+        rt: &R,
+        alloc: Global,
+        left: &mut Left,
+    ) -> Result<u8, RowFault> {
+        match Secrets::parse(alloc, self.secrets.as_slice()) {
+            Ok(secrets) => self.run_under(rt, alloc, &secrets, left),
+            Err(_) => Err(RowFault::BadRow),
         }
     }
 }

@@ -27,6 +27,12 @@ pub fn value_end(outcome: Result<(), NoMemory>) -> Result<(), RowFault> {
     }
 }
 
+// Adds the line's end after what was printed, if there was memory for that.
+fn end_line(printed: Result<(), NoMemory>, out: &mut Bytes) -> Result<(), RowFault> {
+    printed?;
+    value_end(out.push(b'\n'))
+}
+
 // Adds the line `bad 4` of a text with this fault.
 fn add_fault(alloc: Global, fault: TextFault, out: &mut Bytes) -> Result<(), RowFault> {
     match fault {
@@ -40,40 +46,28 @@ fn add_fault(alloc: Global, fault: TextFault, out: &mut Bytes) -> Result<(), Row
 
 fn add_formula(alloc: Global, text: &[u8], out: &mut Bytes) -> Result<(), RowFault> {
     match parse_formula(alloc, text) {
-        Ok(formula) => {
-            value_end(print_formula(&formula, out))?;
-            value_end(out.push(b'\n'))
-        }
+        Ok(formula) => end_line(print_formula(&formula, out), out),
         Err(fault) => add_fault(alloc, fault, out),
     }
 }
 
 fn add_statement(alloc: Global, text: &[u8], out: &mut Bytes) -> Result<(), RowFault> {
     match parse_statement(alloc, text) {
-        Ok(statement) => {
-            value_end(print_statement(&statement, out))?;
-            value_end(out.push(b'\n'))
-        }
+        Ok(statement) => end_line(print_statement(&statement, out), out),
         Err(fault) => add_fault(alloc, fault, out),
     }
 }
 
 fn add_proof(alloc: Global, text: &[u8], out: &mut Bytes) -> Result<(), RowFault> {
     match parse_proof(alloc, text) {
-        Ok(proof) => {
-            value_end(print_proof(&proof, out))?;
-            value_end(out.push(b'\n'))
-        }
+        Ok(proof) => end_line(print_proof(&proof, out), out),
         Err(fault) => add_fault(alloc, fault, out),
     }
 }
 
 fn add_time(alloc: Global, text: &[u8], out: &mut Bytes) -> Result<(), RowFault> {
     match parse_time(text) {
-        Ok(time) => {
-            value_end(print_term(&Term::Time(time), out))?;
-            value_end(out.push(b'\n'))
-        }
+        Ok(time) => end_line(print_term(&Term::Time(time), out), out),
         Err(fault) => add_fault(alloc, fault, out),
     }
 }
@@ -91,10 +85,7 @@ fn bytes_of(alloc: Global, word: &str) -> Result<Bytes, RowFault> {
 fn add_written(alloc: Global, word: &str, out: &mut Bytes) -> Result<(), RowFault> {
     let bytes = bytes_of(alloc, word)?;
     match read_formula(alloc, bytes.as_slice()) {
-        Ok((formula, _)) => {
-            value_end(print_formula(&formula, out))?;
-            value_end(out.push(b'\n'))
-        }
+        Ok((formula, _)) => end_line(print_formula(&formula, out), out),
         Err(_) => Err(RowFault::BadRow),
     }
 }
@@ -222,6 +213,20 @@ fn proof_of(alloc: Global, word: &str) -> Result<ProofTree, RowFault> {
     }
 }
 
+// Adds what the proof says of the statement of these bytes.
+fn add_judged_from(
+    alloc: Global,
+    statement: &str,
+    goal: &Goal,
+    proof: &ProofTree,
+    out: &mut Bytes,
+) -> Result<(), RowFault> {
+    match cites_of(alloc, statement) {
+        Ok(cites) => add_both(alloc, &cites, goal, proof, out),
+        Err(fault) => Err(fault),
+    }
+}
+
 // Adds what the proof of these bytes says of the statement of these bytes: that alice may write in node 1.
 fn add_judged(alloc: Global, text: &str, out: &mut Bytes) -> Result<(), RowFault> {
     let (statement, proof) = parts_at(text, ' ')?;
@@ -232,10 +237,7 @@ fn add_judged(alloc: Global, text: &str, out: &mut Bytes) -> Result<(), RowFault
         perm: Perm::Write,
     };
     match proof_of(alloc, proof) {
-        Ok(proof) => match cites_of(alloc, statement) {
-            Ok(cites) => add_both(alloc, &cites, &goal, &proof, out),
-            Err(fault) => Err(fault),
-        },
+        Ok(proof) => add_judged_from(alloc, statement, &goal, &proof, out),
         Err(fault) => Err(fault),
     }
 }
