@@ -14,7 +14,7 @@ mod verify_line;
 mod words;
 
 use crate::help::{HELP, VERSION};
-use crate::reading::{FileFault, put_file_fault, read_facts, read_statements};
+use crate::reading::{FileFault, read_facts, read_statements};
 use crate::remarks::{put_cause, put_grant, put_suggestion};
 use crate::verify_line::{VerifyLine, line_of};
 use crate::words::{Task, Wish, WordFault, put_word_fault, wish_of};
@@ -118,14 +118,13 @@ fn bytes_of<R: Files + Eprint + AllocGlobal>(rt: &R, path: &str) -> Result<Bytes
 }
 
 // Says which line of a file is wrong, and how.
-fn refuse_file<R: Eprint + AllocGlobal>(rt: &R, path: &str, fault: FileFault) -> Stop {
-    let mut text = Bytes::new(rt.alloc());
-    match put_file_fault(&mut text, path, fault) {
-        Ok(true) => {
-            remark(rt, &text);
+fn refuse_file<R: Eprint>(rt: &R, path: &str, fault: FileFault) -> Stop {
+    match fault {
+        FileFault::Bad(_, _) => {
+            let _ = eprintln!(rt; "pcfs-prove: {path} {fault}");
             Stop::Status(BAD_LINE)
         }
-        _ => Stop::NoMemory,
+        FileFault::NoMemory => Stop::NoMemory,
     }
 }
 

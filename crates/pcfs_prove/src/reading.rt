@@ -2,29 +2,34 @@
 
 ghost use Rattle.std.specs.Prelude.{◌≤◌, length, IfSome};
 
-use bl_syntax::decimal::{put_counted, put_text};
-use bl_syntax::{Bytes, Formula, NoMemory, StatePred, StatePreds, is_state_condition};
+use bl_syntax::{Formula, NoMemory, StatePred, StatePreds, is_state_condition};
 use bl_text::{TextFault, parse_formula, parse_statement};
 use line_text::first_line;
 use line_words::numerals;
 use proof_verifier::Cite;
 use std::alloc::Global;
+use thiserror::Error;
 
 /// What is wrong with a line.
-#[derive(Clone, Copy)]
+#[derive(Clone, Copy, Debug, Error)]
 pub enum LineFault {
     /// It does not begin with a number that is greater than those before, and a space.
+    #[error("wanted a number greater than the last, a space and a statement")]
     BadNumber,
     /// Its text has this fault, at its place in the line.
-    BadText(TextFault, usize),
+    #[error("{0}")]
+    BadText(TextFault),
     /// It is no predicate on the state without variables.
+    #[error("wanted a predicate on the state, as owner(#1,admin)")]
     NoFact,
 }
 
 /// Why a file is not taken: the line of this number is wrong; or there was no memory.
-#[derive(Clone, Copy)]
+#[derive(Clone, Copy, Debug, Error)]
 pub enum FileFault {
+    #[error("line {0}: {1}")]
     Bad(usize, LineFault),
+    #[error("out of memory")]
     NoMemory,
 }
 
@@ -57,10 +62,22 @@ fn leading_number(line: &[u8]) -> Option<(u32, usize)>
     None
 }
 
+// The fault at its place in the line, if so many bytes come before its text.
+fn placed(fault: TextFault, before: usize) -> TextFault {
+    match fault {
+        TextFault::Unexpected(at) => TextFault::Unexpected(at.saturating_add(before)),
+        TextFault::UnknownName(at) => TextFault::UnknownName(at.saturating_add(before)),
+        TextFault::BadDate(at) => TextFault::BadDate(at.saturating_add(before)),
+        TextFault::Sort(at) => TextFault::Sort(at.saturating_add(before)),
+        TextFault::TooLarge(at) => TextFault::TooLarge(at.saturating_add(before)),
+        TextFault::NoMemory => TextFault::NoMemory,
+    }
+}
+
 fn text_fault(number: usize, fault: TextFault, before: usize) -> FileFault {
     match fault {
         TextFault::NoMemory => FileFault::NoMemory,
-        _ => FileFault::Bad(number, LineFault::BadText(fault, before)),
+        _ => FileFault::Bad(number, LineFault::BadText(placed(fault, before))),
     }
 }
 
@@ -136,43 +153,4 @@ pub fn read_facts(alloc: Global, bytes: &[u8]) -> Result<StatePreds, FileFault> 
         facts.extend(&[fact])?;
     }
     Ok(facts)
-}
-
-fn put_text_fault(out: &mut Bytes, fault: TextFault, before: usize) -> Result<(), NoMemory> {
-    let (place, what) = match fault {
-        TextFault::Unexpected(at) => (at, "this is not expected here"),
-        TextFault::UnknownName(at) => (at, "no variable has this name"),
-        TextFault::BadDate(at) => (at, "no such date"),
-        TextFault::Sort(at) => (at, "this is of another sort than is wanted here"),
-        TextFault::TooLarge(at) => (at, "the text is too large from here on"),
-        TextFault::NoMemory => (0, "out of memory"),
-    };
-    put_counted(out, " byte ", place.saturating_add(before) as u64)?;
-    put_text(out, ": ")?;
-    put_text(out, what)
-}
-
-fn put_line_fault(out: &mut Bytes, fault: LineFault) -> Result<(), NoMemory> {
-    match fault {
-        LineFault::BadNumber => put_text(
-            out,
-            ": wanted a number greater than the last, a space and a statement",
-        ),
-        LineFault::BadText(fault, before) => put_text_fault(out, fault, before),
-        LineFault::NoFact => put_text(out, ": wanted a predicate on the state, as owner(#1,admin)"),
-    }
-}
-
-/// Writes which line of a file is wrong, and how. False, if there was no memory.
-pub fn put_file_fault(out: &mut Bytes, path: &str, fault: FileFault) -> Result<bool, NoMemory> {
-    match fault {
-        FileFault::Bad(number, fault) => {
-            put_text(out, "pcfs-prove: ")?;
-            put_text(out, path)?;
-            put_counted(out, " line ", number as u64)?;
-            put_line_fault(out, fault)?;
-            Ok(true)
-        }
-        FileFault::NoMemory => Ok(false),
-    }
 }
