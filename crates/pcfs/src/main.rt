@@ -6,8 +6,8 @@
 //! It ends with the status that `pcfs_run::run` returns, or with 19, if the secrets file is bad or cannot be read. If there is
 //! no memory for its words or its secrets, that is 9. Words that are not UTF-8 count as none. The secrets stand in the file
 //! `pcfs.secrets` of the current folder; if there is no such file, the key of the seal is empty and nobody has a key to
-//! sign with. A status of `run` other than 0 is reported on the standard error, and before it each error of the system with
-//! the name of what it met.
+//! sign with. A status of `run` other than 0 is reported on the standard error, with the fault that it stands for if it is that
+//! of one alone, and before it each error of the system with the name of what it met.
 //!
 //! A sync of an area that failed leaves the file `pcfs.fault`. While it is there the store is not opened but by
 //! `pcfs checkpoint` and `pcfs init`, which write the whole state anew, and then remove it.
@@ -22,6 +22,7 @@ use log::{Log, warn};
 use pcfs_ports::{StdSink, StdSource, SystemClock, TakeFault, TcpPort, UrandomNonces, read_to_end};
 use pcfs_run::run;
 use pcfs_secrets::{SecretFault, Secrets};
+use recover::OpenFault;
 use std::fs::File;
 use std::io::{self, Eprint, ErrorKind};
 use std::process::ExitCode;
@@ -34,7 +35,10 @@ const DONE: u8 = 0;
 /// Neither area is open.
 const NO_STORE: u8 = 4;
 
-/// There was no memory for the words or the secrets.
+/// A disk failed.
+const DISK_FAULT: u8 = 5;
+
+/// There was no memory.
 const OUT_OF_MEMORY: u8 = 9;
 
 /// The secrets file is bad, or cannot be read.
@@ -64,11 +68,7 @@ enum Lacking {
 
 // The words after the program's name.
 fn words_of<R: env::Env + AllocGlobal>(rt: &R) -> io::Result<Vec<String>> {
-    let mut words = Vec::new(rt.alloc());
-    for word in env::args(rt)?.skip(1) {
-        words.push(word)?;
-    }
-    Ok(words)
+    Ok(env::args(rt)?.skip(1).collect(rt.alloc())?)
 }
 
 // The bytes of the secrets file; none if there is no such file.
@@ -146,10 +146,82 @@ fn unmark<R: Files<File = File> + Eprint>(rt: &R) {
     }
 }
 
-// Reports a status other than 0 in one line on the standard error. A line that cannot be written is dropped.
+// The fault that a status stands for, if it is that of one alone.
+fn fault_of(status: u8) -> Option<OpenFault> {
+    match status {
+        NO_STORE => Some(OpenFault::NoStore),
+        DISK_FAULT => Some(OpenFault::Disk),
+        OUT_OF_MEMORY => Some(OpenFault::NoMemory),
+        _ => None,
+    }
+}
+
+// Reports a status other than 0 in one line on the standard error, with its fault in words. A line that cannot be written is
+// dropped.
 fn report<R: Log>(rt: &R, status: u8) {
-    if status != 0 {
-        warn!(rt; "status {status}");
+    if status == DONE {
+        return;
+    }
+    match fault_of(status) {
+        Some(fault) => warn!(rt; "status {status}: {fault}"),
+        None => warn!(rt; "status {status}"),
+    }
+}
+
+// Does and reports what is left after a run that ended with this status.
+fn end_run(rt: &HostRuntime, is_remedy: bool, status: u8) {
+    if is_remedy && status == DONE {
+        unmark(rt);
+    }
+    if status == NO_STORE {
+        write_no_store(rt);
+    }
+    report(rt, status);
+}
+
+// Runs the program with these words and secrets, and returns the status to end with.
+fn run_under(rt: &HostRuntime, words: &Vec<String>, secrets: &Secrets) -> u8 {
+    let mut input = StdSource::new(Named::new(rt, "standard input", rt.reader()));
+    let mut output = StdSink::new(Named::new(rt, "standard output", io::writer(rt)));
+    let is_remedy = are_remedy(words);
+    let a = FileDisk::marked(rt, FIRST_FILE, FAULT_MARK, is_remedy);
+    let b = FileDisk::marked(rt, SECOND_FILE, FAULT_MARK, is_remedy);
+    let clock = SystemClock::new(rt);
+    let mut net = TcpPort::new(rt);
+    let mut nonces = UrandomNonces::new(rt);
+    let ended = run(
+        rt,
+        rt.alloc(),
+        words,
+        secrets,
+        &mut input,
+        &mut output,
+        a,
+        b,
+        &clock,
+        &mut net,
+        &mut nonces,
+    );
+    end_run(rt, is_remedy, ended.status);
+    ended.status
+}
+
+// Runs the program with these words, and returns the status to end with.
+fn run_words(rt: &HostRuntime, words: &Vec<String>) -> u8 {
+    match secrets_of(rt) {
+        Ok(secrets) => run_under(rt, words, &secrets),
+        Err(lacking) => refuse(rt, lacking),
+    }
+}
+
+// Runs the program, and returns the status to end with.
+fn run_given(rt: &HostRuntime) -> u8 {
+    match words_of(rt) {
+        Ok(words) => run_words(rt, &words),
+        Err(fault) => match fault.kind() {
+            ErrorKind::OutOfMemory => OUT_OF_MEMORY,
+            _ => run_words(rt, &Vec::new(rt.alloc())),
+        },
     }
 }
 
@@ -159,44 +231,5 @@ fn main(rt: HostRuntime) -> ExitCode {
     let _first = fs::open(&rt, "/");
     let _second = fs::open(&rt, "/");
     let _third = fs::open(&rt, "/");
-    let words = match words_of(&rt) {
-        Ok(words) => words,
-        Err(fault) if fault.kind() == ErrorKind::OutOfMemory => return ExitCode::from(
-            OUT_OF_MEMORY,
-        ),
-        Err(_) => Vec::new(rt.alloc()),
-    };
-    let secrets = match secrets_of(&rt) {
-        Ok(secrets) => secrets,
-        Err(lacking) => return ExitCode::from(refuse(&rt, lacking)),
-    };
-    let mut input = StdSource::new(Named::new(&rt, "standard input", rt.reader()));
-    let mut output = StdSink::new(Named::new(&rt, "standard output", io::writer(&rt)));
-    let is_remedy = are_remedy(&words);
-    let a = FileDisk::marked(&rt, FIRST_FILE, FAULT_MARK, is_remedy);
-    let b = FileDisk::marked(&rt, SECOND_FILE, FAULT_MARK, is_remedy);
-    let clock = SystemClock::new(&rt);
-    let mut net = TcpPort::new(&rt);
-    let mut nonces = UrandomNonces::new(&rt);
-    let ended = run(
-        &rt,
-        rt.alloc(),
-        &words,
-        &secrets,
-        &mut input,
-        &mut output,
-        a,
-        b,
-        &clock,
-        &mut net,
-        &mut nonces,
-    );
-    if is_remedy && ended.status == DONE {
-        unmark(&rt);
-    }
-    if ended.status == NO_STORE {
-        write_no_store(&rt);
-    }
-    report(&rt, ended.status);
-    ExitCode::from(ended.status)
+    ExitCode::from(run_given(&rt))
 }
