@@ -17,12 +17,13 @@ use crate::help::{HELP, VERSION};
 use crate::reading::{FileFault, read_facts, read_statements};
 use crate::remarks::{put_cause, put_grant, put_suggestion};
 use crate::verify_line::{VerifyLine, line_of};
-use crate::words::{Task, Wish, WordFault, put_word_fault, wish_of};
+use crate::words::{Task, Wish, WordFault, wish_of};
 use bl_syntax::{Bytes, NoMemory, StatePreds};
 use pcfs_ports::{Clock, StdSink, StdSource, SystemClock, read_to_end, write_all};
-use proof_search::{Answer, Asked, Cause, Moments, find_missing, find_proof};
+use proof_search::{Answer, Asked, Cause, Moments, Proved, find_missing, find_proof};
 use proof_verifier::Cite;
-use std::io::{self, ErrorKind};
+use std::alloc::Global;
+use std::io::{self, ErrorKind, Read};
 use std::process::ExitCode;
 use std::rt::{Files, Runtime};
 use std::{env, fs};
@@ -52,7 +53,7 @@ const WRITE_FAULT: u8 = 6;
 const OUT_OF_MEMORY: u8 = 9;
 
 /// Why the run ends early.
-#[derive(Debug, Drop)]
+#[derive(Clone, Copy, Debug)]
 enum Stop {
     /// With this status, and nothing more to say.
     Status(u8),
@@ -82,38 +83,52 @@ fn remark<R: Eprint>(rt: &R, text: &Bytes) {
 }
 
 // The words after the program's name.
-fn words_of<R: env::Env + AllocGlobal>(rt: &R) -> Result<Vec<String>, Stop> {
-    let mut words = Vec::new(rt.alloc());
-    let given = match env::args(rt) {
-        Ok(given) => given,
-        Err(fault) if fault.kind() == ErrorKind::OutOfMemory => return Err(Stop::NoMemory),
-        Err(_) => return Ok(words),
-    };
-    for word in given.skip(1) {
-        match words.push(word) {
-            Ok(()) => {}
-            Err(_) => return Err(Stop::NoMemory),
-        }
-    }
-    Ok(words)
+fn given_words<R: env::Env + AllocGlobal>(rt: &R) -> io::Result<Vec<String>> {
+    Ok(env::args(rt)?.skip(1).collect(rt.alloc())?)
 }
 
-// The bytes of a file.
-fn bytes_of<R: Files + Eprint + AllocGlobal>(rt: &R, path: &str) -> Result<Bytes, Stop> {
-    let file = match fs::open(rt, path) {
-        Ok(file) => file,
-        Err(fault) if fault.kind() == ErrorKind::OutOfMemory => return Err(Stop::NoMemory),
-        Err(_) => {
+// The words after the program's name; none if they cannot be read.
+fn words_of<R: env::Env + AllocGlobal>(rt: &R) -> Result<Vec<String>, Stop> {
+    match given_words(rt) {
+        Ok(words) => Ok(words),
+        Err(fault) => match fault.kind() {
+            ErrorKind::OutOfMemory => Err(Stop::NoMemory),
+            _ => Ok(Vec::new(rt.alloc())),
+        },
+    }
+}
+
+// Says that a file cannot be read, unless there was no memory.
+fn refuse_open<R: Eprint>(rt: &R, path: &str, kind: ErrorKind) -> Stop {
+    match kind {
+        ErrorKind::OutOfMemory => Stop::NoMemory,
+        _ => {
             let _ = eprintln!(rt; "pcfs-prove: {path}: cannot be read");
-            return Err(Stop::Status(UNREADABLE));
+            Stop::Status(UNREADABLE)
         }
-    };
+    }
+}
+
+// The bytes of an open file.
+fn bytes_in<R: Eprint + AllocGlobal, F: Read + Drop>(
+    rt: &R,
+    path: &str,
+    file: F,
+) -> Result<Bytes, Stop> {
     match read_to_end(rt.alloc(), &mut StdSource::new(file)) {
         Ok(bytes) => Ok(bytes),
         Err(_) => {
             let _ = eprintln!(rt; "pcfs-prove: {path}: cannot be read to its end");
             Err(Stop::Status(UNREADABLE))
         }
+    }
+}
+
+// The bytes of a file.
+fn bytes_of<R: Files + Eprint + AllocGlobal>(rt: &R, path: &str) -> Result<Bytes, Stop> {
+    match fs::open(rt, path) {
+        Ok(file) => bytes_in(rt, path, file),
+        Err(fault) => Err(refuse_open(rt, path, fault.kind())),
     }
 }
 
@@ -136,11 +151,7 @@ fn statements_of<R: Files + Eprint + AllocGlobal>(rt: &R, path: &str) -> Result<
     }
 }
 
-fn facts_of<R: Files + Eprint + AllocGlobal>(rt: &R, task: &Task) -> Result<StatePreds, Stop> {
-    let path = match &task.facts {
-        Some(path) => path.as_str(),
-        None => return Ok(StatePreds::new(rt.alloc())),
-    };
+fn facts_in<R: Files + Eprint + AllocGlobal>(rt: &R, path: &str) -> Result<StatePreds, Stop> {
     let bytes = bytes_of(rt, path)?;
     match read_facts(rt.alloc(), bytes.as_slice()) {
         Ok(facts) => Ok(facts),
@@ -148,8 +159,18 @@ fn facts_of<R: Files + Eprint + AllocGlobal>(rt: &R, task: &Task) -> Result<Stat
     }
 }
 
+fn facts_of<R: Files + Eprint + AllocGlobal>(
+    rt: &R,
+    path: Option<&str>,
+) -> Result<StatePreds, Stop> {
+    match path {
+        Some(path) => facts_in(rt, path),
+        None => Ok(StatePreds::new(rt.alloc())),
+    }
+}
+
 // When the conditions have to hold: from the first moment that was asked for, or from now, to the last one.
-fn moments_of<R: std::rt::Clock>(rt: &R, task: &Task) -> Moments {
+fn moments_of<R: std::rt::Clock>(rt: &R, task: &Task<'_>) -> Moments {
     if task.any {
         return Moments::Some;
     }
@@ -163,16 +184,56 @@ fn moments_of<R: std::rt::Clock>(rt: &R, task: &Task) -> Moments {
     }
 }
 
+// Adds the line with its end.
+fn add_line(told: &VerifyLine, out: &mut Bytes) -> Result<(), NoMemory> {
+    out.extend(told.line.as_slice())?;
+    out.push(b'\n')
+}
+
+// Writes the line.
+fn put_line<R: Print + AllocGlobal>(rt: &R, told: &VerifyLine) -> Result<(), Stop> {
+    let mut line = Bytes::new(rt.alloc());
+    match add_line(told, &mut line) {
+        Ok(()) => put_out(rt, line.as_slice()),
+        Err(_) => Err(Stop::NoMemory),
+    }
+}
+
 // Writes the line, and what its grant is worth.
 fn write_found<R: Print + Eprint + AllocGlobal>(rt: &R, told: &VerifyLine) -> Result<u8, Stop> {
-    let mut line = Bytes::new(rt.alloc());
-    line.extend(told.line.as_slice())?;
-    line.push(b'\n')?;
-    put_out(rt, line.as_slice())?;
+    put_line(rt, told)?;
     let mut text = Bytes::new(rt.alloc());
-    put_grant(&mut text, told.proved.checked.grant())?;
-    remark(rt, &text);
-    Ok(FOUND)
+    match put_grant(&mut text, told.proved.checked.grant()) {
+        Ok(()) => {
+            remark(rt, &text);
+            Ok(FOUND)
+        }
+        Err(_) => Err(Stop::NoMemory),
+    }
+}
+
+// Adds why there is no proof, and what is missing.
+fn put_missing(
+    alloc: Global,
+    out: &mut Bytes,
+    statements: &Vec<Cite>,
+    asked: &Asked,
+    cause: Cause,
+    steps: u64,
+) -> Result<(), NoMemory> {
+    put_cause(out, cause)?;
+    match find_missing(alloc, statements.as_slice(), asked, steps)? {
+        Some(suggestion) => put_suggestion(out, &suggestion),
+        None => Ok(()),
+    }
+}
+
+// The status if there is no proof.
+fn status_of(cause: Cause) -> u8 {
+    match cause {
+        Cause::Exhausted => NONE,
+        _ => LIMITS,
+    }
 }
 
 // Says why there is no proof, and what is missing.
@@ -184,51 +245,74 @@ fn write_missing<R: Eprint + AllocGlobal>(
     steps: u64,
 ) -> Result<u8, Stop> {
     let mut text = Bytes::new(rt.alloc());
-    put_cause(&mut text, cause)?;
-    match find_missing(rt.alloc(), statements.as_slice(), asked, steps)? {
-        Some(suggestion) => put_suggestion(&mut text, &suggestion)?,
-        None => {}
-    }
-    remark(rt, &text);
-    match cause {
-        Cause::Exhausted => Ok(NONE),
-        _ => Ok(LIMITS),
+    match put_missing(rt.alloc(), &mut text, statements, asked, cause, steps) {
+        Ok(()) => {
+            remark(rt, &text);
+            Ok(status_of(cause))
+        }
+        Err(_) => Err(Stop::NoMemory),
     }
 }
 
-fn prove<R: Runtime + AllocGlobal>(rt: &R, task: &Task) -> Result<u8, Stop> {
-    let statements = statements_of(rt, task.statements.as_str())?;
+// Writes the line of a proof; that there is none within the limits, if it does not read back.
+fn write_proved<R: Print + Eprint + AllocGlobal>(
+    rt: &R,
+    statements: &Vec<Cite>,
+    asked: &Asked,
+    proved: &Proved,
+    steps: u64,
+) -> Result<u8, Stop> {
+    match line_of(rt.alloc(), statements.as_slice(), asked, proved)? {
+        Some(told) => write_found(rt, &told),
+        None => write_missing(rt, statements, asked, Cause::Refused, steps),
+    }
+}
+
+// Finds a proof, and writes what was found.
+fn prove_asked<R: Print + Eprint + AllocGlobal>(
+    rt: &R,
+    statements: &Vec<Cite>,
+    asked: &Asked,
+    steps: u64,
+) -> Result<u8, Stop> {
+    match find_proof(rt.alloc(), statements.as_slice(), asked, steps)? {
+        Answer::Found(proved) => write_proved(rt, statements, asked, &proved, steps),
+        Answer::NotFound(cause) => write_missing(rt, statements, asked, cause, steps),
+    }
+}
+
+fn prove_from<R: Runtime + AllocGlobal>(
+    rt: &R,
+    task: &Task<'_>,
+    statements: &Vec<Cite>,
+) -> Result<u8, Stop> {
+    let facts = facts_of(rt, task.facts)?;
     let asked = Asked {
         goal: task.goal,
         moments: moments_of(rt, task),
-        facts: facts_of(rt, task)?,
+        facts,
         leaves: !task.known,
     };
-    match find_proof(rt.alloc(), statements.as_slice(), &asked, task.steps)? {
-        Answer::Found(proved) => match line_of(
-            rt.alloc(),
-            statements.as_slice(),
-            &asked,
-            &proved,
-        )? {
-            Some(told) => write_found(rt, &told),
-            None => write_missing(rt, &statements, &asked, Cause::Refused, task.steps),
-        },
-        Answer::NotFound(cause) => write_missing(rt, &statements, &asked, cause, task.steps),
-    }
+    prove_asked(rt, statements, &asked, task.steps)
 }
 
-// Says which word is wrong, and how.
-fn refuse_words<R: Eprint + AllocGlobal>(rt: &R, fault: &WordFault) -> Result<u8, Stop> {
-    let mut text = Bytes::new(rt.alloc());
-    put_word_fault(&mut text, fault)?;
-    remark(rt, &text);
-    Ok(BAD_WORDS)
+fn prove<R: Runtime + AllocGlobal>(rt: &R, task: &Task<'_>) -> Result<u8, Stop> {
+    let statements = statements_of(rt, task.statements)?;
+    prove_from(rt, task, &statements)
 }
 
-fn run<R: Runtime + AllocGlobal>(rt: &R) -> Result<u8, Stop> {
-    let words = words_of(rt)?;
-    match wish_of(rt.alloc(), &words)? {
+// Says which word is wrong, and how. If that cannot be written, it is dropped.
+fn refuse_words<R: Eprint>(rt: &R, fault: WordFault<'_>) -> u8 {
+    let _ = match fault {
+        WordFault::Lacks(wanted) => eprintln!(rt; "pcfs-prove: wanted {wanted}"),
+        WordFault::Wrong(word, wanted) => eprintln!(rt; "pcfs-prove: {word}: wanted {wanted}"),
+    };
+    BAD_WORDS
+}
+
+// Does what the words ask for.
+fn fulfil<R: Runtime + AllocGlobal>(rt: &R, wish: &Wish<'_>) -> Result<u8, Stop> {
+    match wish {
         Wish::Help => {
             put_out(rt, HELP.as_bytes())?;
             Ok(FOUND)
@@ -237,8 +321,16 @@ fn run<R: Runtime + AllocGlobal>(rt: &R) -> Result<u8, Stop> {
             put_out(rt, VERSION.as_bytes())?;
             Ok(FOUND)
         }
-        Wish::Prove(task) => prove(rt, &task),
-        Wish::Bad(fault) => refuse_words(rt, &fault),
+        Wish::Prove(task) => prove(rt, task),
+        Wish::Bad(fault) => Ok(refuse_words(rt, *fault)),
+    }
+}
+
+fn run<R: Runtime + AllocGlobal>(rt: &R) -> Result<u8, Stop> {
+    let words = words_of(rt)?;
+    match wish_of(rt.alloc(), &words) {
+        Ok(wish) => fulfil(rt, &wish),
+        Err(_) => Err(Stop::NoMemory),
     }
 }
 

@@ -11,7 +11,7 @@ mod rows;
 mod short_form;
 mod values;
 
-use bl_syntax::{Bytes, NoMemory};
+use bl_syntax::Bytes;
 use pcfs_ports::{StdSink, write_all};
 use rows::run_rows;
 use std::io::{self, ErrorKind};
@@ -22,7 +22,7 @@ use std::thread::Threads;
 use std::{env, fs};
 
 /// Why the files were not all run.
-#[derive(Debug, Drop)]
+#[derive(Clone, Copy, Debug)]
 enum Stop {
     /// A file or the words cannot be read, or the output failed.
     Failed,
@@ -39,17 +39,24 @@ impl From<io::Error> for Stop {
     }
 }
 
-impl From<NoMemory> for Stop {
-    fn from(_refused: NoMemory) -> Stop {
-        Stop::NoMemory
+// Writes what was found to the standard output, and returns whether all agree.
+fn write_out<R: Print>(rt: &R, text: &[u8], agree: bool) -> Result<bool, Stop> {
+    match write_all(&mut StdSink::new(io::writer(rt)), text) {
+        Ok(()) => Ok(agree),
+        Err(_) => Err(Stop::Failed),
     }
 }
 
-// Writes what was found to the standard output.
-fn write_out<R: Print>(rt: &R, text: &[u8]) -> Result<(), Stop> {
-    match write_all(&mut StdSink::new(io::writer(rt)), text) {
-        Ok(()) => Ok(()),
-        Err(_) => Err(Stop::Failed),
+// Runs the cases of these rows, and returns whether they all agree.
+fn run_text<R: Print + Threads + Wait + Sync + AllocGlobal>(
+    rt: &R,
+    name: &str,
+    rows: &str,
+) -> Result<bool, Stop> {
+    let mut report = Bytes::new(rt.alloc());
+    match run_rows(rt, name, rows, &mut report) {
+        Ok(agree) => write_out(rt, report.as_slice(), agree),
+        Err(_) => Err(Stop::NoMemory),
     }
 }
 
@@ -59,21 +66,32 @@ fn run_file<R: Files + Print + Threads + Wait + Sync + AllocGlobal>(
     name: &str,
 ) -> Result<bool, Stop> {
     let rows = fs::read_to_string(rt, name)?;
-    let mut report = Bytes::new(rt.alloc());
-    let agrees = run_rows(rt, name, rows.as_str(), &mut report)?;
-    write_out(rt, report.as_slice())?;
-    Ok(agrees)
+    run_text(rt, name, rows.as_str())
+}
+
+// The words after the program's name.
+fn given_words<R: env::Env + AllocGlobal>(rt: &R) -> io::Result<Vec<String>> {
+    Ok(env::args(rt)?.skip(1).collect(rt.alloc())?)
+}
+
+// Runs the files of these names, and returns whether all cases agree.
+fn run_named<R: Files + Print + Threads + Wait + Sync + AllocGlobal>(
+    rt: &R,
+    names: &Vec<String>,
+) -> Result<bool, Stop> {
+    let mut agree = true;
+    for name in names.as_slice() {
+        agree &= run_file(rt, name.as_str())?;
+    }
+    Ok(agree)
 }
 
 // Runs the files that the words name, and returns whether all cases agree.
 fn run_files<R: env::Env + Files + Print + Threads + Wait + Sync + AllocGlobal>(
     rt: &R,
 ) -> Result<bool, Stop> {
-    let mut agree = true;
-    for name in env::args(rt)?.skip(1) {
-        agree &= run_file(rt, name.as_str())?;
-    }
-    Ok(agree)
+    let names = given_words(rt)?;
+    run_named(rt, &names)
 }
 
 fn main(rt: HostRuntime) -> ExitCode {
