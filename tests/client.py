@@ -596,7 +596,7 @@ def refusals(world):
         "denied 1 principal at 9": "was won for another principal",
         "denied 1 hunger at 9": "by a cause that this client does not know: hunger",
         "refused 14 at 9": "does not know: refused 14",
-        "bad 4 3 36": "the text is wrong at byte 36: no such date",
+        "bad 4 3 36": "the text is wrong: at byte 36, there is no such date or time of day",
     }
     for reply, words in wanted.items():
         ran = replied(world, reply, "mkdir", "/x")
@@ -676,7 +676,7 @@ def signed(world):
     world.logs_in("carol", ["admin says may(carol,#1,write) from 0 to +inf"])
     number = world.does("carol", "statements").decode().split(" ")[0]
     world.does("carol", "prove", "write", "/", "--line", f"verify carol #1 write {number} saysR(claim(0,init(1)))", )
-    world.fails(1, "the server does not accept the proof to write /: rule 2 of it uses a rule on a formula", "carol", "prove", "write", "/", "--line", f"verify carol #1 write {number} saysR(claim(0,trueR))")
+    world.fails(1, "the server does not accept the proof to write /: at node 2, the goal or the hypothesis has not the form", "carol", "prove", "write", "/", "--line", f"verify carol #1 write {number} saysR(claim(0,trueR))")
     told = world.does("carol", "procaps").decode()
     word = (world.home("carol") / "procaps").read_text().split(" ")[-1].strip()
     want("one procap", told.count("\n") == 1 and "write #1 /" in told, told)

@@ -2,9 +2,11 @@
 
 use crate::reply::{Reply, reply_of};
 use bl_syntax::{NoMemory, Perm};
+use bl_text::TextFault;
 use client_words::{
     NO_LOGIN, NO_RIGHT, NO_SERVER, REFUSED, Refusal, SERVER_FAILS, Stop, put_quoted,
 };
+use proof_verifier::CheckFault;
 use std::alloc::Global;
 
 /// The most letters of a reply that are shown.
@@ -147,21 +149,24 @@ pub fn not_registered(alloc: Global, line: &str) -> Stop {
     }
 }
 
-fn text_fault(cause: u64) -> Option<&'static str> {
-    match cause {
-        1 => Some("this is not expected here"),
-        2 => Some("no variable, sort or rule has this name"),
-        3 => Some("no such date"),
-        4 => Some("this is of another sort than is wanted here"),
-        5 => Some("the text is too large from here on"),
+// The fault of a text that has this number in a reply, at this byte of the text.
+fn text_fault(number: u64, byte: u64) -> Option<TextFault> {
+    let at = match usize::try_from(byte) {
+        Ok(at) => at,
+        Err(_) => return None,
+    };
+    match number {
+        1 => Some(TextFault::Unexpected(at)),
+        2 => Some(TextFault::UnknownName(at)),
+        3 => Some(TextFault::BadDate(at)),
+        4 => Some(TextFault::Sort(at)),
+        5 => Some(TextFault::TooLarge(at)),
         _ => None,
     }
 }
 
-fn bad_text_words(alloc: Global, cause: &str, place: u64) -> Result<String, NoMemory> {
-    let mut out = String::new(alloc);
-    write!(out, "the text is wrong at byte {place}: {cause}")?;
-    Ok(out)
+fn bad_text_words(alloc: Global, fault: TextFault) -> Result<String, NoMemory> {
+    Ok(format!(in alloc; "the text is wrong: {fault}")?)
 }
 
 fn other_version(alloc: Global, line: &str) -> Result<String, NoMemory> {
@@ -174,8 +179,8 @@ fn other_version(alloc: Global, line: &str) -> Result<String, NoMemory> {
 /// What a reply `bad ..` says; or that the reply has no meaning here.
 pub fn bad_reply(alloc: Global, line: &str) -> Stop {
     match reply_of(line.as_bytes()) {
-        Reply::BadText(cause, place) => match text_fault(cause) {
-            Some(cause) => stop_of(REFUSED, bad_text_words(alloc, cause, place)),
+        Reply::BadText(number, byte) => match text_fault(number, byte) {
+            Some(fault) => stop_of(REFUSED, bad_text_words(alloc, fault)),
             None => unknown_reply(alloc, line),
         },
         Reply::TooLong => ended(
@@ -188,23 +193,37 @@ pub fn bad_reply(alloc: Global, line: &str) -> Stop {
     }
 }
 
-fn proof_fault(fault: u64) -> Option<&'static str> {
-    match fault {
-        1 => Some("cites what is no hypothesis there"),
-        2 => Some("uses a rule on a formula of another shape"),
-        3 => Some("takes an order of times that does not follow"),
-        4 => Some("asks a fact of the state for more than one file or user"),
-        5 => Some("cites what somebody says whose word does not count there"),
-        6 => Some("has a term of another sort"),
-        7 => Some("leaves more than 64 conditions"),
+// The fault of a proof that has this number in a reply, at this node of the proof.
+fn proof_fault(number: u64, node: u64) -> Option<CheckFault> {
+    let at = match usize::try_from(node) {
+        Ok(at) => at,
+        Err(_) => return None,
+    };
+    match number {
+        1 => Some(CheckFault::NoHypothesis(at)),
+        2 => Some(CheckFault::WrongShape(at)),
+        3 => Some(CheckFault::NotEntailed(at)),
+        4 => Some(CheckFault::NotInState(at)),
+        5 => Some(CheckFault::ViewTooWeak(at)),
+        6 => Some(CheckFault::BadTerm(at)),
+        7 => Some(CheckFault::TooManyConditions(at)),
         _ => None,
     }
 }
 
+// Writes what a proof is refused for.
+fn put_proof_fault(out: &mut String, number: u64, node: u64) -> Result<(), NoMemory> {
+    match proof_fault(number, node) {
+        Some(fault) => write!(out, "{fault}")?,
+        None => write!(out, "at node {node}, it has the fault {number}")?,
+    }
+    Ok(())
+}
+
 fn unproved_words(
     alloc: Global,
-    fault: u64,
-    place: u64,
+    number: u64,
+    node: u64,
     permission: Perm,
     what: &str,
 ) -> Result<String, NoMemory> {
@@ -212,11 +231,8 @@ fn unproved_words(
     out.push_str(permission_name(permission))?;
     out.push(' ')?;
     out.push_str(what)?;
-    write!(out, ": rule {place} of it ")?;
-    match proof_fault(fault) {
-        Some(words) => out.push_str(words)?,
-        None => write!(out, "has the fault {fault}")?,
-    }
+    out.push_str(": ")?;
+    put_proof_fault(&mut out, number, node)?;
     Ok(out)
 }
 
@@ -239,8 +255,8 @@ fn no_right(words: Result<String, NoMemory>) -> Stop {
 /// Why a proof is not accepted.
 pub fn not_verified(alloc: Global, line: &str, permission: Perm, what: &str) -> Stop {
     match reply_of(line.as_bytes()) {
-        Reply::Unproved(fault, place) => no_right(unproved_words(
-            alloc, fault, place, permission, what,
+        Reply::Unproved(number, node) => no_right(unproved_words(
+            alloc, number, node, permission, what,
         )),
         Reply::Absent(number) => no_right(absent_words(alloc, number)),
         _ => bad_reply(alloc, line),
