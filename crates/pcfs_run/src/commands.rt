@@ -145,8 +145,8 @@ fn nine_serving_of(asked: Option<Task>) -> Option<(u16, u64)>
 /// Returns the disks and the status to end with. With `serve` and `serve9` that is 0, so many were attended or no more come,
 /// and the last line is `served` with their number; 3, 4, 7 or 9 as for `run_alone`; 5, a disk failed: `stopped`, also if the
 /// listener failed too; 8, the listener failed or there was no nonce: `netfault`. A denial, a refusal and a fault of a
-/// connection's own input or output leave the status as it is. No call of a disk failed, unless `stopped` is the last line,
-/// or was to be at 7.
+/// connection's own input or output leave the status as it is. No call of a disk failed, unless `stopped` is the last line
+/// or reply, or was to be at 7.
 pub fn run<
     R: Threads + Wait + Sync + Eprint,
     I: Source,

@@ -256,7 +256,8 @@ pub data IsUndone (words : List (String Global)) (before after : Disks) : Type 0
 -- it; an audit, the lines of its report. Memory may run out before that, and then nothing changes.
 -- At an end by a fault of the output one call of it failed, and it was the last, and at each other
 -- end none; so it is with an input that is read, and of one that is not read no call failed. Of the
--- disks none failed, but at an end at which `stopped` was the last to be written.
+-- disks none failed, but at an end at which `stopped` was to be written last: it was at 5, and may
+-- not have been at 7.
 pub data EndsWith (secrets : Secrets) (words : List (String Global)) (rests : Rests) (before after : Ports) : ℕ → Type 0 where
   in_memory : (status : ℕ) → AsksFor words Script → after.disks ≡ before.disks →
       MemoryEnds secrets before.streams after.streams after.broken status →

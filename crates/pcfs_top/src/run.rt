@@ -482,7 +482,7 @@ pub fn run_asked<R: Threads + Wait + Sync, I: Source, O: Sink, D: Disk>(
 /// what `rootsign` wrote of the lines before.
 ///
 /// Nothing is written after a write that failed, and nothing is read after a read that failed. No call of a disk failed,
-/// unless `stopped` is the last line or reply, or was to be at 7 or 9.
+/// unless `stopped` is the last line or reply, or was to be at 7.
 pub fn run_alone<R: Threads + Wait + Sync, I: Source, O: Sink, D: Disk>(
     rt: &R,
     alloc: Global,

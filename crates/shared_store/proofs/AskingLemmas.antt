@@ -43,7 +43,7 @@ module _ {D : Type 0} where
   -- the moment was one that the clock gives
   pub turned_shown : (faults : D → ℕ) (gives : List StoreEntry → ℤ → Type 0) (request : TurnRequest) (before after : OpenedView D) (pass : ℕ) (moment : ℤ) (reply : TurnReply) → gives (entries_of before.store) moment → HasTurned faults (λ _ m. m ≡ moment) request before pass after reply → HasTurned faults gives request before pass after reply
   turned_shown faults gives request before after pass moment reply shown t =
-      record { given = t.given; opening_stays = t.opening_stays; grows = t.grows; turn = turn_shown gives (pass_at before.opening pass) (entries_of before.store) request moment reply t.given shown t.turn; stops = t.stops }
+      record { given = t.given; opening_stays = t.opening_stays; grows = t.grows; turn = turn_shown gives (pass_at before.opening pass) (entries_of before.store) request moment reply t.given shown t.turn; none_failed = t.none_failed; stops = t.stops }
 
   module _ (faults : D → ℕ) (gives : List StoreEntry → ℤ → Type 0) (request : TurnRequest) where
     abbrev Done : OpenedView D → ℕ → OpenedView D → TurnReply → Type 0

@@ -28,10 +28,12 @@ use Rattle.pcfs_store.specs.StoredHistory.{IsFull}
 use Rattle.checkpoint_image.specs.ImageSpelling.{image_spelling}
 use Rattle.journal_core.specs.Area.{area_limit}
 use Rattle.pcfs_store.specs.declared.reply.CheckpointReply.{CheckpointReply}
+use Rattle.pcfs_store.specs.declared.reply.CheckpointReply.TheVariants as checkpoint_replies
 use Rattle.pcfs_store.specs.Checkpoints.{IsFullForCheckpoint, MakesCheckpoint}
 use Rattle.pcfs_store.specs.Checkpoints as makes
 use Rattle.pcfs_store.specs.Steps.{IsFullFor, Steps}
 use Rattle.pcfs_store.specs.Steps as steps
+use Rattle.pcfs_store.proofs.CountLemmas.{NoneFailed-same, NoneFailed-event, NoneFailed-checkpoint}
 use Rattle.pcfs_store.proofs.EntryLemmas.{events-entries, used-since, generation-entries, entries-kept, entries-made, entries-stopped}
 use Rattle.session_history.specs.declared.request.TurnRequest.{TurnRequest}
 use Rattle.session_history.specs.declared.request.TurnRequest.TheVariants as requests
@@ -124,6 +126,7 @@ module _ {D : Type 0} (clock : D → ℕ) (left_since : D → ℕ → List ℕ �
     opening_stays = refl;
     grows = sym (append-nil (entries_of now));
     turn = turns.answered moment (turn_replies.Step reply) (runs now (ap is_some running)) refl (turns.steps request reply None (there pass moment request reply None answers));
+    none_failed = λ runs. NoneFailed-same faults now;
     stops = λ stopper was is. none_some now.stop stopper was is;
   }
   by_step _ pass moment request _ store (steps.kept reply event active running answers room stood) = record {
@@ -131,6 +134,7 @@ module _ {D : Type 0} (clock : D → ℕ) (left_since : D → ℕ → List ℕ �
     opening_stays = refl;
     grows = entries-kept now running event active store;
     turn = turns.kept moment (turn_replies.Step reply) (happened event) (runs now (ap is_some running)) refl (turns.steps request reply (Some event) (there pass moment request reply (Some event) answers)) (λ is_full. room (full_here event store is_full));
+    none_failed = λ runs. NoneFailed-event faults now event active stood;
     stops = λ stopper was is. none_some now.stop stopper was is;
   }
   by_step _ pass moment request _ store (steps.full reply event running answers is_full) = record {
@@ -138,6 +142,7 @@ module _ {D : Type 0} (clock : D → ℕ) (left_since : D → ℕ → List ℕ �
     opening_stays = refl;
     grows = sym (append-nil (entries_of now));
     turn = turns.full moment (turn_replies.Step reply) (happened event) (runs now (ap is_some running)) refl (turns.steps request reply (Some event) (there pass moment request reply (Some event) answers)) (full_there event store is_full);
+    none_failed = λ runs. NoneFailed-same faults now;
     stops = λ stopper was is. none_some now.stop stopper was is;
   }
   by_step _ pass moment request _ store (steps.failed reply event active running answers room risen) = record {
@@ -145,6 +150,7 @@ module _ {D : Type 0} (clock : D → ℕ) (left_since : D → ℕ → List ℕ �
     opening_stays = refl;
     grows = entries-stopped now running active now.other pass (Some event);
     turn = turns.failed moment (turn_replies.Step reply) (happened event) (runs now (ap is_some running)) refl (turns.steps request reply (Some event) (there pass moment request reply (Some event) answers)) (λ is_full. room (full_here event store is_full));
+    none_failed = λ runs. none_some (Some pass) pass runs refl;
     stops = λ stopper was is. (one_pass pass stopper is, risen);
   }
   by_step _ pass moment request _ store (steps.stopped earlier is) = record {
@@ -152,9 +158,17 @@ module _ {D : Type 0} (clock : D → ℕ) (left_since : D → ℕ → List ℕ �
     opening_stays = refl;
     grows = sym (append-nil (entries_of now));
     turn = turns.was_stopped (stands now (ap is_some is));
+    none_failed = λ runs. NoneFailed-same faults now;
     stops = λ stopper was now_is. none_some now.stop stopper was now_is;
   }
-  by_step _ pass moment request _ store (steps.without_memory running) = record { given = []; opening_stays = refl; grows = sym (append-nil (entries_of now)); turn = turns.without_memory; stops = λ stopper was is. none_some now.stop stopper was is }
+  by_step _ pass moment request _ store (steps.without_memory running) = record {
+    given = [];
+    opening_stays = refl;
+    grows = sym (append-nil (entries_of now));
+    turn = turns.without_memory;
+    none_failed = λ runs. NoneFailed-same faults now;
+    stops = λ stopper was is. none_some now.stop stopper was is;
+  }
 
   -- a checkpoint
   state_there : (P : BaseView → Type 0) → P (replay now.base now.events) → P (state_of_entries (root_of opening) (entries_of now))
@@ -185,6 +199,7 @@ module _ {D : Type 0} (clock : D → ℕ) (left_since : D → ℕ → List ℕ �
     opening_stays = refl;
     grows = entries-made now running pass active store;
     turn = turns.kept moment turn_replies.Checkpointed (checkpointed pass) (runs now (ap is_some running)) refl turns.makes (λ is_full. fits (checkpoint_here pass store is_full));
+    none_failed = λ runs. NoneFailed-checkpoint faults now (makes.with_checkpoint now pass active) pass checkpoint_replies.Checkpointed (makes.made active running fits stood) runs;
     stops = λ stopper was is. none_some now.stop stopper was is;
   }
   by_checkpoint pass _ moment _ store (makes.full running over) = record {
@@ -192,6 +207,7 @@ module _ {D : Type 0} (clock : D → ℕ) (left_since : D → ℕ → List ℕ �
     opening_stays = refl;
     grows = sym (append-nil (entries_of now));
     turn = turns.full moment turn_replies.Checkpointed (checkpointed pass) (runs now (ap is_some running)) refl turns.makes (checkpoint_there pass store over);
+    none_failed = λ runs. NoneFailed-same faults now;
     stops = λ stopper was is. none_some now.stop stopper was is;
   }
   by_checkpoint pass _ moment _ store (makes.failed other running fits risen) = record {
@@ -199,6 +215,7 @@ module _ {D : Type 0} (clock : D → ℕ) (left_since : D → ℕ → List ℕ �
     opening_stays = refl;
     grows = entries-stopped now running now.active other pass None;
     turn = turns.failed moment turn_replies.Checkpointed (checkpointed pass) (runs now (ap is_some running)) refl turns.makes (λ is_full. fits (checkpoint_here pass store is_full));
+    none_failed = λ runs. none_some (Some pass) pass runs refl;
     stops = λ stopper was is. (one_pass pass stopper is, risen);
   }
   by_checkpoint pass _ moment _ store (makes.stopped earlier is) = record {
@@ -206,9 +223,17 @@ module _ {D : Type 0} (clock : D → ℕ) (left_since : D → ℕ → List ℕ �
     opening_stays = refl;
     grows = sym (append-nil (entries_of now));
     turn = turns.was_stopped (stands now (ap is_some is));
+    none_failed = λ runs. NoneFailed-same faults now;
     stops = λ stopper was now_is. none_some now.stop stopper was now_is;
   }
-  by_checkpoint pass _ moment _ store (makes.without_memory running) = record { given = []; opening_stays = refl; grows = sym (append-nil (entries_of now)); turn = turns.without_memory; stops = λ stopper was is. none_some now.stop stopper was is }
+  by_checkpoint pass _ moment _ store (makes.without_memory running) = record {
+    given = [];
+    opening_stays = refl;
+    grows = sym (append-nil (entries_of now));
+    turn = turns.without_memory;
+    none_failed = λ runs. NoneFailed-same faults now;
+    stops = λ stopper was is. none_some now.stop stopper was is;
+  }
 
   -- a look at the store, which adds nothing
   abbrev Looks : TurnRequest → TurnReply → Type 0
@@ -281,7 +306,15 @@ turned_by_step clock left_since image faults opening old new pass moment request
 pub turned_by_look : {D : Type 0} (faults : D → ℕ) (s : OpenedView D) (pass : ℕ) (moment : ℤ) (asked request : TurnRequest) (reply : TurnReply) → asked ≡ request → ((n : ℕ) (m : ℤ) → Turn (λ _ k. k ≡ m) (pass_at s.opening n) (entries_of s.store) asked reply []) →
     HasTurned faults (λ _ m. m ≡ moment) request s pass s reply
 turned_by_look faults s pass moment asked request reply is looks =
-    subst (λ (r : TurnRequest). HasTurned faults (λ _ m. m ≡ moment) r s pass s reply) is (record { given = []; opening_stays = refl; grows = sym (append-nil (entries_of s.store)); turn = looks pass moment; stops = λ stopper was now_is. none_some s.store.stop stopper was now_is })
+    subst (λ (r : TurnRequest). HasTurned faults (λ _ m. m ≡ moment) r s pass s reply) is
+    (record {
+      given = [];
+      opening_stays = refl;
+      grows = sym (append-nil (entries_of s.store));
+      turn = looks pass moment;
+      none_failed = λ runs. NoneFailed-same faults s.store;
+      stops = λ stopper was now_is. none_some s.store.stop stopper was now_is;
+    })
 
 -- a step is one that was asked for, at the moment that was shown
 pub turned_by_request : {D : Type 0} (faults : D → ℕ) (before after : OpenedView D) (pass : ℕ) (shown moment : ℤ) (asked request : TurnRequest) (reply : TurnReply) → shown ≡ moment → asked ≡ request → HasTurned faults (λ _ m. m ≡ shown) asked before pass after reply →

@@ -6,7 +6,7 @@ use Rattle.pcfs_store.specs.declared.reply.StoreReply.TheVariants as stores
 use Rattle.pcfs_store.specs.declared.reply.CheckpointReply.{CheckpointReply}
 use Rattle.pcfs_store.specs.declared.reply.CheckpointReply.TheVariants as checkpoints
 use Rattle.pcfs_store.specs.Entries.{StoreEntry, root_of, entries_of}
-use Rattle.pcfs_store.specs.StoreView.{StoreView}
+use Rattle.pcfs_store.specs.StoreView.{StoreView, NoneFailed}
 use Rattle.session_history.specs.declared.request.TurnRequest.{TurnRequest}
 use Rattle.session_history.specs.declared.request.TurnRequest.TheVariants as requests
 use Rattle.session_history.specs.declared.reply.TurnReply.{TurnReply}
@@ -42,14 +42,15 @@ HasTurnFailed faults requests.Checkpoint before after = HasRisen (faults before.
 HasTurnFailed faults (requests.Login who nonce signature) before after = ⊥
 
 -- A turn of the pass took the store from `before` to `after`: it added entries at the end, and its
--- reply is that of a turn which finds those before. If it was this turn that stopped the store, a
--- count rose in it.
+-- reply is that of a turn which finds those before. Unless the store is stopped then, no call of a
+-- disk failed in it; if it was this turn that stopped the store, a count rose in it.
 pub record HasTurned {D : Type 0} (faults : D → ℕ) (gives : List StoreEntry → ℤ → Type 0) (request : TurnRequest)
     (before : OpenedView D) (pass : ℕ) (after : OpenedView D) (reply : TurnReply) : Type 0 where
   pub given : List StoreEntry
   pub opening_stays : after.opening ≡ before.opening
   pub grows : entries_of after.store ≡ entries_of before.store ++ given
   pub turn : Turn gives (pass_at before.opening pass) (entries_of before.store) request reply given
+  pub none_failed : after.store.stop ≡ None → NoneFailed faults before.store after.store
   pub stops : (stopper : ℕ) → before.store.stop ≡ None → after.store.stop ≡ Some stopper →
       (stopper ≡ pass) × HasTurnFailed faults request before.store after.store
 
