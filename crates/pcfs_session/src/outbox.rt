@@ -125,7 +125,11 @@ pub fn send_stopped<O: Sink>(collected: &mut Bytes, output: &mut O) -> Result<()
     ensures broken { OnErr result (O.broken output.new ≡ true) }
 {
     match flush(collected, output) {
-        Ok(()) => write_all(output, b"stopped\n"),
+        Ok(()) => {}
+        Err(failed) => return Err(failed),
+    }
+    match write_all(output, b"stopped\n") {
+        Ok(()) => Ok(()),
         Err(failed) => Err(failed),
     }
 }
