@@ -21,7 +21,7 @@ use Rattle.nine_front.specs.Ends as ends
 use Rattle.nine_front.proofs.AskedLemmas.{entries_asked}
 use Rattle.nine_front.proofs.CallerLemmas.{callers_accepted}
 use Rattle.nine_front.proofs.PlacedLemmas.{messages_given}
-use Rattle.session_service.specs.Told.{AreThese}
+use Rattle.session_service.specs.Conversation.{AreThese}
 use Rattle.nine_service.specs.Passes.{NineSources, AreFirstMessages, AreOfNine, AreOfSeenNine}
 
 -- ---- messages that were answered are the first of the input

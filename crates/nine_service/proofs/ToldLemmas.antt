@@ -5,7 +5,7 @@ use Rattle.pcfs_ports.specs.Observable.{HoldsSome}
 use Rattle.pcfs_store.specs.Entries.{StoreEntry}
 use Rattle.pcfs_session.specs.Streams.{Streams}
 use Rattle.session_history.specs.Turn.{StorePass}
-use Rattle.session_service.specs.Told.{ConnectionTells, AreThese, streams_at}
+use Rattle.session_service.specs.Conversation.{ConnectionTells, AreThese, streams_at}
 use Rattle.session_service.proofs.ToldLemmas.{all_held}
 use Rattle.nine_messages.specs.Requests.{MessageView}
 use Rattle.nine_messages.specs.Replies.{ReplyView}
@@ -14,7 +14,7 @@ use Rattle.nine_front.specs.Ends.{NineRepliesBy, NineEndsBy}
 use Rattle.nine_front.specs.Ends as ends
 use Rattle.nine_front.specs.Taken.{output_of}
 use Rattle.nine_service.specs.Passes.{nine_sources_of, AreOfNine}
-use Rattle.nine_service.specs.Told.{IsNineTold, IsNineToldItsOwn}
+use Rattle.nine_service.specs.Conversation.{IsNineConversation, IsNineToldItsOwn}
 
 module _ (messages : List MessageView) (replies : List ReplyView) (before : Streams) where
   -- what was answered is this
@@ -38,7 +38,7 @@ module _ (messages : List MessageView) (replies : List ReplyView) (before : Stre
 pub IsNineToldItsOwn-nine : {I O : Type 0} (gives : List StoreEntry → ℤ → Type 0) (tells : ConnectionTells I O) (connections : List (I × O)) (nonces : Option (List ℕ)) (p : StorePass) (history own : List StoreEntry) →
     (s : AreOfNine (nine_sources_of gives tells (Some connections) nonces) p history own) → IsNineToldItsOwn tells connections p.number s.messages s.replies
 IsNineToldItsOwn-nine gives tells connections nonces p history own s =
-    let t : IsNineTold tells (Some connections) p.number s.messages s.replies = s.told in
+    let t : IsNineConversation tells (Some connections) p.number s.messages s.replies = s.told in
     record {
       input = t.input;
       output = t.output;

@@ -12,7 +12,7 @@ use Rattle.shared_store.specs.declared.entry.LockEntry.{LockEntry}
 use Rattle.shared_store.specs.LockHistory.{numbered, lock_history}
 use Rattle.shared_store.specs.Turning.{pass_at}
 use Rattle.session_service.specs.Sessions.{IsInputOf, IsNonceOf, inputs_of}
-use Rattle.session_service.specs.Told.{ConnectionTells}
+use Rattle.session_service.specs.Conversation.{ConnectionTells}
 use Rattle.nine_messages.specs.Cutting.{Cuts}
 use Rattle.nine_messages.specs.Requests.{MessageView}
 use Rattle.nine_messages.specs.Replies.{ReplyView}
@@ -20,7 +20,7 @@ use Rattle.nine_fids.specs.declared.connection.Connection.{Connection}
 use Rattle.nine_fids.specs.States.{begun_with}
 use Rattle.nine_front.specs.Asked.{IsByLogin, AreAskedByMessages}
 use Rattle.nine_front.specs.Placed.{MessagesPlaced}
-use Rattle.nine_service.specs.Told.{IsNineTold}
+use Rattle.nine_service.specs.Conversation.{IsNineConversation}
 
 -- what connections take from the ports, and give them: which moments the clock gives after which
 -- entries; which messages the connection of a number may send, under which nonce; and that it was
@@ -59,7 +59,7 @@ abbrev pub nine_sources_of : {I O : Type 0} → (List StoreEntry → ℤ → Typ
 nine_sources_of gives tells queue nonces = record {
   gives = gives;
   may_send = MaySend tells.left (inputs_of tells.left queue) nonces;
-  is_told = IsNineTold tells queue;
+  is_told = IsNineConversation tells queue;
 }
 
 -- The pass attended a connection in this history, of which these are the entries: the connection of

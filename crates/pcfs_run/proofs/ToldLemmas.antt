@@ -4,10 +4,10 @@ use Rattle.std.specs.Prelude.{ℤ}
 use Rattle.std.specs.List.{AllByRecursion}
 use Rattle.pcfs_store.specs.Entries.{Root, StoreEntry}
 use Rattle.session_service.specs.Sessions.{sources_of, AreOfSession}
-use Rattle.session_service.specs.Told.{ConnectionTells, IsToldItsOwn}
+use Rattle.session_service.specs.Conversation.{ConnectionTells, IsToldItsOwn}
 use Rattle.session_service.proofs.ToldLemmas.{IsToldItsOwn-session}
 use Rattle.nine_service.specs.Passes.{nine_sources_of, AreOfNine}
-use Rattle.nine_service.specs.Told.{IsNineToldItsOwn}
+use Rattle.nine_service.specs.Conversation.{IsNineToldItsOwn}
 use Rattle.nine_service.proofs.ToldLemmas.{IsNineToldItsOwn-nine}
 
 module _ {I O : Type 0} (gives : List StoreEntry → ℤ → Type 0) (tells : ConnectionTells I O) (connections : List (I × O)) (nonces : Option (List ℕ)) (root : Root) (history : List StoreEntry) where

@@ -20,6 +20,8 @@ DisksAt before after status = NoDiskFailed before after ⊎
 -- so it is at the end of each run: so at each other status, also at 9, no call of a disk failed
 abbrev pub DisksFailAtFewEnds : {D L : Type 0} → PassEntries → PassEntries → (D → Type 0) →
     (L → Type 0) → Type 0
-DisksFailAtFewEnds {D} {L} of_session of_nine pinned over = (secrets : Secrets) (words : List (String Global)) (before after : Moment D L) (status : ℕ) →
-    RunEnds of_session of_nine secrets words (rests_between pinned before after) (ports_at over before) (ports_at over after) status →
+DisksFailAtFewEnds {D} {L} of_session of_nine pinned over = (secrets : Secrets) (words : List (String Global))
+    (before after : Moment D L) (status : ℕ) →
+    RunEnds of_session of_nine secrets words (rests_between pinned before after)
+    (ports_at over before) (ports_at over after) status →
     DisksAt before.ports.disks after.ports.disks status

@@ -148,7 +148,9 @@ rests_between pinned before after = record { before = pinned before.a × pinned 
 
 -- so ends each run over such ports: so none ends with 5, 6, 7 or 8
 abbrev pub HealthyRunsEndSo : {D L : Type 0} → PassEntries → PassEntries → (D → Type 0) → (L → Type 0) → Type 0
-HealthyRunsEndSo {D} {L} of_session of_nine pinned over = (secrets : Secrets) (words : List (String Global)) (before after : Moment D L) (status : ℕ) →
-    RunEnds of_session of_nine secrets words (rests_between pinned before after) (ports_at over before) (ports_at over after) status →
+HealthyRunsEndSo {D} {L} of_session of_nine pinned over = (secrets : Secrets) (words : List (String Global))
+    (before after : Moment D L) (status : ℕ) →
+    RunEnds of_session of_nine secrets words (rests_between pinned before after)
+    (ports_at over before) (ports_at over after) status →
     AreHealthy (ports_at over before) (ports_at over after) →
     EndsHealthy secrets words (ports_at over before) (ports_at over after) status

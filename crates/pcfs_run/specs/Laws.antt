@@ -19,17 +19,19 @@ use Rattle.session_history.specs.Passes.{entry_pass}
 use Rattle.session_history.specs.SessionState.{guest_with}
 use Rattle.session_history.specs.Laws.{IsByAccepted, IsAskedFor}
 use Rattle.session_service.specs.Sessions.{SessionSources, AreOfSession, sources_of}
-use Rattle.session_service.specs.Told.{ConnectionTells, IsToldItsOwn}
+use Rattle.session_service.specs.Conversation.{ConnectionTells, IsToldItsOwn}
 use Rattle.pcfs_run.specs.Passes.{AreOfPasses}
 
 -- nothing was added
 abbrev pub AddsNothing : SessionSources → Type 0
-AddsNothing sources = (root : Root) (first : List StoreEntry) (attended count : ℕ) (added : List StoreEntry) →
+AddsNothing sources = (root : Root) (first : List StoreEntry)
+    (attended count : ℕ) (added : List StoreEntry) →
     AreOfPasses (AreOfSession sources) root first attended count added → added ≡ []
 
 -- so it is if no connection may say a line
 abbrev pub NothingIsAddedUnsaid : SessionSources → Type 0
-NothingIsAddedUnsaid sources = ((number : ℕ) (nonce : List ℕ) (lines : List (List ℕ)) → sources.may_say number nonce lines → lines ≡ []) → AddsNothing sources
+NothingIsAddedUnsaid sources = ((number : ℕ) (nonce : List ℕ) (lines : List (List ℕ)) →
+    sources.may_say number nonce lines → lines ≡ []) → AddsNothing sources
 
 -- no operation of a history of which the headline holds was admitted with a procap for one of its
 -- needs whose grant was gone at that very step: by a statement that it names and that was withdrawn
@@ -57,7 +59,8 @@ pub record HasLine (sources : SessionSources) (root : Root) (history : List Stor
 -- Each entry that was added has such a line; and if a disk failed in a step, so has the event that
 -- the step was keeping, which is in the mark.
 abbrev pub EachEntryHasItsLine : SessionSources → Type 0
-EachEntryHasItsLine sources = (root : Root) (first : List StoreEntry) (attended count : ℕ) (added : List StoreEntry) →
+EachEntryHasItsLine sources = (root : Root) (first : List StoreEntry)
+    (attended count : ℕ) (added : List StoreEntry) →
     AreOfPasses (AreOfSession sources) root first attended count added →
     AllByRecursion (HasLine sources root (first ++ added)) added
 
@@ -66,7 +69,8 @@ EachEntryHasItsLine sources = (root : Root) (first : List StoreEntry) (attended 
 -- placed under that pass. Passes have numbers of their own, so two have two connections.
 abbrev pub EachIsToldItsOwn : {I O : Type 0} → (List StoreEntry → ℤ → Type 0) →
     ConnectionTells I O → List (I × O) → Option (List ℕ) → Type 0
-EachIsToldItsOwn gives tells connections nonces = (root : Root) (first : List StoreEntry) (attended count : ℕ) (added : List StoreEntry) →
+EachIsToldItsOwn gives tells connections nonces = (root : Root) (first : List StoreEntry)
+    (attended count : ℕ) (added : List StoreEntry) →
     let sources = sources_of gives tells (Some connections) nonces in
     (of : AreOfPasses (AreOfSession sources) root first attended count added) →
     AllByRecursion (λ (p : ℕ × List StoreEntry). (s : AreOfSession sources (record { root = root; number = p.0 }) (first ++ added) p.1)

@@ -6,14 +6,15 @@ use Rattle.session_history.specs.Passes.{entry_pass}
 use Rattle.nine_messages.specs.Requests.{MessageView}
 use Rattle.nine_fids.specs.States.{begun_with}
 use Rattle.nine_front.specs.Asked.{IsAskedByMessage, IsByLogin}
-use Rattle.session_service.specs.Told.{ConnectionTells}
+use Rattle.session_service.specs.Conversation.{ConnectionTells}
 use Rattle.nine_service.specs.Passes.{NineSources, AreOfNine, nine_sources_of}
-use Rattle.nine_service.specs.Told.{IsNineToldItsOwn}
+use Rattle.nine_service.specs.Conversation.{IsNineToldItsOwn}
 use Rattle.pcfs_run.specs.Passes.{AreOfPasses}
 
 -- nothing was added
 abbrev pub MessagesAddNothing : NineSources → Type 0
-MessagesAddNothing sources = (root : Root) (first : List StoreEntry) (attended count : ℕ) (added : List StoreEntry) →
+MessagesAddNothing sources = (root : Root) (first : List StoreEntry)
+    (attended count : ℕ) (added : List StoreEntry) →
     AreOfPasses (AreOfNine sources) root first attended count added → added ≡ []
 
 -- so it is if no connection may send a message
@@ -35,7 +36,8 @@ pub record HasMessage (sources : NineSources) (root : Root) (history : List Stor
 
 -- each entry that was added has such a message
 abbrev pub EachEntryHasItsMessage : NineSources → Type 0
-EachEntryHasItsMessage sources = (root : Root) (first : List StoreEntry) (attended count : ℕ) (added : List StoreEntry) →
+EachEntryHasItsMessage sources = (root : Root) (first : List StoreEntry)
+    (attended count : ℕ) (added : List StoreEntry) →
     AreOfPasses (AreOfNine sources) root first attended count added →
     AllByRecursion (HasMessage sources root (first ++ added)) added
 
@@ -44,7 +46,8 @@ EachEntryHasItsMessage sources = (root : Root) (first : List StoreEntry) (attend
 -- that pass. Passes have numbers of their own, so two have two connections.
 abbrev pub EachIsNineToldItsOwn : {I O : Type 0} → (List StoreEntry → ℤ → Type 0) →
     ConnectionTells I O → List (I × O) → Option (List ℕ) → Type 0
-EachIsNineToldItsOwn gives tells connections nonces = (root : Root) (first : List StoreEntry) (attended count : ℕ) (added : List StoreEntry) →
+EachIsNineToldItsOwn gives tells connections nonces = (root : Root) (first : List StoreEntry)
+    (attended count : ℕ) (added : List StoreEntry) →
     let sources = nine_sources_of gives tells (Some connections) nonces in
     (of : AreOfPasses (AreOfNine sources) root first attended count added) →
     AllByRecursion (λ (p : ℕ × List StoreEntry). (s : AreOfNine sources (record { root = root; number = p.0 }) (first ++ added) p.1)

@@ -137,12 +137,15 @@ pub record IsServed (is_of : PassEntries) (secrets : Secrets) (rests : Rests) (b
   pub risen : (pass : ℕ) → stop ≡ Some pass → HasDiskFailed before after
   pub follows : (pass : ℕ) (event : Event) → stop ≡ Some pass → met ≡ Some event →
       IsLawful (authority_under secrets) base (events ++ event ∷ [])
-  pub survives : (pass : ℕ) → stop ≡ Some pass → IfTold before (λ x y. IsNewestClosed generation image opened x y → IfTold after (SurvivesStop base events met))
+  pub survives : (pass : ℕ) → stop ≡ Some pass →
+      IfTold before (λ x y. IsNewestClosed generation image opened x y →
+      IfTold after (SurvivesStop base events met))
   pub newest_at : (pass : ℕ) → stop ≡ Some pass → IfTold before (λ x y.
       IsNewestClosed generation image opened x y → (second : Bool) →
       newer (generation_of x) (generation_of y) ≡ Some second → IfTold after
       (IsNewestStop (generation + length checkpoints) (place_after (length checkpoints) second) met))
-  pub other_stays : checkpoints ≡ [] → IfTold before (λ x y. (second : Bool) → newer (generation_of x) (generation_of y) ≡ Some second →
+  pub other_stays : checkpoints ≡ [] → IfTold before (λ x y. (second : Bool) →
+      newer (generation_of x) (generation_of y) ≡ Some second →
       (one_of after.b after.a second ≡ one_of before.b before.a second) ⊎
       ((pass : ℕ) × (stop ≡ Some pass) × (met ≡ None) × HasRisen (one_of before.b_faults before.a_faults second) (one_of after.b_faults after.a_faults second)))
 

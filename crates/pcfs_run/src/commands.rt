@@ -5,7 +5,7 @@ ghost use Rattle.command_words.specs.declared.given.TheConstants.{MOST_CONNECTIO
 ghost use Rattle.command_words.specs.declared.words.Task.TheVariants.{Serve, Serve9};
 ghost use Rattle.pcfs_ports.specs.Disk.{IsPinned};
 ghost use Rattle.session_service.specs.Sessions.{sources_of, AreOfSession};
-ghost use Rattle.session_service.specs.Told.{tells_of};
+ghost use Rattle.session_service.specs.Conversation.{tells_of};
 ghost use Rattle.nine_service.specs.Passes.{nine_sources_of, AreOfNine};
 ghost use Rattle.pcfs_run.specs.Served.{EndsServing, RunEnds, net_of};
 ghost use Rattle.pcfs_top.specs.Ports.{ports_beside, ports_of, rests_of};

@@ -4,7 +4,7 @@ ghost use Rattle.std.specs.Prelude.{◌≡◌, ℕ, List, [], Option, Some};
 ghost use Rattle.std.specs.List.{AllByRecursion};
 ghost use Rattle.pcfs_ports.specs.Disk.{IsPinned};
 ghost use Rattle.session_service.specs.Sessions.{sources_of, AreOfSession};
-ghost use Rattle.session_service.specs.Told.{tells_of};
+ghost use Rattle.session_service.specs.Conversation.{tells_of};
 ghost use Rattle.nine_service.specs.Passes.{nine_sources_of, AreOfNine};
 ghost use Rattle.pcfs_run.specs.Laws.{GoneAdmitNothing, AddsNothing, NothingIsAddedUnsaid, EachEntryHasItsLine, EachIsToldItsOwn};
 ghost use Rattle.pcfs_run.specs.Healthy.{HealthyRunsEndSo};

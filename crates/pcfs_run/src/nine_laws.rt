@@ -2,7 +2,7 @@
 
 ghost use Rattle.std.specs.Prelude.{◌≡◌, ℕ, List, [], Option, Some};
 ghost use Rattle.std.specs.List.{AllByRecursion};
-ghost use Rattle.session_service.specs.Told.{tells_of};
+ghost use Rattle.session_service.specs.Conversation.{tells_of};
 ghost use Rattle.nine_service.specs.Passes.{nine_sources_of};
 ghost use Rattle.pcfs_run.specs.NineLaws.{MessagesAddNothing, NothingIsAddedUnsent, EachEntryHasItsMessage, EachIsNineToldItsOwn};
 

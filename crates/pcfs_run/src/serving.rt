@@ -7,7 +7,7 @@ ghost use Rattle.journal_records.specs.EventSpelling.{IsReadEvent};
 ghost use Rattle.pcfs_server.specs.Ends.{number_of};
 ghost use Rattle.session_service.specs.Connections.{AreOfConnections};
 ghost use Rattle.session_service.specs.Sessions.{sources_of, AreOfSession, AreOfSeenSession};
-ghost use Rattle.session_service.specs.Told.{tells_of};
+ghost use Rattle.session_service.specs.Conversation.{tells_of};
 ghost use Rattle.shared_store.specs.GoesOn.{HasGoneOn};
 ghost use Rattle.pcfs_run.specs.Passes.{IsGrown};
 ghost use Rattle.pcfs_run.specs.Served.{AreAttended};

@@ -23,7 +23,7 @@ use Rattle.session_service.specs.declared.session_end.SessionEnd.TheVariants as 
 use Rattle.session_service.specs.Sessions.{SessionSources, AreFirstLines, AreOfSession, AreOfSeenSession}
 use Rattle.session_service.specs.SessionEnds.{Speaks, IsUnderWay, IsUnderWayBy, SessionReplies, SessionRepliesBy, SessionEnds, SessionEndsBy}
 use Rattle.session_service.specs.SessionEnds as ends
-use Rattle.session_service.specs.Told.{AreThese}
+use Rattle.session_service.specs.Conversation.{AreThese}
 
 -- ---- lines that were answered are the first of the input
 

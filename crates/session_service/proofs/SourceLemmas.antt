@@ -5,7 +5,7 @@ use Rattle.std.proofs.lemmas.Option.{slice_get-map}
 use Rattle.pcfs_ports.specs.Telling.{IsAt, AreTakenOff, IsNextNonce, IsNonceAt}
 use Rattle.pcfs_server.proofs.TellingLemmas.{taken_none, taken_more}
 use Rattle.session_service.specs.Sessions.{IsInputOf, IsNonceOf, inputs_of}
-use Rattle.session_service.specs.Told.{IsConnectionOf}
+use Rattle.session_service.specs.Conversation.{IsConnectionOf}
 
 -- ---- inputs and outputs
 

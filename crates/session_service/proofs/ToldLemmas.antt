@@ -19,7 +19,7 @@ use Rattle.session_service.specs.Laws.{DoneAnswersAll}
 use Rattle.session_service.specs.Sessions.{sources_of, AreOfSession}
 use Rattle.session_service.specs.SessionEnds.{IsUnderWayBy, SessionRepliesBy, SessionEndsBy}
 use Rattle.session_service.specs.SessionEnds as ends
-use Rattle.session_service.specs.Told.{ConnectionTells, AreThese, IsTold, IsToldItsOwn, streams_at}
+use Rattle.session_service.specs.Conversation.{ConnectionTells, AreThese, IsConversation, IsToldItsOwn, streams_at}
 
 -- all that was written is a first part
 pub all_held : (held held_after : Option (List ℕ)) (bytes : List ℕ) → held_after ≡ with_back held bytes → HoldsSome held held_after bytes
@@ -86,11 +86,11 @@ module _ (nonce : List ℕ) (lines : List (List ℕ)) (answers : List LineReply)
 pub IsToldItsOwn-session : {I O : Type 0} (gives : List StoreEntry → ℤ → Type 0) (tells : ConnectionTells I O) (connections : List (I × O)) (nonces : Option (List ℕ)) (p : StorePass) (history own : List StoreEntry) →
     (s : AreOfSession (sources_of gives tells (Some connections) nonces) p history own) → IsToldItsOwn tells connections p.number s.nonce s.answers
 IsToldItsOwn-session gives tells connections nonces p history own s =
-    let t : IsTold tells (Some connections) p.number s.nonce s.lines s.answers = s.told in
+    let t : IsConversation tells (Some connections) p.number s.nonce s.lines s.answers = s.told in
     let h = of_end s.nonce s.lines s.answers (streams_at tells t.input t.output) t.how (streams_at tells t.input_after t.output_after) t.ends in
     record { input = t.input; output = t.output; accepted = t.accepted; output_after = t.output_after; last = h.last; last_is = h.last_is; holds = h.holds }
 
 pub DoneAnswersAll-session : {I O : Type 0} (gives : List StoreEntry → ℤ → Type 0) (tells : ConnectionTells I O) (queue : Option (List (I × O))) (nonces : Option (List ℕ)) → DoneAnswersAll gives tells queue nonces
 DoneAnswersAll-session gives tells queue nonces p history own s done =
-    let t : IsTold tells queue p.number s.nonce s.lines s.answers = s.told in
+    let t : IsConversation tells queue p.number s.nonce s.lines s.answers = s.told in
     done_end s.nonce s.lines s.answers (streams_at tells t.input t.output) t.how (streams_at tells t.input_after t.output_after) t.ends done

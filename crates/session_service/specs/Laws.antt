@@ -45,7 +45,7 @@ use Rattle.session_service.specs.declared.session_end.SessionEnd.TheVariants.{Do
 use Rattle.session_service.specs.Said.{SaysStopped}
 use Rattle.session_service.specs.SessionEnds.{Speaks}
 use Rattle.session_service.specs.Sessions.{SessionSources, IsNonceOf, AreOfSession, sources_of}
-use Rattle.session_service.specs.Told.{ConnectionTells}
+use Rattle.session_service.specs.Conversation.{ConnectionTells}
 
 -- what is asked in one turn is what a look at any state makes of the command
 abbrev pub TurnsAskWhatCommandsComeTo : Type 0

@@ -7,4 +7,4 @@ pub mod Said
 pub mod SaidLaws
 pub mod Written
 pub mod SessionEnds
-pub mod Told
+pub mod Conversation

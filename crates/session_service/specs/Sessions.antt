@@ -16,7 +16,7 @@ use Rattle.session_history.specs.Laws.{IsByAccepted, AreAskedFor}
 use Rattle.shared_store.specs.declared.entry.LockEntry.{LockEntry}
 use Rattle.shared_store.specs.LockHistory.{numbered, lock_history}
 use Rattle.shared_store.specs.Turning.{pass_at}
-use Rattle.session_service.specs.Told.{ConnectionTells, IsTold}
+use Rattle.session_service.specs.Conversation.{ConnectionTells, IsConversation}
 
 -- what sessions take from the ports, and give them: which moments the clock gives over which
 -- entries; which lines the connection of a number may say, under which nonce; and that it was told
@@ -68,7 +68,7 @@ abbrev pub sources_of : {I O : Type 0} → (List StoreEntry → ℤ → Type 0) 
 sources_of gives tells queue nonces = record {
   gives = gives;
   may_say = MaySay tells.left (inputs_of tells.left queue) nonces;
-  is_told = IsTold tells queue;
+  is_told = IsConversation tells queue;
 }
 
 -- The pass had a session in this history, of which these are the entries: the connection of its

@@ -3,7 +3,7 @@
 ghost use Rattle.session_service.specs.Laws.{TurnsAskWhatCommandsComeTo, ProofsAskWhatCommandsComeTo, FaultsAreWhatCommandsComeTo, AbsencesAreWhatCommandsComeTo, CheckpointsAreWhatCommandsComeTo, SessionsArePlaced, LaterSessionsArePlacedAfter, EachEntryHasALine, DoneAnswersAll, SessionsHaveTwoNonces};
 ghost use Rattle.std.specs.Prelude.{ℕ, List, Option};
 ghost use Rattle.session_service.specs.Sessions.{sources_of};
-ghost use Rattle.session_service.specs.Told.{tells_of};
+ghost use Rattle.session_service.specs.Conversation.{tells_of};
 
 use pcfs_ports::{Disk, Listener};
 use session_history::TurnClock;

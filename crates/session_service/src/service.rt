@@ -145,7 +145,7 @@ impl<'a, D: Disk + Send, C: TurnClock, N: Nonces + 'a, L: Listener> Service<L::I
     ghost use Rattle.session_service.specs.Connections.{AreOfConnections};
     ghost use Rattle.pcfs_ports.specs.Telling.{AreTakenOff};
     ghost use Rattle.session_service.specs.Sessions.{sources_of, AreOfSeenSession, IsConnectionPass, IsNonceOf};
-    ghost use Rattle.session_service.specs.Told.{tells_of, IsConnectionOf};
+    ghost use Rattle.session_service.specs.Conversation.{tells_of, IsConnectionOf};
     ghost use Rattle.session_service.specs.declared.session_end.SessionEnd.{SessionEnd};
     ghost use Rattle.pcfs_session.specs.Streams.{streams_of};
     ghost use Rattle.session_service.specs.Ends.{NothingFailedBefore};

@@ -1,6 +1,6 @@
 use Rattle.pcfs_ports.specs.Disk.{IsPinned}
 use Rattle.session_service.specs.Sessions.{sources_of, AreOfSession}
-use Rattle.session_service.specs.Told.{tells_of}
+use Rattle.session_service.specs.Conversation.{tells_of}
 use Rattle.nine_service.specs.Passes.{nine_sources_of, AreOfNine}
 use Rattle.pcfs_run.specs.Healthy.{ports_at, rests_between}
 use Rattle.pcfs_run.proofs.DiskEndLemmas.{DisksAt-run}

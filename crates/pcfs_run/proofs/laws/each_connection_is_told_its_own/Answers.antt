@@ -1,7 +1,7 @@
 use Rattle.std.proofs.Common.{ℕ, List, ◌++◌, Some}
 use Rattle.pcfs_store.specs.Entries.{StoreEntry}
 use Rattle.session_service.specs.Sessions.{sources_of, AreOfSession}
-use Rattle.session_service.specs.Told.{tells_of}
+use Rattle.session_service.specs.Conversation.{tells_of}
 use Rattle.session_service.proofs.ConnectionLemmas.{AreOfConnections-all}
 use Rattle.pcfs_run.proofs.ToldLemmas.{each_told}
 use Rattle.pcfs_run.proofs.laws.each_connection_is_told_its_own.Goals as goal

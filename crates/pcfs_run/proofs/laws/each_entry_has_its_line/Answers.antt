@@ -1,6 +1,6 @@
 use Rattle.std.proofs.Common.{◌++◌}
 use Rattle.session_service.specs.Sessions.{sources_of}
-use Rattle.session_service.specs.Told.{tells_of}
+use Rattle.session_service.specs.Conversation.{tells_of}
 use Rattle.pcfs_run.specs.Laws.{HasLine}
 use Rattle.pcfs_run.proofs.AskedLemmas.{merged_all, each_with_line}
 use Rattle.pcfs_run.proofs.laws.each_entry_has_its_line.Goals as goal

@@ -1,6 +1,6 @@
 use Rattle.std.proofs.Common.{◌++◌, Some}
 use Rattle.session_service.specs.Sessions.{sources_of}
-use Rattle.session_service.specs.Told.{tells_of}
+use Rattle.session_service.specs.Conversation.{tells_of}
 use Rattle.pcfs_run.proofs.UnsaidLemmas.{merged_none, all_without, none_said_of_empty}
 use Rattle.pcfs_run.proofs.laws.empty_connections_add_nothing.Goals as goal
 

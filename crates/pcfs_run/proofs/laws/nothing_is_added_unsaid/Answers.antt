@@ -1,6 +1,6 @@
 use Rattle.std.proofs.Common.{◌++◌}
 use Rattle.session_service.specs.Sessions.{sources_of}
-use Rattle.session_service.specs.Told.{tells_of}
+use Rattle.session_service.specs.Conversation.{tells_of}
 use Rattle.pcfs_run.proofs.UnsaidLemmas.{merged_none, all_without}
 use Rattle.pcfs_run.proofs.laws.nothing_is_added_unsaid.Goals as goal
 

@@ -1,6 +1,6 @@
 use Rattle.std.proofs.Common.{ℕ, List, ◌++◌, Some}
 use Rattle.pcfs_store.specs.Entries.{StoreEntry}
-use Rattle.session_service.specs.Told.{tells_of}
+use Rattle.session_service.specs.Conversation.{tells_of}
 use Rattle.session_service.proofs.ConnectionLemmas.{AreOfConnections-all}
 use Rattle.nine_service.specs.Passes.{nine_sources_of, AreOfNine}
 use Rattle.pcfs_run.proofs.ToldLemmas.{each_nine_told}

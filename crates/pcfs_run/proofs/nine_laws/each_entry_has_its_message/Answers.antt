@@ -1,5 +1,5 @@
 use Rattle.std.proofs.Common.{◌++◌}
-use Rattle.session_service.specs.Told.{tells_of}
+use Rattle.session_service.specs.Conversation.{tells_of}
 use Rattle.nine_service.specs.Passes.{nine_sources_of}
 use Rattle.pcfs_run.specs.NineLaws.{HasMessage}
 use Rattle.pcfs_run.proofs.AskedLemmas.{merged_all}

@@ -1,5 +1,5 @@
 use Rattle.std.proofs.Common.{◌++◌, Some}
-use Rattle.session_service.specs.Told.{tells_of}
+use Rattle.session_service.specs.Conversation.{tells_of}
 use Rattle.nine_service.specs.Passes.{nine_sources_of}
 use Rattle.pcfs_run.proofs.UnsaidLemmas.{merged_none}
 use Rattle.pcfs_run.proofs.NineLawLemmas.{all_unsent, none_sent_of_empty}

@@ -5,7 +5,7 @@ use Rattle.pcfs_server.specs.Ends.{number_of}
 use Rattle.shared_store.specs.LockHistory.{lock_entries}
 use Rattle.session_service.specs.Connections.{AreOfConnections}
 use Rattle.pcfs_ports.specs.Telling.{IsAt}
-use Rattle.session_service.specs.Told.{tells_of}
+use Rattle.session_service.specs.Conversation.{tells_of}
 use Rattle.nine_service.specs.Passes.{nine_sources_of, AreOfSeenNine}
 use denote.Param.Send.{param_send, param_sync, arg_send, arg_sync}
 use Rattle.nine_service.proofs.service.NineToken.TheSendSync as token

@@ -4,7 +4,7 @@ use Rattle.pcfs_store.specs.StoreView.{StoreView}
 use Rattle.pcfs_server.specs.Ends.{number_of}
 use Rattle.shared_store.specs.OpenedView.{OpenedView}
 use Rattle.shared_store.specs.LockHistory.{lock_entries}
-use Rattle.session_service.specs.Told.{tells_of}
+use Rattle.session_service.specs.Conversation.{tells_of}
 use Rattle.nine_service.specs.Passes.{nine_sources_of, AreOfNine, AreOfSeenNine}
 use Rattle.pcfs_run.specs.Passes.{IsGrown}
 use Rattle.pcfs_run.proofs.PassLemmas.{in_whole_nine, IsGrown-closed, IsGrown-none}

@@ -2,7 +2,7 @@
 use Rattle.std.proofs.Common.{subst}
 use Rattle.pcfs_server.specs.Ends.{number_of}
 use Rattle.session_service.specs.Connections.{AreOfConnections}
-use Rattle.session_service.specs.Told.{tells_of}
+use Rattle.session_service.specs.Conversation.{tells_of}
 use Rattle.nine_service.specs.Passes.{nine_sources_of, AreOfSeenNine}
 use Rattle.pcfs_run.proofs.nine_serving.serve_under.Goals as goal
 

@@ -6,7 +6,7 @@ use Rattle.shared_store.specs.LockHistory.{lock_entries}
 use Rattle.session_service.specs.Connections.{AreOfConnections}
 use Rattle.pcfs_ports.specs.Telling.{IsAt}
 use Rattle.session_service.specs.Sessions.{sources_of, AreOfSeenSession}
-use Rattle.session_service.specs.Told.{tells_of}
+use Rattle.session_service.specs.Conversation.{tells_of}
 use denote.Param.Send.{param_send, param_sync, arg_send, arg_sync}
 use Rattle.session_service.proofs.service.SessionToken.TheSendSync as token
 use denote.Param.{param}

@@ -5,7 +5,7 @@ use Rattle.pcfs_server.specs.Ends.{number_of}
 use Rattle.shared_store.specs.OpenedView.{OpenedView}
 use Rattle.shared_store.specs.LockHistory.{lock_entries}
 use Rattle.session_service.specs.Sessions.{sources_of, AreOfSession, AreOfSeenSession}
-use Rattle.session_service.specs.Told.{tells_of}
+use Rattle.session_service.specs.Conversation.{tells_of}
 use Rattle.pcfs_run.specs.Passes.{IsGrown}
 use Rattle.pcfs_run.proofs.PassLemmas.{in_whole, IsGrown-closed, IsGrown-none}
 use Rattle.pcfs_run.proofs.ServedLemmas.{AreAttended-none}

@@ -3,7 +3,7 @@ use Rattle.std.proofs.Common.{subst}
 use Rattle.pcfs_server.specs.Ends.{number_of}
 use Rattle.session_service.specs.Connections.{AreOfConnections}
 use Rattle.session_service.specs.Sessions.{sources_of, AreOfSeenSession}
-use Rattle.session_service.specs.Told.{tells_of}
+use Rattle.session_service.specs.Conversation.{tells_of}
 use Rattle.pcfs_run.proofs.serving.serve_under.Goals as goal
 
 pub returns-clause-of_connections : goal.returns-clause-of_connections

@@ -3,7 +3,7 @@ use Rattle.std.proofs.Common.{◌≡◌, ◌∙◌, ◌*◌, refl, sym, ap, subs
 use Rattle.tree_lock.specs.Seen.{DoormanView}
 use Rattle.pcfs_ports.specs.Telling.{AreTakenOff}
 use Rattle.session_service.specs.Connections.{AreOfConnections}
-use Rattle.session_service.specs.Told.{tells_of}
+use Rattle.session_service.specs.Conversation.{tells_of}
 use Rattle.nine_service.specs.Passes.{nine_sources_of, AreOfSeenNine}
 use Rattle.session_service.proofs.SourceLemmas.{nonce_more, nonce_none, nonce_of}
 use Rattle.nine_service.proofs.service.NineServiceOpenedStoreServiceInOut.admit.Goals as goal

@@ -2,7 +2,7 @@
 use Rattle.std.proofs.Common.{ℕ, subst, sym}
 use Rattle.pcfs_session.specs.Streams.{Streams}
 use Rattle.session_service.specs.Sessions.{IsNonceOf}
-use Rattle.session_service.specs.Told.{tells_of}
+use Rattle.session_service.specs.Conversation.{tells_of}
 use Rattle.session_service.proofs.SourceLemmas.{input_of}
 use Rattle.nine_service.specs.Passes.{nine_sources_of}
 use Rattle.nine_service.proofs.PassLemmas.{AreOfSeenNine-ended, number_ended}

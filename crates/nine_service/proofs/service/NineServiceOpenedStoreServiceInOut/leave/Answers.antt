@@ -2,7 +2,7 @@
 use Rattle.std.proofs.Common.{◌∙◌, ◌*◌, ℕ, ap, arith, length, subst, sym}
 use Rattle.tree_lock.specs.Seen.{PassView}
 use Rattle.pcfs_ports.specs.Telling.{AreTakenOff}
-use Rattle.session_service.specs.Told.{tells_of}
+use Rattle.session_service.specs.Conversation.{tells_of}
 use Rattle.nine_service.specs.Passes.{nine_sources_of, AreOfSeenNine}
 use Rattle.session_service.proofs.ConnectionLemmas.{AreOfConnections-also, AreOfConnections-one_more, connections-le}
 use Rattle.nine_service.proofs.PassLemmas.{AreOfSeenNine-later}

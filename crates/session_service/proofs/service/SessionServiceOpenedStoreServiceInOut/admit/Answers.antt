@@ -4,7 +4,7 @@ use Rattle.tree_lock.specs.Seen.{DoormanView}
 use Rattle.pcfs_ports.specs.Telling.{AreTakenOff}
 use Rattle.session_service.specs.Connections.{AreOfConnections}
 use Rattle.session_service.specs.Sessions.{sources_of, AreOfSeenSession}
-use Rattle.session_service.specs.Told.{tells_of}
+use Rattle.session_service.specs.Conversation.{tells_of}
 use Rattle.session_service.proofs.SourceLemmas.{nonce_more, nonce_none, nonce_of}
 use Rattle.session_service.proofs.service.SessionServiceOpenedStoreServiceInOut.admit.Goals as goal
 

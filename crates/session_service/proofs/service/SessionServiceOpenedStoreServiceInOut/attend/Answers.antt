@@ -2,7 +2,7 @@
 use Rattle.std.proofs.Common.{ℕ, subst, sym}
 use Rattle.pcfs_session.specs.Streams.{Streams}
 use Rattle.session_service.specs.Sessions.{sources_of, IsNonceOf}
-use Rattle.session_service.specs.Told.{tells_of}
+use Rattle.session_service.specs.Conversation.{tells_of}
 use Rattle.session_service.proofs.SessionLemmas.{AreOfSeenSession-ended, number_ended}
 use Rattle.session_service.proofs.SourceLemmas.{input_of}
 use Rattle.session_service.proofs.service.SessionServiceOpenedStoreServiceInOut.attend.Goals as goal

@@ -3,7 +3,7 @@ use Rattle.std.proofs.Common.{◌∙◌, ◌*◌, ℕ, ap, arith, length, subst,
 use Rattle.tree_lock.specs.Seen.{PassView}
 use Rattle.pcfs_ports.specs.Telling.{AreTakenOff}
 use Rattle.session_service.specs.Sessions.{sources_of, AreOfSeenSession}
-use Rattle.session_service.specs.Told.{tells_of}
+use Rattle.session_service.specs.Conversation.{tells_of}
 use Rattle.session_service.proofs.ConnectionLemmas.{AreOfConnections-also, AreOfConnections-one_more, connections-le}
 use Rattle.session_service.proofs.SessionLemmas.{AreOfSeenSession-later}
 use Rattle.session_service.proofs.service.SessionServiceOpenedStoreServiceInOut.leave.Goals as goal

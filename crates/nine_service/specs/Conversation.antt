@@ -8,7 +8,7 @@ use Rattle.nine_front.specs.declared.nine_end.NineEnd.{NineEnd}
 use Rattle.nine_front.specs.declared.nine_end.NineEnd.TheVariants.{ReadFault, WriteFault}
 use Rattle.nine_front.specs.Ends.{NineEndsBy, NothingFailedBefore}
 use Rattle.nine_front.specs.Taken.{output_of}
-use Rattle.session_service.specs.Told.{ConnectionTells, IsConnectionOf, streams_at, AreThese}
+use Rattle.session_service.specs.Conversation.{ConnectionTells, IsConnectionOf, streams_at, AreThese}
 
 -- On the connection of a number these messages were answered with these replies: from its input and
 -- its output as they were when it was accepted, if the listener told them, to an input and an output
@@ -16,7 +16,7 @@ use Rattle.session_service.specs.Told.{ConnectionTells, IsConnectionOf, streams_
 -- what it held, and then these replies, or where it failed or memory ran out a first part of them;
 -- and if the input was read to its end, these messages are all of it, but for one that is cut off.
 -- If an input or an output does not tell its bytes, nothing is said of these.
-pub record IsNineTold {I O : Type 0} (tells : ConnectionTells I O) (queue : Option (List (I × O)))
+pub record IsNineConversation {I O : Type 0} (tells : ConnectionTells I O) (queue : Option (List (I × O)))
     (number : ℕ) (messages : List MessageView) (replies : List ReplyView) : Type 0 where
   pub input : I
   pub output : O

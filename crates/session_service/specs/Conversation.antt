@@ -54,7 +54,7 @@ AreThese lines answers answered replies = (answered ≡ lines) × (replies ≡ a
 -- where it failed or memory ran out a first part of that; and if the input was read to its end,
 -- these lines are all its lines. If an input or an output does not tell its bytes, nothing is said
 -- of these.
-pub record IsTold {I O : Type 0} (tells : ConnectionTells I O) (queue : Option (List (I × O)))
+pub record IsConversation {I O : Type 0} (tells : ConnectionTells I O) (queue : Option (List (I × O)))
     (number : ℕ) (nonce : List ℕ) (lines : List (List ℕ)) (answers : List LineReply) : Type 0 where
   pub input : I
   pub output : O
