@@ -68,8 +68,9 @@ nine_sources_of gives tells queue nonces = record {
 -- back; and the entries are exactly those that were added in the turns of these messages, in this
 -- order. So each is what one of the messages asks for, at a moment that the clock gives over the
 -- entries that stand before it, and an operation, or the mark of a disk that failed under one, of
--- somebody whom one of the messages logged in. These messages and replies are what the connection
--- was told. `from` is some place.
+-- somebody whom one of the messages logged in. These messages and replies are those of the
+-- conversation on that connection, which may have ended before the last reply was told. `from` is
+-- some place.
 pub record AreOfNine (sources : NineSources) (p : StorePass) (history own : List StoreEntry) : Type 0 where
   pub nonce : List ℕ
   pub messages : List MessageView

@@ -7,5 +7,4 @@ pub mod UnsaidLemmas
 pub mod NineLawLemmas
 pub mod HealthyLemmas
 pub mod DiskEndLemmas
-pub mod ToldLemmas
 mod GoneLemmas

@@ -1,6 +1,6 @@
 -- Laws of what the sessions of connections added, and of the operations of a history at the end of
 -- a run.
-use Rattle.std.specs.Prelude.{◌≡◌, ℕ, ℤ, List, [], ◌∷◌, ◌++◌, Option, Some, Contains}
+use Rattle.std.specs.Prelude.{◌≡◌, ℕ, ℤ, List, [], ◌∷◌, ◌++◌, Some, Contains}
 use Rattle.std.specs.List.{AllByRecursion}
 use Rattle.procap.specs.declared.procap.Procap.{Procap}
 use Rattle.file_world.specs.declared.operation.Op.{Op}
@@ -18,8 +18,7 @@ use Rattle.pcfs_store.specs.Entries.{Root, StoreEntry}
 use Rattle.session_history.specs.Passes.{entry_pass}
 use Rattle.session_history.specs.SessionState.{guest_with}
 use Rattle.session_history.specs.Laws.{IsByAccepted, IsAskedFor}
-use Rattle.session_service.specs.Sessions.{SessionSources, AreOfSession, sources_of}
-use Rattle.session_service.specs.Conversation.{ConnectionTells, IsToldItsOwn}
+use Rattle.session_service.specs.Sessions.{SessionSources, AreOfSession}
 use Rattle.pcfs_run.specs.Passes.{AreOfPasses}
 
 -- nothing was added
@@ -63,15 +62,3 @@ EachEntryHasItsLine sources = (root : Root) (first : List StoreEntry)
     (attended count : ℕ) (added : List StoreEntry) →
     AreOfPasses (AreOfSession sources) root first attended count added →
     AllByRecursion (HasLine sources root (first ++ added)) added
-
--- If the listener tells its connections before the run, each pass is that of a connection that was
--- told its own: after what its output held, some first part of the greeting and the replies that are
--- placed under that pass. Passes have numbers of their own, so two have two connections.
-abbrev pub EachIsToldItsOwn : {I O : Type 0} → (List StoreEntry → ℤ → Type 0) →
-    ConnectionTells I O → List (I × O) → Option (List ℕ) → Type 0
-EachIsToldItsOwn gives tells connections nonces = (root : Root) (first : List StoreEntry)
-    (attended count : ℕ) (added : List StoreEntry) →
-    let sources = sources_of gives tells (Some connections) nonces in
-    (of : AreOfPasses (AreOfSession sources) root first attended count added) →
-    AllByRecursion (λ (p : ℕ × List StoreEntry). (s : AreOfSession sources (record { root = root; number = p.0 }) (first ++ added) p.1)
-    × IsToldItsOwn tells connections p.0 s.nonce s.answers) of.passes

@@ -1,14 +1,12 @@
 -- Laws of what connections that speak 9P2000 added.
-use Rattle.std.specs.Prelude.{◌≡◌, ℕ, ℤ, List, [], ◌++◌, Option, Some}
+use Rattle.std.specs.Prelude.{◌≡◌, ℕ, List, [], ◌++◌}
 use Rattle.std.specs.List.{AllByRecursion}
 use Rattle.pcfs_store.specs.Entries.{Root, StoreEntry}
 use Rattle.session_history.specs.Passes.{entry_pass}
 use Rattle.nine_messages.specs.Requests.{MessageView}
 use Rattle.nine_fids.specs.States.{begun_with}
 use Rattle.nine_front.specs.Asked.{IsAskedByMessage, IsByLogin}
-use Rattle.session_service.specs.Conversation.{ConnectionTells}
-use Rattle.nine_service.specs.Passes.{NineSources, AreOfNine, nine_sources_of}
-use Rattle.nine_service.specs.Conversation.{IsNineToldItsOwn}
+use Rattle.nine_service.specs.Passes.{NineSources, AreOfNine}
 use Rattle.pcfs_run.specs.Passes.{AreOfPasses}
 
 -- nothing was added
@@ -40,15 +38,3 @@ EachEntryHasItsMessage sources = (root : Root) (first : List StoreEntry)
     (attended count : ℕ) (added : List StoreEntry) →
     AreOfPasses (AreOfNine sources) root first attended count added →
     AllByRecursion (HasMessage sources root (first ++ added)) added
-
--- If the listener tells its connections before the run, each pass is that of a connection that was
--- told its own: after what its output held, some first part of the replies that are placed under
--- that pass. Passes have numbers of their own, so two have two connections.
-abbrev pub EachIsNineToldItsOwn : {I O : Type 0} → (List StoreEntry → ℤ → Type 0) →
-    ConnectionTells I O → List (I × O) → Option (List ℕ) → Type 0
-EachIsNineToldItsOwn gives tells connections nonces = (root : Root) (first : List StoreEntry)
-    (attended count : ℕ) (added : List StoreEntry) →
-    let sources = nine_sources_of gives tells (Some connections) nonces in
-    (of : AreOfPasses (AreOfNine sources) root first attended count added) →
-    AllByRecursion (λ (p : ℕ × List StoreEntry). (s : AreOfNine sources (record { root = root; number = p.0 }) (first ++ added) p.1)
-    × IsNineToldItsOwn tells connections p.0 s.messages s.replies) of.passes

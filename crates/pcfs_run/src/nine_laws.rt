@@ -4,7 +4,7 @@ ghost use Rattle.std.specs.Prelude.{◌≡◌, ℕ, List, [], Option, Some};
 ghost use Rattle.std.specs.List.{AllByRecursion};
 ghost use Rattle.session_service.specs.Conversation.{tells_of};
 ghost use Rattle.nine_service.specs.Passes.{nine_sources_of};
-ghost use Rattle.pcfs_run.specs.NineLaws.{MessagesAddNothing, NothingIsAddedUnsent, EachEntryHasItsMessage, EachIsNineToldItsOwn};
+ghost use Rattle.pcfs_run.specs.NineLaws.{MessagesAddNothing, NothingIsAddedUnsent, EachEntryHasItsMessage};
 
 use pcfs_ports::Listener;
 use session_history::TurnClock;
@@ -38,18 +38,6 @@ pub fn each_entry_has_its_message<L: Listener, C: TurnClock>(net: &L, clock: &C)
     ensures { (queue : Option (List (L.In × L.Out))) (nonces : Option (List ℕ)) →
         EachEntryHasItsMessage (nine_sources_of (C.gives clock.now)
         (tells_of L.In.left L.In.faults L.In.broken L.Out.held L.Out.faults L.Out.broken) queue nonces) }
-{
-    let _ = net;
-    let _ = clock;
-}
-
-/// If the listener tells its connections before the run, each pass is that of a connection that was told its own: after what
-/// its output held when it was accepted, some first part of the replies that are placed under that pass. Two passes have two
-/// connections.
-pub fn each_connection_is_told_its_own<L: Listener, C: TurnClock>(net: &L, clock: &C)
-    ensures { (connections : List (L.In × L.Out)) (nonces : Option (List ℕ)) →
-        EachIsNineToldItsOwn (C.gives clock.now)
-        (tells_of L.In.left L.In.faults L.In.broken L.Out.held L.Out.faults L.Out.broken) connections nonces }
 {
     let _ = net;
     let _ = clock;

@@ -9,4 +9,4 @@ pub mod SourceLemmas
 pub mod HeardLemmas
 pub mod HeldLemmas
 pub mod TalkEndsLemmas
-pub mod ToldLemmas
+pub mod DoneLemmas

@@ -1,12 +1,9 @@
 -- What the connection of a number was told (this project's own).
-use Rattle.std.specs.Prelude.{◌≡◌, ◌⊎◌, ℕ, ◌-◌, List, [], ◌∷◌, ◌++◌, Bool, Option, Some, slice_get}
+use Rattle.std.specs.Prelude.{◌≡◌, ℕ, ◌-◌, List, Bool, Option}
 use Rattle.line_wire.specs.declared.reply.LineReply.{LineReply}
-use Rattle.line_wire.specs.declared.reply.LineReply.TheVariants.{TooLong}
-use Rattle.pcfs_ports.specs.Observable.{HoldsSome}
 use Rattle.pcfs_ports.specs.Telling.{IsAt}
 use Rattle.pcfs_server.specs.Ends.{FailedLast}
 use Rattle.pcfs_session.specs.Streams.{Streams, streams_of}
-use Rattle.session_history.specs.Output.{session_output}
 use Rattle.session_service.specs.declared.session_end.SessionEnd.{SessionEnd}
 use Rattle.session_service.specs.declared.session_end.SessionEnd.TheVariants.{ReadFault, WriteFault}
 use Rattle.session_service.specs.Ends.{NothingFailedBefore}
@@ -50,10 +47,10 @@ AreThese lines answers answered replies = (answered ≡ lines) × (replies ≡ a
 -- The connection of a number had a session with this nonce, in which these lines were answered with
 -- these replies: from its input and its output as they were when it was accepted, if the listener
 -- told them, to an input and an output of their types, at the end, that tell what a session that
--- ended so leaves. So the output holds what it held, and then the greeting and these replies, or
--- where it failed or memory ran out a first part of that; and if the input was read to its end,
--- these lines are all its lines. If an input or an output does not tell its bytes, nothing is said
--- of these.
+-- ended so leaves. So at Done the output holds what it held, and then the greeting and these replies,
+-- and these lines are all of the input; where the output failed or memory ran out, it holds a first
+-- part of that, and more of the input may have been read than was answered. If an input or an output
+-- does not tell its bytes, nothing is said of these.
 pub record IsConversation {I O : Type 0} (tells : ConnectionTells I O) (queue : Option (List (I × O)))
     (number : ℕ) (nonce : List ℕ) (lines : List (List ℕ)) (answers : List LineReply) : Type 0 where
   pub input : I
@@ -72,17 +69,3 @@ pub record IsConversation {I O : Type 0} (tells : ConnectionTells I O) (queue : 
       (tells.read_faults input_after) (tells.read_broken input_after)
   pub write_failed : how ≡ WriteFault → FailedLast (tells.write_faults output)
       (tells.write_faults output_after) (tells.write_broken output_after)
-
--- The connection of a number, of those that were told, was told its own: an output of its type tells
--- what its output told when it was accepted, and after that some first part of the greeting with
--- this nonce and of these replies, perhaps with one more, that the next line is too long.
-pub record IsToldItsOwn {I O : Type 0} (tells : ConnectionTells I O) (connections : List (I × O))
-    (number : ℕ) (nonce : List ℕ) (answers : List LineReply) : Type 0 where
-  pub input : I
-  pub output : O
-  pub accepted : slice_get connections (number - 1) ≡ Some (input, output)
-  pub output_after : O
-  pub last : List LineReply
-  pub last_is : (last ≡ []) ⊎ (last ≡ TooLong ∷ [])
-  pub holds : HoldsSome (tells.held output) (tells.held output_after)
-      (session_output nonce (answers ++ last))

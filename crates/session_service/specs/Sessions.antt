@@ -78,7 +78,8 @@ sources_of gives tells queue nonces = record {
 -- lines, in this order. So each is what one of the lines asks for, at a moment that the clock
 -- gives over the entries that stand before it, also, of the mark of a disk that failed, the
 -- event that was being kept; and one of the lines logged in whoever it is by. These lines and
--- replies are what the connection was told. `from` is some place.
+-- replies are those of the conversation on that connection, which may have ended before the last
+-- reply was told. `from` is some place.
 pub record AreOfSession (sources : SessionSources) (p : StorePass) (history own : List StoreEntry) : Type 0 where
   pub nonce : List ℕ
   pub lines : List (List ℕ)

@@ -1,5 +1,5 @@
 use Rattle.session_service.specs.Conversation.{tells_of}
-use Rattle.session_service.proofs.ToldLemmas.{DoneAnswersAll-session}
+use Rattle.session_service.proofs.DoneLemmas.{DoneAnswersAll-session}
 use Rattle.session_service.proofs.laws.done_answers_all_lines.Goals as goal
 
 pub returns : goal.returns
