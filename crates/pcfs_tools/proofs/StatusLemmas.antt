@@ -21,7 +21,7 @@ ScriptStatus-unbegun secrets before after broken left reads held faults = record
   how = NoMemory;
   held = after.held;
   write_faults = after.write_faults;
-  ends = ScriptEnds-unbegun (fresh_start secrets) before after (IsLawfulStanding-fresh secrets) left held;
+  ends = ScriptEnds-unbegun (fresh_start secrets) before after (IsLawfulStanding-fresh secrets) refl left held;
   never_falls = omega (arith, faults);
   nothing_failed = record { input = reads; output = faults };
   read_failed = λ is. absurd cc;
