@@ -168,32 +168,36 @@ fn report<R: Log>(rt: &R, status: u8) {
     }
 }
 
-// Does and reports what is left after a run that ended with this status.
-fn end_run(rt: &HostRuntime, is_remedy: bool, status: u8) {
-    if is_remedy && status == DONE {
-        unmark(rt);
-    }
-    if status == NO_STORE {
-        write_no_store(rt);
-    }
-    report(rt, status);
-}
-
-// Runs the program with these words and secrets, and returns the status to end with.
-fn run_under(rt: &HostRuntime, words: &Vec<String>, secrets: &Secrets) -> u8 {
-    let mut input = StdSource::new(Named::new(rt, "standard input", rt.reader()));
-    let mut output = StdSink::new(Named::new(rt, "standard output", io::writer(rt)));
-    let is_remedy = are_remedy(words);
-    let a = FileDisk::marked(rt, FIRST_FILE, FAULT_MARK, is_remedy);
-    let b = FileDisk::marked(rt, SECOND_FILE, FAULT_MARK, is_remedy);
-    let clock = SystemClock::new(rt);
-    let mut net = TcpPort::new(rt);
-    let mut nonces = UrandomNonces::new(rt);
+fn main(rt: HostRuntime) -> ExitCode {
+    // A standard stream that was closed leaves its descriptor to the next file that is opened, and in that of a disk
+    // replies would be written. So these hold the descriptors; of a folder each read and each write fails.
+    let _first = fs::open(&rt, "/");
+    let _second = fs::open(&rt, "/");
+    let _third = fs::open(&rt, "/");
+    let words = match words_of(&rt) {
+        Ok(words) => words,
+        Err(fault) if fault.kind() == ErrorKind::OutOfMemory => return ExitCode::from(
+            OUT_OF_MEMORY,
+        ),
+        Err(_) => Vec::new(rt.alloc()),
+    };
+    let secrets = match secrets_of(&rt) {
+        Ok(secrets) => secrets,
+        Err(lacking) => return ExitCode::from(refuse(&rt, lacking)),
+    };
+    let mut input = StdSource::new(Named::new(&rt, "standard input", rt.reader()));
+    let mut output = StdSink::new(Named::new(&rt, "standard output", io::writer(&rt)));
+    let is_remedy = are_remedy(&words);
+    let a = FileDisk::marked(&rt, FIRST_FILE, FAULT_MARK, is_remedy);
+    let b = FileDisk::marked(&rt, SECOND_FILE, FAULT_MARK, is_remedy);
+    let clock = SystemClock::new(&rt);
+    let mut net = TcpPort::new(&rt);
+    let mut nonces = UrandomNonces::new(&rt);
     let ended = run(
-        rt,
+        &rt,
         rt.alloc(),
-        words,
-        secrets,
+        &words,
+        &secrets,
         &mut input,
         &mut output,
         a,
@@ -202,34 +206,12 @@ fn run_under(rt: &HostRuntime, words: &Vec<String>, secrets: &Secrets) -> u8 {
         &mut net,
         &mut nonces,
     );
-    end_run(rt, is_remedy, ended.status);
-    ended.status
-}
-
-// Runs the program with these words, and returns the status to end with.
-fn run_words(rt: &HostRuntime, words: &Vec<String>) -> u8 {
-    match secrets_of(rt) {
-        Ok(secrets) => run_under(rt, words, &secrets),
-        Err(lacking) => refuse(rt, lacking),
+    if is_remedy && ended.status == DONE {
+        unmark(&rt);
     }
-}
-
-// Runs the program, and returns the status to end with.
-fn run_given(rt: &HostRuntime) -> u8 {
-    match words_of(rt) {
-        Ok(words) => run_words(rt, &words),
-        Err(fault) => match fault.kind() {
-            ErrorKind::OutOfMemory => OUT_OF_MEMORY,
-            _ => run_words(rt, &Vec::new(rt.alloc())),
-        },
+    if ended.status == NO_STORE {
+        write_no_store(&rt);
     }
-}
-
-fn main(rt: HostRuntime) -> ExitCode {
-    // A standard stream that was closed leaves its descriptor to the next file that is opened, and in that of a disk
-    // replies would be written. So these hold the descriptors; of a folder each read and each write fails.
-    let _first = fs::open(&rt, "/");
-    let _second = fs::open(&rt, "/");
-    let _third = fs::open(&rt, "/");
-    ExitCode::from(run_given(&rt))
+    report(&rt, ended.status);
+    ExitCode::from(ended.status)
 }
