@@ -7,7 +7,7 @@ use Rattle.pcfs_run.proofs.ServedLemmas.{EndsServing-served, EndsServing-unopene
 use Rattle.pcfs_run.proofs.commands.serve.Goals as goal
 
 pub returns-in-Err : goal.returns-in-Err
-returns-in-Err g c left read_faults read_broken = serving.unopened (record { a_stays = refl; b_stays = refl }) (record { waiting_stays = refl; faults_stay = refl; nonce_faults_stay = refl }) refl refl
+returns-in-Err g c left read_faults read_broken = serving.unopened (record { bytes = record { a_stays = refl; b_stays = refl }; none_failed = record { a_stands = refl; b_stands = refl } }) (record { waiting_stays = refl; faults_stay = refl; nonce_faults_stay = refl }) refl refl
 
 pub returns-in-Err-open_store : goal.returns-in-Err-open_store
 returns-in-Err-open_store g c left read_faults read_broken =
