@@ -140,7 +140,11 @@ fn lacking(alloc: Global, path: &str, kind: ErrorKind) -> Result<Option<Bytes>, 
 }
 
 // The bytes of an open file.
-fn bytes_in<F: Read + Drop>(alloc: Global, path: &str, file: F) -> Result<Option<Bytes>, AreaFault> {
+fn bytes_in<F: Read + Drop>(
+    alloc: Global,
+    path: &str,
+    file: F,
+) -> Result<Option<Bytes>, AreaFault> {
     match read_to_end(alloc, &mut StdSource::new(file)) {
         Ok(bytes) => Ok(Some(bytes)),
         Err(TakeFault::NoMemory) => Err(AreaFault::NoMemory),
