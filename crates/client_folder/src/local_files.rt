@@ -4,13 +4,12 @@ use crate::messages::{ended, joined, system_fault};
 use crate::system::System;
 use bl_syntax::{Bytes, NoMemory};
 use client_words::{BAD_LINE, NO_FILE, Stop};
-use file_world::MOST_BYTES;
 use std::fs::{self, OpenOptions, Permissions};
 use std::io::{self, Error, ErrorKind, Read, Write};
 use std::os::unix::fs::{OpenOptionsExt, PermissionsExt};
 
 /// The most bytes of a file on the server.
-pub const LARGEST: usize = MOST_BYTES as usize;
+pub const LARGEST: usize = 1_048_576;
 
 /// How many bytes are read at once.
 const PIECE: usize = 65_536;

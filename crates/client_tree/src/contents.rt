@@ -5,7 +5,6 @@ ghost use Rattle.std.specs.Prelude.{◌≡◌, ◌*◌, ◌≤◌, IfOk, length}
 use crate::asking::{Client, ROUNDS, one_need, perform};
 use crate::paths::{NO_ENTRY, NO_NODE, node, unknown_result};
 use crate::ports::Ports;
-use bl_syntax::limits::MOST_BYTES_AT_ONCE;
 use bl_syntax::{Bytes, NodeId, Perm, copy_bytes};
 use client_words::{Place, Stop};
 use file_world::Op;
@@ -13,7 +12,7 @@ use line_text::read_hex;
 use std::alloc::Global;
 
 /// How many bytes one line reads or writes.
-const PIECE: usize = MOST_BYTES_AT_ONCE;
+const PIECE: usize = 65_536;
 
 /// How many pieces a file has at most, and one that is empty.
 const MOST_PIECES: u64 = 17;

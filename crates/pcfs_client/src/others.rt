@@ -121,9 +121,9 @@ fn secrets_in(rt: &HostRuntime, path: &str) -> Result<Secrets, Stop> {
     match Secrets::parse(alloc, text.as_bytes()) {
         Ok(secrets) => Ok(secrets),
         Err(SecretFault::NoMemory) => Err(Stop::NoMemory),
-        Err(fault) => {
+        Err(SecretFault::BadLine(place)) => {
             let mut words = joined(alloc, &["secrets ", path])?;
-            write!(words, ": {fault}")?;
+            write!(words, ": line {place} is bad")?;
             Err(Stop::Ended(NO_FILE, words))
         }
     }

@@ -1,7 +1,6 @@
 //! The user's session, wallet and list of statements, for one command.
 
 use crate::dialing::TcpDialer;
-use bl_syntax::limits::MOST_BYTES_AT_ONCE;
 use bl_syntax::{Bytes, Goal, NoMemory, NodeId, Numbers, Principal};
 use client_folder::home::{Home, second_now};
 use client_folder::local_files::drawn_digits;
@@ -15,7 +14,7 @@ use proof_verifier::Cite;
 use std::fs::{self, File};
 
 /// How many bytes one line reads or writes.
-const PIECE: u64 = MOST_BYTES_AT_ONCE as u64;
+const PIECE: u64 = 65_536;
 
 /// A line on the terminal that says how much is done, for what takes more than one piece.
 #[derive(Drop)]
