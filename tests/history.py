@@ -387,7 +387,7 @@ def wrong_cases(folder):
     yield [str(folder / "none")], 4, f"{folder / 'none'}: cannot be read"
     empty = folder / "empty"
     empty.mkdir()
-    yield [str(empty)], 2, f"{empty}: neither area is open"
+    yield [str(empty)], 2, f"{empty}: no open area is there"
     other = folder / "other"
     other.mkdir()
     (other / "pcfs.secrets").write_text(DRAWN_SECRETS)
@@ -401,7 +401,7 @@ def wrong_cases(folder):
     area[-2] ^= 1
     (other / "pcfs.a").write_bytes(area)
     (other / "pcfs.secrets").write_text(DRAWN_SECRETS)
-    yield [str(other)], 2, f"{other}: record 50: "
+    yield [str(other)], 2, f"{other}: record 50 is damaged"
     (other / "pcfs.fault").write_text("")
     yield [str(other)], 4, f"{other}/pcfs.fault: a sync of the store failed; the remedy is: pcfs checkpoint"
 

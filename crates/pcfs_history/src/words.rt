@@ -1,8 +1,10 @@
 //! What the words of the command ask for.
 
-use bl_syntax::{NoMemory, NodeId, Perm, Principal};
+use bl_syntax::byte_classes::is_digit;
+use bl_syntax::decimal::put_text;
+use bl_syntax::{Bytes, NoMemory, NodeId, Perm, Principal, TimePoint};
+use bl_text::parse_time;
 use history_table::Filter;
-use line_words::numerals;
 use std::alloc::Global;
 
 /// A permission on a node.
@@ -23,61 +25,36 @@ pub enum Asked {
     RestsOn(u32),
 }
 
-/// What is asked for, of words that stay where they are.
+/// What is asked for.
 #[derive(Drop)]
-pub struct Task<'a> {
-    pub areas: Vec<&'a str>,
+pub struct Task {
+    pub areas: Vec<String>,
     pub filter: Filter,
     pub json: bool,
     pub asked: Asked,
     /// The second for which it is asked who may; now, if there is none.
     pub at: Option<i64>,
-    pub secrets: Option<&'a str>,
+    pub secrets: Option<String>,
 }
 
-/// What is wrong with the words.
-#[derive(Clone, Copy)]
-pub enum WordFault<'a> {
-    /// This was to stand there.
-    Lacks(&'static str),
-    /// No option has this name.
-    Unknown(&'a str),
+/// A word that is wrong: what it was to be, and the word, if there is one.
+#[derive(Drop)]
+pub struct WordFault {
+    pub wanted: &'static str,
+    pub word: Option<String>,
 }
 
 /// What the words ask for.
-#[derive(Clone, Copy)]
-pub enum Wish<'a> {
-    /// What the task says.
-    Write,
+#[derive(Drop)]
+pub enum Wish {
+    Write(Task),
     Help,
     Version,
-    Bad(WordFault<'a>),
+    Bad(WordFault),
 }
 
-// Which time an option sets.
-#[derive(Clone, Copy)]
-enum Which {
-    From,
-    To,
-    At,
-}
-
-// An option.
-#[derive(Clone, Copy)]
-enum Named {
-    File,
-    Who,
-    Time(Which),
-    Json,
-    WhoMay,
-    RestsOn,
-    Secrets,
-    Help,
-    Version,
-}
-
-// What becomes of a word.
-#[derive(Clone, Copy)]
+/// What becomes of an option.
+#[derive(Drop)]
 enum Taken {
     /// It was taken, with so many words after it.
     Words(usize),
@@ -88,220 +65,278 @@ enum Taken {
     Unknown,
 }
 
-impl<'a> Task<'a> {
-    /// All events of no area.
-    pub fn new(alloc: Global) -> Task<'a> {
-        Task {
-            areas: Vec::new(alloc),
-            filter: Filter {
-                file: None,
-                who: None,
-                from: None,
-                to: None,
-            },
-            json: false,
-            asked: Asked::Events,
-            at: None,
-            secrets: None,
-        }
+fn copied(alloc: Global, word: &str) -> Result<String, NoMemory> {
+    match String::from_str(alloc, word) {
+        Ok(word) => Ok(word),
+        Err(_) => Err(NoMemory),
     }
 }
 
-fn option_named(word: &str) -> Option<Named> {
-    match word {
-        "--file" => Some(Named::File),
-        "--who" => Some(Named::Who),
-        "--from" => Some(Named::Time(Which::From)),
-        "--to" => Some(Named::Time(Which::To)),
-        "--at" => Some(Named::Time(Which::At)),
-        "--json" => Some(Named::Json),
-        "--who-may" => Some(Named::WhoMay),
-        "--rests-on" => Some(Named::RestsOn),
-        "--secrets" => Some(Named::Secrets),
-        "--help" => Some(Named::Help),
-        "--version" => Some(Named::Version),
-        _ => None,
+fn number_of(word: &str) -> Option<u64> {
+    if word.is_empty() || !word.as_bytes().iter().all(|byte| is_digit(*byte)) {
+        return None;
     }
-}
-
-fn permission_named(word: &str) -> Option<Perm> {
-    match word {
-        "read" => Some(Perm::Read),
-        "write" => Some(Perm::Write),
-        "execute" => Some(Perm::Execute),
-        "identity" => Some(Perm::Identity),
-        "govern" => Some(Perm::Govern),
-        _ => None,
+    match word.parse::<u64>() {
+        Ok(number) => Some(number),
+        Err(_) => None,
     }
 }
 
 fn statement_of(word: Option<&String>) -> Option<u32> {
-    numerals::number(word?.as_str().as_bytes())
-}
-
-fn second_of(word: Option<&String>) -> Option<i64> {
-    numerals::second(word?.as_str().as_bytes())
-}
-
-fn file_of(word: Option<&String>) -> Option<NodeId> {
-    numerals::file(word?.as_str().as_bytes())
-}
-
-fn permission_of(word: Option<&String>) -> Option<Perm> {
-    permission_named(word?.as_str())
-}
-
-fn principal_of(word: Option<&String>) -> Option<Principal> {
-    Principal::new(word?.as_str().as_bytes())
-}
-
-fn set_time(task: &mut Task<'_>, which: Which, second: i64) {
-    match which {
-        Which::From => task.filter.from = Some(second),
-        Which::To => task.filter.to = Some(second),
-        Which::At => task.at = Some(second),
+    let word = match word {
+        Some(word) => word.as_str(),
+        None => return None,
+    };
+    match number_of(word) {
+        Some(number) => match u32::try_from(number) {
+            Ok(number) => Some(number),
+            Err(_) => None,
+        },
+        None => None,
     }
 }
 
-fn take_time(task: &mut Task<'_>, which: Which, word: Option<&String>) -> Taken {
+fn second_of(word: Option<&String>) -> Option<i64> {
+    let word = match word {
+        Some(word) => word.as_str(),
+        None => return None,
+    };
+    match parse_time(word.as_bytes()) {
+        Ok(TimePoint::At(second)) => Some(second),
+        _ => None,
+    }
+}
+
+fn file_of(word: Option<&String>) -> Option<NodeId> {
+    let word = match word {
+        Some(word) => word.as_str(),
+        None => return None,
+    };
+    match word.strip_prefix("#") {
+        Some(digits) => match number_of(digits) {
+            Some(number) => Some(NodeId(number)),
+            None => None,
+        },
+        None => None,
+    }
+}
+
+fn perm_of(word: Option<&String>) -> Option<Perm> {
+    let word = match word {
+        Some(word) => word.as_str(),
+        None => return None,
+    };
+    if word == "read" {
+        return Some(Perm::Read);
+    }
+    if word == "write" {
+        return Some(Perm::Write);
+    }
+    if word == "execute" {
+        return Some(Perm::Execute);
+    }
+    if word == "identity" {
+        return Some(Perm::Identity);
+    }
+    if word == "govern" {
+        Some(Perm::Govern)
+    } else {
+        None
+    }
+}
+
+// Which time an option sets.
+#[derive(Clone, Copy)]
+enum Which {
+    From,
+    To,
+    At,
+}
+
+fn take_time(task: &mut Task, which: Which, word: Option<&String>) -> Taken {
     match second_of(word) {
         Some(second) => {
-            set_time(task, which, second);
+            match which {
+                Which::From => task.filter.from = Some(second),
+                Which::To => task.filter.to = Some(second),
+                Which::At => task.at = Some(second),
+            }
             Taken::Words(1)
         }
         None => Taken::Lacks("a second or a date after --from, --to and --at"),
     }
 }
 
-fn take_file(filter: &mut Filter, word: Option<&String>) -> Taken {
+fn take_file(task: &mut Task, word: Option<&String>) -> Taken {
     match file_of(word) {
         Some(file) => {
-            filter.file = Some(file);
+            task.filter.file = Some(file);
             Taken::Words(1)
         }
         None => Taken::Lacks("a node after --file, as #1"),
     }
 }
 
-fn take_who(filter: &mut Filter, word: Option<&String>) -> Taken {
-    match principal_of(word) {
+fn take_who(task: &mut Task, word: Option<&String>) -> Taken {
+    let who = match word {
+        Some(word) => Principal::new(word.as_bytes()),
+        None => None,
+    };
+    match who {
         Some(who) => {
-            filter.who = Some(who);
+            task.filter.who = Some(who);
             Taken::Words(1)
         }
         None => Taken::Lacks("a principal after --who"),
     }
 }
 
-fn take_question(asked: &mut Asked, file: Option<&String>, permission: Option<&String>) -> Taken {
-    match (file_of(file), permission_of(permission)) {
-        (Some(file), Some(permission)) => {
-            *asked = Asked::WhoMay(Question { file, permission });
-            Taken::Words(2)
-        }
-        (Some(_), None) => Taken::Lacks(
-            "read, write, execute, identity or govern after the node of --who-may",
-        ),
-        (None, _) => Taken::Lacks("a node after --who-may, as #1"),
+fn take_question(task: &mut Task, file: Option<&String>, permission: Option<&String>) -> Taken {
+    match file_of(file) {
+        Some(file) => match perm_of(permission) {
+            Some(permission) => {
+                task.asked = Asked::WhoMay(Question { file, permission });
+                Taken::Words(2)
+            }
+            None => Taken::Lacks(
+                "read, write, execute, identity or govern after the node of --who-may",
+            ),
+        },
+        None => Taken::Lacks("a node after --who-may, as #1"),
     }
 }
 
-fn take_statement(asked: &mut Asked, word: Option<&String>) -> Taken {
+fn take_statement(task: &mut Task, word: Option<&String>) -> Taken {
     match statement_of(word) {
         Some(statement) => {
-            *asked = Asked::RestsOn(statement);
+            task.asked = Asked::RestsOn(statement);
             Taken::Words(1)
         }
         None => Taken::Lacks("the number of a statement after --rests-on"),
     }
 }
 
-fn take_secrets<'a>(task: &mut Task<'a>, word: Option<&'a String>) -> Taken {
+fn take_secrets(alloc: Global, task: &mut Task, word: Option<&String>) -> Result<Taken, NoMemory> {
     match word {
         Some(path) => {
-            task.secrets = Some(path.as_str());
-            Taken::Words(1)
+            task.secrets = Some(copied(alloc, path.as_str())?);
+            Ok(Taken::Words(1))
         }
-        None => Taken::Lacks("a file after --secrets"),
+        None => Ok(Taken::Lacks("a file after --secrets")),
     }
 }
 
 // Takes an option, with the words after it if it has some.
-fn take_option<'a>(
-    task: &mut Task<'a>,
-    option: Named,
-    first: Option<&'a String>,
-    second: Option<&'a String>,
-) -> Taken {
-    match option {
-        Named::File => take_file(&mut task.filter, first),
-        Named::Who => take_who(&mut task.filter, first),
-        Named::Time(which) => take_time(task, which, first),
-        Named::Json => {
-            task.json = true;
-            Taken::Words(0)
-        }
-        Named::WhoMay => take_question(&mut task.asked, first, second),
-        Named::RestsOn => take_statement(&mut task.asked, first),
-        Named::Secrets => take_secrets(task, first),
-        Named::Help => Taken::Help,
-        Named::Version => Taken::Version,
-    }
-}
-
-// Takes a word, with those after it that belong to it: an option, or an area.
-fn take_word<'a>(
-    task: &mut Task<'a>,
-    word: &'a str,
-    first: Option<&'a String>,
-    second: Option<&'a String>,
+fn take_option(
+    alloc: Global,
+    task: &mut Task,
+    option: &str,
+    first: Option<&String>,
+    second: Option<&String>,
 ) -> Result<Taken, NoMemory> {
-    if !word.starts_with("--") {
-        task.areas.push(word)?;
+    if option == "--file" {
+        return Ok(take_file(task, first));
+    }
+    if option == "--who" {
+        return Ok(take_who(task, first));
+    }
+    if option == "--from" {
+        return Ok(take_time(task, Which::From, first));
+    }
+    if option == "--to" {
+        return Ok(take_time(task, Which::To, first));
+    }
+    if option == "--at" {
+        return Ok(take_time(task, Which::At, first));
+    }
+    if option == "--json" {
+        task.json = true;
         return Ok(Taken::Words(0));
     }
-    match option_named(word) {
-        Some(option) => Ok(take_option(task, option, first, second)),
-        None => Ok(Taken::Unknown),
+    if option == "--who-may" {
+        return Ok(take_question(task, first, second));
+    }
+    if option == "--rests-on" {
+        return Ok(take_statement(task, first));
+    }
+    if option == "--secrets" {
+        return take_secrets(alloc, task, first);
+    }
+    if option == "--help" {
+        return Ok(Taken::Help);
+    }
+    if option == "--version" {
+        Ok(Taken::Version)
+    } else {
+        Ok(Taken::Unknown)
     }
 }
 
-// With which wish the words end at this one, if they do.
-fn wish_at<'a>(word: &'a str, taken: Taken) -> Option<Wish<'a>> {
-    match taken {
-        Taken::Words(_) => None,
-        Taken::Help => Some(Wish::Help),
-        Taken::Version => Some(Wish::Version),
-        Taken::Lacks(wanted) => Some(Wish::Bad(WordFault::Lacks(wanted))),
-        Taken::Unknown => Some(Wish::Bad(WordFault::Unknown(word))),
+fn is_option(word: &str) -> bool {
+    word.starts_with("--")
+}
+
+fn nothing_asked(alloc: Global) -> Task {
+    Task {
+        areas: Vec::new(alloc),
+        filter: Filter {
+            file: None,
+            who: None,
+            from: None,
+            to: None,
+        },
+        json: false,
+        asked: Asked::Events,
+        at: None,
+        secrets: None,
     }
 }
 
-// How many words after this one belong to it.
-fn passed_after(taken: Taken) -> usize {
-    match taken {
-        Taken::Words(more) => more,
-        _ => 0,
-    }
-}
-
-/// Adds to the task what the words say, which are without the program's name, and returns what they ask for.
-pub fn read_words<'a>(words: &'a Vec<String>, task: &mut Task<'a>) -> Result<Wish<'a>, NoMemory> {
+/// What the words ask for. They are without the program's name.
+pub fn wish_of(alloc: Global, words: &Vec<String>) -> Result<Wish, NoMemory> {
+    let mut task = nothing_asked(alloc);
     let mut passed = 0usize;
     for (place, word) in words.as_slice().iter().enumerate() {
         if 0 < passed {
             passed -= 1;
             continue;
         }
-        let word = word.as_str();
-        let taken = take_word(task, word, words.get(place + 1), words.get(place + 2))?;
-        if let Some(wish) = wish_at(word, taken) {
-            return Ok(wish);
+        if !is_option(word.as_str()) {
+            task.areas.push(copied(alloc, word.as_str())?)?;
+            continue;
         }
-        passed = passed_after(taken);
+        let first = words.get(place + 1);
+        let second = words.get(place + 2);
+        match take_option(alloc, &mut task, word.as_str(), first, second)? {
+            Taken::Words(more) => passed = more,
+            Taken::Help => return Ok(Wish::Help),
+            Taken::Version => return Ok(Wish::Version),
+            Taken::Lacks(wanted) => return Ok(Wish::Bad(WordFault { wanted, word: None })),
+            Taken::Unknown => return Ok(Wish::Bad(WordFault {
+                wanted: "an option of --help",
+                word: Some(copied(alloc, word.as_str())?),
+            })),
+        }
     }
     if task.areas.is_empty() {
-        return Ok(Wish::Bad(WordFault::Lacks("an area: a folder, or a file")));
+        return Ok(Wish::Bad(WordFault {
+            wanted: "an area: a folder, or a file",
+            word: None,
+        }));
     }
-    Ok(Wish::Write)
+    Ok(Wish::Write(task))
+}
+
+/// Writes which word is wrong, and how.
+pub fn put_word_fault(out: &mut Bytes, fault: &WordFault) -> Result<(), NoMemory> {
+    put_text(out, "pcfs-history: ")?;
+    match &fault.word {
+        Some(word) => {
+            put_text(out, word.as_str())?;
+            put_text(out, ": ")?;
+        }
+        None => {}
+    }
+    put_text(out, "wanted ")?;
+    put_text(out, fault.wanted)
 }
