@@ -30,4 +30,5 @@ abbrev pub OutputsHoldTheirOwn : {I O : Type 0} → (List StoreEntry → ℤ →
     ConnectionTells I O → Option (List (I × O)) → Option (List ℕ) → Type 0
 OutputsHoldTheirOwn gives tells queue nonces = (p : StorePass) (history own : List StoreEntry) →
     (s : AreOfNine (nine_sources_of gives tells queue nonces) p history own) →
-    HoldsAtEnd s.told.how (tells.held s.told.output) (tells.held s.told.output_after) s.messages s.replies
+    HoldsAtEnd s.told.how (tells.held s.told.output) (tells.held s.told.output_after)
+    s.messages s.replies

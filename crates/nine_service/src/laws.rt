@@ -12,7 +12,8 @@ use session_history::TurnClock;
 pub fn done_answers_all_messages<L: Listener, C: TurnClock>(net: &L, clock: &C)
     ensures { (queue : Option (List (L.In × L.Out))) (nonces : Option (List ℕ)) →
         DoneAnswersAll (C.gives clock.now)
-        (tells_of L.In.left L.In.faults L.In.broken L.Out.held L.Out.faults L.Out.broken) queue nonces }
+        (tells_of L.In.left L.In.faults L.In.broken L.Out.held L.Out.faults L.Out.broken)
+        queue nonces }
 {
     let _ = net;
     let _ = clock;
@@ -23,7 +24,8 @@ pub fn done_answers_all_messages<L: Listener, C: TurnClock>(net: &L, clock: &C)
 pub fn outputs_hold_their_own<L: Listener, C: TurnClock>(net: &L, clock: &C)
     ensures { (queue : Option (List (L.In × L.Out))) (nonces : Option (List ℕ)) →
         OutputsHoldTheirOwn (C.gives clock.now)
-        (tells_of L.In.left L.In.faults L.In.broken L.Out.held L.Out.faults L.Out.broken) queue nonces }
+        (tells_of L.In.left L.In.faults L.In.broken L.Out.held L.Out.faults L.Out.broken)
+        queue nonces }
 {
     let _ = net;
     let _ = clock;

@@ -69,14 +69,15 @@ EachEntryHasItsLine sources = (root : Root) (first : List StoreEntry)
     AllByRecursion (HasLine sources root (first ++ added)) added
 
 -- In this session a connection of those that the listener told was told its own: it is the one of
--- the pass's number, and at its end its output holds what it held when it was accepted, the greeting
--- and the replies that are placed under the pass, of which only the last may be cut off, and the
--- greeting only if the output failed. If the session ended as its input did, the lines are all of
--- that.
+-- the pass's number, and at its end its output holds what it held when it was accepted, the
+-- greeting and the replies that are placed under the pass, of which only the last may be cut off,
+-- and the greeting only if the output failed. If the session ended as its input did, the lines are
+-- all of that.
 pub record IsToldItsOwn {I O : Type 0} (gives : List StoreEntry → ℤ → Type 0)
     (tells : ConnectionTells I O) (connections : List (I × O)) (nonces : Option (List ℕ))
     (p : StorePass) (history own : List StoreEntry)
-    (s : AreOfSession (sources_of gives tells (Some connections) nonces) p history own) : Type 0 where
+    (s : AreOfSession (sources_of gives tells (Some connections) nonces) p history own) :
+    Type 0 where
   pub accepted : slice_get connections (p.number - 1) ≡ Some (s.told.input, s.told.output)
   pub holds : HoldsAtEnd s.told.how s.nonce (tells.held s.told.output)
       (tells.held s.told.output_after) s.answers

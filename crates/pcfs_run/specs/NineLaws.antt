@@ -44,14 +44,15 @@ EachEntryHasItsMessage sources = (root : Root) (first : List StoreEntry)
     AreOfPasses (AreOfNine sources) root first attended count added →
     AllByRecursion (HasMessage sources root (first ++ added)) added
 
--- A connection of those that the listener told was told its own: it is the one of the pass's number,
--- and at its end its output holds what it held when it was accepted, and the replies that are placed
--- under the pass, of which only the last may be cut off. If it ended as its input did, the messages
--- are all of that.
+-- A connection of those that the listener told was told its own: it is the one of the pass's
+-- number, and at its end its output holds what it held when it was accepted, and the replies that
+-- are placed under the pass, of which only the last may be cut off. If it ended as its input did,
+-- the messages are all of that.
 pub record IsToldItsOwn {I O : Type 0} (gives : List StoreEntry → ℤ → Type 0)
     (tells : ConnectionTells I O) (connections : List (I × O)) (nonces : Option (List ℕ))
     (p : StorePass) (history own : List StoreEntry)
-    (s : AreOfNine (nine_sources_of gives tells (Some connections) nonces) p history own) : Type 0 where
+    (s : AreOfNine (nine_sources_of gives tells (Some connections) nonces) p history own) :
+    Type 0 where
   pub accepted : slice_get connections (p.number - 1) ≡ Some (s.told.input, s.told.output)
   pub holds : HoldsAtEnd s.told.how (tells.held s.told.output) (tells.held s.told.output_after)
       s.messages s.replies

@@ -49,7 +49,8 @@ pub fn each_entry_has_its_message<L: Listener, C: TurnClock>(net: &L, clock: &C)
 pub fn each_connection_is_told_its_own<L: Listener, C: TurnClock>(net: &L, clock: &C)
     ensures { (connections : List (L.In × L.Out)) (nonces : Option (List ℕ)) →
         EachIsToldItsOwn (C.gives clock.now)
-        (tells_of L.In.left L.In.faults L.In.broken L.Out.held L.Out.faults L.Out.broken) connections nonces }
+        (tells_of L.In.left L.In.faults L.In.broken L.Out.held L.Out.faults L.Out.broken)
+        connections nonces }
 {
     let _ = net;
     let _ = clock;

@@ -139,13 +139,14 @@ DoneAnswersAll gives tells queue nonces = (p : StorePass) (history own : List St
     IfSome (tells.left s.told.input) (λ bytes. s.lines ≡ lines_of bytes) ×
     (tells.held s.told.output_after ≡ with_back (tells.held s.told.output) (session_output s.nonce s.answers))
 
--- what the output of a session holds at its end is what it held, the greeting and the replies to its
--- lines, of which only the last may be cut off, and the greeting only if the output failed
+-- what the output of a session holds at its end is what it held, the greeting and the replies to
+-- its lines, of which only the last may be cut off, and the greeting only if the output failed
 abbrev pub OutputsHoldTheirOwn : {I O : Type 0} → (List StoreEntry → ℤ → Type 0) →
     ConnectionTells I O → Option (List (I × O)) → Option (List ℕ) → Type 0
 OutputsHoldTheirOwn gives tells queue nonces = (p : StorePass) (history own : List StoreEntry) →
     (s : AreOfSession (sources_of gives tells queue nonces) p history own) →
-    HoldsAtEnd s.told.how s.nonce (tells.held s.told.output) (tells.held s.told.output_after) s.answers
+    HoldsAtEnd s.told.how s.nonce (tells.held s.told.output) (tells.held s.told.output_after)
+    s.answers
 
 -- two sessions of one run have two nonces, if the bytes that are told for their numbers differ
 abbrev pub SessionsHaveTwoNonces : Type 0

@@ -7,33 +7,33 @@ use Rattle.line_wire.specs.declared.reply.LineReply.{LineReply}
 use Rattle.line_wire.specs.declared.reply.LineReply.TheVariants.{TooLong}
 use Rattle.session_history.specs.Output.{session_output}
 use Rattle.session_service.specs.declared.session_end.SessionEnd.{SessionEnd}
-use Rattle.session_service.specs.declared.session_end.SessionEnd.TheVariants as session_ends
+use Rattle.session_service.specs.declared.session_end.SessionEnd.TheVariants as ends
 use Rattle.session_service.specs.Written.{HoldsUpToLast}
 
 -- beside what it held, the greeting with this nonce, and all of these replies
 abbrev pub HoldsAll : List ℕ → Option (List ℕ) → Option (List ℕ) → List LineReply → Type 0
-HoldsAll nonce held held_after answers = held_after ≡ with_back held (session_output nonce answers)
+HoldsAll nonce held new answers = new ≡ with_back held (session_output nonce answers)
 
 -- the same, but of the last reply some first part, which may be one more reply: that the next line
 -- is too long
 abbrev pub HoldsMost : List ℕ → Option (List ℕ) → Option (List ℕ) → List LineReply → Type 0
-HoldsMost nonce held held_after answers = HoldsUpToLast nonce held held_after answers
-    ⊎ HoldsUpToLast nonce held held_after (answers ++ TooLong ∷ [])
+HoldsMost nonce held new answers = HoldsUpToLast nonce held new answers
+    ⊎ HoldsUpToLast nonce held new (answers ++ TooLong ∷ [])
 
 -- there is no reply, and it holds some first part of the greeting
 abbrev pub HoldsLess : List ℕ → Option (List ℕ) → Option (List ℕ) → List LineReply → Type 0
-HoldsLess nonce held held_after answers =
-    (answers ≡ []) × HoldsSome held held_after (greeting_text nonce ++ 10 ∷ [])
+HoldsLess nonce held new answers =
+    (answers ≡ []) × HoldsSome held new (greeting_text nonce ++ 10 ∷ [])
 
--- What it holds after a session in which these replies were given: all, and after a line that is too
--- long that it is; if memory ran out, most; if the output failed, most, or less than the greeting.
+-- What it holds after a session in which these replies were given: all, and after a line that is
+-- too long that it is; if memory ran out, most; if the output failed, most, or less than the
+-- greeting.
 abbrev pub HoldsAtEnd : SessionEnd → List ℕ → Option (List ℕ) → Option (List ℕ) →
     List LineReply → Type 0
-HoldsAtEnd session_ends.Done nonce held held_after answers = HoldsAll nonce held held_after answers
-HoldsAtEnd session_ends.LineTooLong nonce held held_after answers =
-    HoldsAll nonce held held_after (answers ++ TooLong ∷ [])
-HoldsAtEnd session_ends.ReadFault nonce held held_after answers = HoldsAll nonce held held_after answers
-HoldsAtEnd session_ends.WriteFault nonce held held_after answers =
-    HoldsLess nonce held held_after answers ⊎ HoldsMost nonce held held_after answers
-HoldsAtEnd session_ends.NoMemory nonce held held_after answers = HoldsMost nonce held held_after answers
-HoldsAtEnd session_ends.InputTooLong nonce held held_after answers = HoldsAll nonce held held_after answers
+HoldsAtEnd ends.Done nonce held new answers = HoldsAll nonce held new answers
+HoldsAtEnd ends.LineTooLong nonce held new answers = HoldsAll nonce held new (answers ++ TooLong ∷ [])
+HoldsAtEnd ends.ReadFault nonce held new answers = HoldsAll nonce held new answers
+HoldsAtEnd ends.WriteFault nonce held new answers =
+    HoldsLess nonce held new answers ⊎ HoldsMost nonce held new answers
+HoldsAtEnd ends.NoMemory nonce held new answers = HoldsMost nonce held new answers
+HoldsAtEnd ends.InputTooLong nonce held new answers = HoldsAll nonce held new answers

@@ -220,7 +220,8 @@ impl<'a, D: Disk + Send, C: TurnClock, N: Nonces + 'a, L: Listener> Service<L::I
             (L.queue self.now.net.value) (N.coming self.now.nonces.value))
             token.old.attended token.old.pass }
         requires once { token.old.attended ≡ false }
-        requires expected { IsConnectionOf (L.queue self.now.net.value) token.old.pass.number input output }
+        requires expected { IsConnectionOf (L.queue self.now.net.value) token.old.pass.number
+            input output }
         ensures belongs { (token.new.pass.lock ≡ self.now.lock.now)
             × IsNonceOf (N.coming self.now.nonces.value) token.new.pass.number token.new.nonce
             × IsConnectionPass (sources_of (C.gives self.now.clock.now)
@@ -238,8 +239,10 @@ impl<'a, D: Disk + Send, C: TurnClock, N: Nonces + 'a, L: Listener> Service<L::I
             NothingFailedBefore
             (streams_of L.In.left L.In.faults L.Out.held L.Out.faults input output) end
             (streams_of L.In.left L.In.faults L.Out.held L.Out.faults result.input result.output) ×
-            (end ≡ SessionEnd.ReadFault → FailedLast (L.In.faults input) (L.In.faults result.input) (L.In.broken result.input)) ×
-            (end ≡ SessionEnd.WriteFault → FailedLast (L.Out.faults output) (L.Out.faults result.output) (L.Out.broken result.output)) }
+            (end ≡ SessionEnd.ReadFault → FailedLast (L.In.faults input) (L.In.faults result.input)
+            (L.In.broken result.input)) ×
+            (end ≡ SessionEnd.WriteFault → FailedLast (L.Out.faults output) (L.Out.faults result.output)
+            (L.Out.broken result.output)) }
         ensures greets_first { GreetsFirst token.old.nonce
             (streams_of L.In.left L.In.faults L.Out.held L.Out.faults input output)
             (streams_of L.In.left L.In.faults L.Out.held L.Out.faults result.input result.output) }

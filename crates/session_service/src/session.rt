@@ -66,10 +66,11 @@ fn answer_lines<R: Wait, I: Source, O: Sink, D: Disk, C: TurnClock, K: Checker>(
 /// the code outside the lock.
 ///
 /// The greeting is written whole, unless the output fails; then nothing is asked of the input. By the order of the code, and
-/// no clause, the greeting is out before the first read, and each reply before more of the input is taken. At `Done` the input was read to its end and each of
-/// its lines was answered. No call of the input failed, unless the session ends by that, and none of the output, unless it
-/// ends by that. Each reply has its place in each history that begins with what the pass has seen at the end, after what it
-/// had seen at first, and places do not go back; what the pass was given by the replies is what its own entries grew by.
+/// no clause, the greeting is out before the first read, and each reply before more of the input is taken. At `Done` the
+/// input was read to its end and each of its lines was answered. No call of the input failed, unless the session ends by
+/// that, and none of the output, unless it ends by that. Each reply has its place in each history that begins with what the
+/// pass has seen at the end, after what it had seen at first, and places do not go back; what the pass was given by the
+/// replies is what its own entries grew by.
 pub fn serve_session_with<R: Wait, I: Source, O: Sink, D: Disk, C: TurnClock, K: Checker>(
     rt: &R,
     alloc: Global,
