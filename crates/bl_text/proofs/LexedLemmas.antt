@@ -1,13 +1,14 @@
 -- The constants that tokens of a text are: none is a variable, and each time is in the range of moments.
 use Rattle.std.proofs.Common.{◌≡◌, ℕ, ℤ, ◌+◌, Bool, true, false, List, [], ◌∷◌, refl}
-use Rattle.std.specs.Prelude.{pos, neg_ℤ, ◌+ℤ◌, ◌^◌, length, take, drop, codes, nat_le, nat_eq, ◌&&◌, ◌==◌, Option, Some, None, if◌then◌else◌}
+use Rattle.std.specs.Prelude.{T, pos, negsuc, neg_ℤ, ◌+ℤ◌, ◌^◌, length, take, drop, codes, nat_le, nat_eq, ◌&&◌, ◌==◌, Option, Some, None, if◌then◌else◌}
 use Rattle.std.specs.List.{prefix_len, take_while, starts_with}
 use Rattle.std.specs.Str.{bytes_eq}
+use Rattle.std.proofs.lemmas.Bool.{false≢true}
 use Rattle.bl_syntax.specs.declared.terms.Term.{Term}
 use Rattle.bl_syntax.specs.declared.terms.Term.TheVariants.{Prin, File, Perm, Time, Text, Ctime, Param, Bound}
 use Rattle.bl_syntax.specs.declared.terms.TimePoint.TheVariants as times
 use Rattle.bl_syntax.specs.declared.terms.Sort.{Sort}
-use Rattle.bl_syntax.specs.TimeOrder.{IsInRange}
+use Rattle.bl_syntax.specs.TimeOrder.{IsMoment, IsInRange}
 use Rattle.bl_syntax.specs.Names.{is_lower_case, is_upper_case, is_digit, is_principal_name}
 use Rattle.bl_tokens.specs.declared.classes.Class.TheVariants as classes
 use Rattle.bl_tokens.specs.declared.tokens.Sign.{Sign}
@@ -19,7 +20,6 @@ use Rattle.bl_tokens.specs.declared.tokens.Lexeme.{Lexeme}
 use Rattle.bl_tokens.specs.Classes.{is_in}
 use Rattle.bl_tokens.specs.Numerals.{numeral_below}
 use Rattle.bl_syntax.specs.Reading.{is_moment}
-use Rattle.bl_syntax.proofs.FieldLemmas.{moment_is}
 use Rattle.bl_tokens.specs.Dates.{has_date_front, has_time_of_day, date_second_at, day_second_at}
 use Rattle.bl_tokens.specs.Words.{keyword, sort_named, constant_named, constant_or_name, sort_or_other, keyword_or_other, name_token}
 use Rattle.bl_tokens.specs.Tokens.{sized_lexeme, bad_lexeme, second_token, short_value, token_at_both, digits_of, integer_lexeme, negative_lexeme, time_lexeme, minus_lexeme, plus_lexeme, file_lexeme, parameter_lexeme, text_lexeme, has_first_byte, short_sign, sign_lexeme, other_lexeme, first_lexeme, word_lexeme, variable_lexeme, token_from}
@@ -46,6 +46,18 @@ IsLexed (Keyword word) = Unit {0}
 IsLexed (tokens.Sign sign) = Unit {0}
 IsLexed End = Unit {0}
 IsLexed Bad = Unit {0}
+
+T-from_true : (b : Bool) → b ≡ true → T b
+T-from_true true e = tt
+T-from_true false e = absurd (false≢true e)
+
+T-first : (a b : Bool) → (a && b) ≡ true → T a
+T-first true b e = tt
+T-first false b e = absurd (false≢true e)
+
+moment_is : (second : ℤ) → is_moment second ≡ true → IsMoment second
+moment_is (pos n) h = record { not_before = record { le = tt }; not_after = record { le = T-from_true _ h } }
+moment_is (negsuc n) h = record { not_before = record { le = T-first _ _ h }; not_after = record { le = tt } }
 
 second_by : (second : ℤ) (b : Bool) → is_moment second ≡ b → IsLexed (if b then Constant (Time (times.At second)) else BadDate)
 second_by second true h = moment_is second h

@@ -1,6 +1,6 @@
 -- The text of a term is one token, and that token is the term.
 use Rattle.std.proofs.Common.{◌≡◌, ℕ, ℤ, suc, ◌+◌, ◌-◌, Bool, true, false, List, [], ◌∷◌, ◌++◌, length, append_assoc, refl, ap, ◌∙◌, arith}
-use Rattle.std.specs.Prelude.{T, ◌<◌, ◌^◌, pos, negsuc, codes, nat_le, if◌then◌else◌}
+use Rattle.std.specs.Prelude.{T, ◌<◌, ◌^◌, pos, negsuc, codes, nat_le, ◌&&◌, if◌then◌else◌}
 use Rattle.std.specs.Fmt.{decimal}
 use Rattle.std.proofs.lemmas.Bool.{false≢true}
 use Rattle.std.proofs.lemmas.Bool.Decides.{nat_tests}
@@ -15,7 +15,6 @@ use Rattle.bl_syntax.specs.Spelling.{IsSpellable}
 use Rattle.bl_tokens.specs.declared.tokens.Token.{Token}
 use Rattle.bl_tokens.specs.declared.tokens.Token.TheVariants as tokens
 use Rattle.bl_syntax.specs.Reading.{is_moment}
-use Rattle.bl_syntax.proofs.FieldLemmas.{is_moment-from}
 use Rattle.bl_tokens.specs.Tokens.{sized_lexeme, second_token, first_lexeme}
 use Rattle.bl_text.specs.Printed.{time_text, permission_text, term_text}
 use Rattle.bl_text.specs.PrintedTokens.{EndsRun, term_token, IsInDepth}
@@ -28,8 +27,16 @@ true-from_T : (b : Bool) → T b → b ≡ true
 true-from_T true t = refl
 true-from_T false t = absurd t
 
+and-true : (b : Bool) → T b → (b && true) ≡ true
+and-true true t = refl
+and-true false t = absurd t
+
+moment_true : (second : ℤ) → IsMoment second → is_moment second ≡ true
+moment_true (pos n) h = true-from_T _ h.not_after.le
+moment_true (negsuc n) h = and-true _ h.not_before.le
+
 moment_token : (second : ℤ) → IsMoment second → second_token second ≡ tokens.Constant (Time (times.At second))
-moment_token second h = chosen (is_moment second) (is_moment-from second h)
+moment_token second h = chosen (is_moment second) (moment_true second h)
   where
     chosen : (b : Bool) → b ≡ true → (if b then tokens.Constant (Time (times.At second)) else tokens.BadDate) ≡ tokens.Constant (Time (times.At second))
     chosen true is = refl
