@@ -1,2 +1,4 @@
 pub mod Passes
 pub mod Conversation
+pub mod Outputs
+pub mod Laws

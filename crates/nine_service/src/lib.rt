@@ -4,6 +4,7 @@
 //! which are the first of what its input had left when it was accepted; and its nonce is that of its number.
 #![tactic(auto)]
 
+pub mod laws;
 mod service;
 
 pub use service::{NineDoor, NineService, NineToken};

@@ -5,7 +5,7 @@ ghost use Rattle.tree_lock.specs.Seen.{AreNumbers};
 
 use nine_front::serve_nine;
 use pcfs_ports::{Disk, Listener, Nonces};
-use pcfs_server::{AdmitFault, Service};
+use pcfs_server::{AdmitFault, EndedConnection, Service};
 use session_history::TurnClock;
 use shared_store::{LockEntry, OpenedStore};
 use std::alloc::Global;
@@ -210,9 +210,9 @@ impl<'a, D: Disk + Send, C: TurnClock, N: Nonces + 'a, L: Listener> Service<L::I
         rt: &R,
         alloc: Global,
         token: &mut NineToken<OpenedStore<D>>,
-        input: &mut L::In,
-        output: &mut L::Out,
-    )
+        input: L::In,
+        output: L::Out,
+    ) -> EndedConnection<L::In, L::Out>
         requires belongs { (token.old.pass.lock ≡ self.now.lock.now)
             × IsNonceOf (N.coming self.now.nonces.value) token.old.pass.number token.old.nonce
             × IsNinePass (nine_sources_of (C.gives self.now.clock.now)
@@ -220,7 +220,7 @@ impl<'a, D: Disk + Send, C: TurnClock, N: Nonces + 'a, L: Listener> Service<L::I
             (L.queue self.now.net.value) (N.coming self.now.nonces.value))
             token.old.attended token.old.pass }
         requires once { token.old.attended ≡ false }
-        requires expected { IsConnectionOf (L.queue self.now.net.value) token.old.pass.number input.old output.old }
+        requires expected { IsConnectionOf (L.queue self.now.net.value) token.old.pass.number input output }
         ensures belongs { (token.new.pass.lock ≡ self.now.lock.now)
             × IsNonceOf (N.coming self.now.nonces.value) token.new.pass.number token.new.nonce
             × IsNinePass (nine_sources_of (C.gives self.now.clock.now)
@@ -229,29 +229,32 @@ impl<'a, D: Disk + Send, C: TurnClock, N: Nonces + 'a, L: Listener> Service<L::I
             token.new.attended token.new.pass }
         ensures attended { token.new.attended ≡ true }
 
-        // The connection's messages were answered, under the token's pass and with its nonce.
+        // The connection's messages were answered, under the token's pass and with its nonce; what that left is what ended.
         ensures served { (end : NineEnd) ×
             NineEnds D.faults (C.gives self.now.clock.now) token.old.nonce token.old.pass
             token.new.pass
-            (streams_of L.In.left L.In.faults L.Out.held L.Out.faults input.old output.old) end
-            (streams_of L.In.left L.In.faults L.Out.held L.Out.faults input.new output.new) ×
+            (streams_of L.In.left L.In.faults L.Out.held L.Out.faults input output) end
+            (streams_of L.In.left L.In.faults L.Out.held L.Out.faults result.input result.output) ×
             NothingFailedBefore
-            (streams_of L.In.left L.In.faults L.Out.held L.Out.faults input.old output.old) end
-            (streams_of L.In.left L.In.faults L.Out.held L.Out.faults input.new output.new) ×
-            (end ≡ NineEnd.ReadFault → FailedLast (L.In.faults input.old) (L.In.faults input.new) (L.In.broken input.new)) ×
-            (end ≡ NineEnd.WriteFault → FailedLast (L.Out.faults output.old) (L.Out.faults output.new) (L.Out.broken output.new)) }
+            (streams_of L.In.left L.In.faults L.Out.held L.Out.faults input output) end
+            (streams_of L.In.left L.In.faults L.Out.held L.Out.faults result.input result.output) ×
+            (end ≡ NineEnd.ReadFault → FailedLast (L.In.faults input) (L.In.faults result.input) (L.In.broken result.input)) ×
+            (end ≡ NineEnd.WriteFault → FailedLast (L.Out.faults output) (L.Out.faults result.output) (L.Out.broken result.output)) }
     {
+        let mut input = input;
+        let mut output = output;
         serve_nine(
             rt,
             alloc,
             self.lock,
             &mut token.pass,
-            input,
-            output,
+            &mut input,
+            &mut output,
             self.clock,
             token.nonce,
         );
         token.attended = true;
+        EndedConnection::new(input, output)
     }
 
     fn leave(&self, door: &mut NineDoor<'a, OpenedStore<D>, N>, token: NineToken<OpenedStore<D>>) {

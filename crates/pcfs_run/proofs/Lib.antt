@@ -7,4 +7,5 @@ pub mod UnsaidLemmas
 pub mod NineLawLemmas
 pub mod HealthyLemmas
 pub mod DiskEndLemmas
+pub mod ToldLemmas
 mod GoneLemmas

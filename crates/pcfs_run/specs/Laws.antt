@@ -1,6 +1,6 @@
 -- Laws of what the sessions of connections added, and of the operations of a history at the end of
 -- a run.
-use Rattle.std.specs.Prelude.{◌≡◌, ℕ, ℤ, List, [], ◌∷◌, ◌++◌, Some, Contains}
+use Rattle.std.specs.Prelude.{◌≡◌, ℕ, ℤ, ◌-◌, List, [], ◌∷◌, ◌++◌, Option, Some, IfSome, Contains, slice_get}
 use Rattle.std.specs.List.{AllByRecursion}
 use Rattle.procap.specs.declared.procap.Procap.{Procap}
 use Rattle.file_world.specs.declared.operation.Op.{Op}
@@ -18,7 +18,12 @@ use Rattle.pcfs_store.specs.Entries.{Root, StoreEntry}
 use Rattle.session_history.specs.Passes.{entry_pass}
 use Rattle.session_history.specs.SessionState.{guest_with}
 use Rattle.session_history.specs.Laws.{IsByAccepted, IsAskedFor}
-use Rattle.session_service.specs.Sessions.{SessionSources, AreOfSession}
+use Rattle.line_text.specs.Lines.{lines_of}
+use Rattle.session_history.specs.Turn.{StorePass}
+use Rattle.session_service.specs.declared.session_end.SessionEnd.TheVariants.{Done}
+use Rattle.session_service.specs.Conversation.{ConnectionTells}
+use Rattle.session_service.specs.Outputs.{HoldsAtEnd}
+use Rattle.session_service.specs.Sessions.{SessionSources, AreOfSession, sources_of}
 use Rattle.pcfs_run.specs.Passes.{AreOfPasses}
 
 -- nothing was added
@@ -62,3 +67,32 @@ EachEntryHasItsLine sources = (root : Root) (first : List StoreEntry)
     (attended count : ℕ) (added : List StoreEntry) →
     AreOfPasses (AreOfSession sources) root first attended count added →
     AllByRecursion (HasLine sources root (first ++ added)) added
+
+-- In this session a connection of those that the listener told was told its own: it is the one of
+-- the pass's number, and at its end its output holds what it held when it was accepted, the greeting
+-- and the replies that are placed under the pass, of which only the last may be cut off, and the
+-- greeting only if the output failed. If the session ended as its input did, the lines are all of
+-- that.
+pub record IsToldItsOwn {I O : Type 0} (gives : List StoreEntry → ℤ → Type 0)
+    (tells : ConnectionTells I O) (connections : List (I × O)) (nonces : Option (List ℕ))
+    (p : StorePass) (history own : List StoreEntry)
+    (s : AreOfSession (sources_of gives tells (Some connections) nonces) p history own) : Type 0 where
+  pub accepted : slice_get connections (p.number - 1) ≡ Some (s.told.input, s.told.output)
+  pub holds : HoldsAtEnd s.told.how s.nonce (tells.held s.told.output)
+      (tells.held s.told.output_after) s.answers
+  pub all_answered : s.told.how ≡ Done →
+      IfSome (tells.left s.told.input) (λ bytes. s.lines ≡ lines_of bytes)
+
+-- If the listener tells its connections before the run, each pass is that of a session in which the
+-- connection of its number was told its own. Passes have numbers of their own, so two have two
+-- connections.
+abbrev pub EachIsToldItsOwn : {I O : Type 0} → (List StoreEntry → ℤ → Type 0) →
+    ConnectionTells I O → List (I × O) → Option (List ℕ) → Type 0
+EachIsToldItsOwn gives tells connections nonces = (root : Root) (first : List StoreEntry)
+    (attended count : ℕ) (added : List StoreEntry) →
+    let sources = sources_of gives tells (Some connections) nonces in
+    (of : AreOfPasses (AreOfSession sources) root first attended count added) →
+    AllByRecursion (λ (pass : ℕ × List StoreEntry).
+    let p : StorePass = record { root = root; number = pass.0 } in
+    (s : AreOfSession sources p (first ++ added) pass.1)
+    × IsToldItsOwn gives tells connections nonces p (first ++ added) pass.1 s) of.passes

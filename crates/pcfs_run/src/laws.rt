@@ -6,7 +6,7 @@ ghost use Rattle.pcfs_ports.specs.Disk.{IsPinned};
 ghost use Rattle.session_service.specs.Sessions.{sources_of, AreOfSession};
 ghost use Rattle.session_service.specs.Conversation.{tells_of};
 ghost use Rattle.nine_service.specs.Passes.{nine_sources_of, AreOfNine};
-ghost use Rattle.pcfs_run.specs.Laws.{GoneAdmitNothing, AddsNothing, NothingIsAddedUnsaid, EachEntryHasItsLine};
+ghost use Rattle.pcfs_run.specs.Laws.{GoneAdmitNothing, AddsNothing, NothingIsAddedUnsaid, EachEntryHasItsLine, EachIsToldItsOwn};
 ghost use Rattle.pcfs_run.specs.Healthy.{HealthyRunsEndSo};
 ghost use Rattle.pcfs_run.specs.DiskEnds.{DisksFailAtFewEnds};
 
@@ -41,6 +41,19 @@ pub fn each_entry_has_its_line<L: Listener, C: TurnClock>(net: &L, clock: &C)
     ensures { (queue : Option (List (L.In × L.Out))) (nonces : Option (List ℕ)) →
         EachEntryHasItsLine (sources_of (C.gives clock.now)
         (tells_of L.In.left L.In.faults L.In.broken L.Out.held L.Out.faults L.Out.broken) queue nonces) }
+{
+    let _ = net;
+    let _ = clock;
+}
+
+/// If the listener tells its connections before the run, each pass is that of a connection that was told its own: at the end
+/// of its session its output holds what it held when it was accepted, the greeting and the replies that are placed under that
+/// pass, of which only the last may be cut off, and the greeting only if the output failed; and if the session ended as its
+/// input did, its lines are all of that. Two passes have two connections.
+pub fn each_connection_is_told_its_own<L: Listener, C: TurnClock>(net: &L, clock: &C)
+    ensures { (connections : List (L.In × L.Out)) (nonces : Option (List ℕ)) →
+        EachIsToldItsOwn (C.gives clock.now)
+        (tells_of L.In.left L.In.faults L.In.broken L.Out.held L.Out.faults L.Out.broken) connections nonces }
 {
     let _ = net;
     let _ = clock;

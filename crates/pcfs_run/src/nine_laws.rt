@@ -4,7 +4,7 @@ ghost use Rattle.std.specs.Prelude.{◌≡◌, ℕ, List, [], Option, Some};
 ghost use Rattle.std.specs.List.{AllByRecursion};
 ghost use Rattle.session_service.specs.Conversation.{tells_of};
 ghost use Rattle.nine_service.specs.Passes.{nine_sources_of};
-ghost use Rattle.pcfs_run.specs.NineLaws.{MessagesAddNothing, NothingIsAddedUnsent, EachEntryHasItsMessage};
+ghost use Rattle.pcfs_run.specs.NineLaws.{MessagesAddNothing, NothingIsAddedUnsent, EachEntryHasItsMessage, EachIsToldItsOwn};
 
 use pcfs_ports::Listener;
 use session_history::TurnClock;
@@ -38,6 +38,18 @@ pub fn each_entry_has_its_message<L: Listener, C: TurnClock>(net: &L, clock: &C)
     ensures { (queue : Option (List (L.In × L.Out))) (nonces : Option (List ℕ)) →
         EachEntryHasItsMessage (nine_sources_of (C.gives clock.now)
         (tells_of L.In.left L.In.faults L.In.broken L.Out.held L.Out.faults L.Out.broken) queue nonces) }
+{
+    let _ = net;
+    let _ = clock;
+}
+
+/// If the listener tells its connections before the run, each pass is that of a connection that was told its own: at its end
+/// its output holds what it held when it was accepted, and the replies that are placed under that pass, of which only the last
+/// may be cut off; and if it ended as its input did, its messages are all of that. Two passes have two connections.
+pub fn each_connection_is_told_its_own<L: Listener, C: TurnClock>(net: &L, clock: &C)
+    ensures { (connections : List (L.In × L.Out)) (nonces : Option (List ℕ)) →
+        EachIsToldItsOwn (C.gives clock.now)
+        (tells_of L.In.left L.In.faults L.In.broken L.Out.held L.Out.faults L.Out.broken) connections nonces }
 {
     let _ = net;
     let _ = clock;

@@ -41,6 +41,7 @@ module _ (nonce : List ℕ) (lines : List (List ℕ)) (answers : List LineReply)
   done_end _ _ (ends.written how after written replies out) is =
       let d = done_replies after how written replies is in
       (d.0, out ∙ ap (λ (a : List LineReply). with_back before.held (session_output nonce a)) d.1)
+  done_end _ _ (ends.greeting_cut_short after risen left reads some these) is = absurd cc
   done_end _ _ (ends.cut_short fault after written risen way some) is = absurd (not_done fault is)
   done_end _ _ (ends.cut_at_long_line fault after written risen replies some) is = absurd (not_done fault is)
 

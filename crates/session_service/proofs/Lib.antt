@@ -10,3 +10,4 @@ pub mod HeardLemmas
 pub mod HeldLemmas
 pub mod TalkEndsLemmas
 pub mod DoneLemmas
+pub mod OutputLemmas

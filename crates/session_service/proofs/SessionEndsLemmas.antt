@@ -1,9 +1,9 @@
 -- How a session ends, by whether its greeting was written, and how it goes on.
-use Rattle.std.proofs.Common.{◌≡◌, ◌∙◌, inr, ◌+◌, ◌≤◌, ℕ, List, [], ◌∷◌, ◌++◌, length, take, Option, refl, sym, ap, subst, arith, length-append}
+use Rattle.std.proofs.Common.{◌≡◌, ◌∙◌, inr, ◌+◌, ◌≤◌, ℕ, List, [], ◌∷◌, ◌++◌, length, take, Option, sym, ap, subst, arith, length-append}
 use Rattle.std.proofs.Math.Seq.{take-append-add}
 use Rattle.std.specs.Prelude.{ℤ}
 use Rattle.pcfs_ports.specs.Faults.{HasRisen}
-use Rattle.pcfs_ports.specs.Observable.{with_front, with_back, ReadsToEnd, TakesFirst, HoldsSome}
+use Rattle.pcfs_ports.specs.Observable.{with_back, ReadsToEnd, TakesFirst, HoldsSome}
 use Rattle.pcfs_ports.proofs.TakesLemmas.{with_back-with_back}
 use Rattle.tree_lock.specs.Seen.{PassView}
 use Rattle.line_wire.specs.declared.reply.LineReply.{LineReply}
@@ -16,13 +16,10 @@ use Rattle.pcfs_session.specs.Streams.{Streams}
 use Rattle.pcfs_session.specs.Taken.{AreTaken, AreAllTaken, IsCutAtLong}
 use Rattle.pcfs_session.specs.declared.outbox.SendFault.{SendFault}
 use Rattle.pcfs_session.specs.declared.outbox.SendFault.TheVariants.{Write}
-use Rattle.pcfs_session.proofs.OutboxLemmas.{HoldsSome-more}
 use Rattle.pcfs_session.proofs.StoredLemmas.{HasRisen-earlier}
-use Rattle.pcfs_session.proofs.TakenLemmas.{with_front-nil, AreFirst-none}
 use Rattle.pcfs_store.specs.Entries.{StoreEntry}
 use Rattle.session_service.specs.declared.session_end.SessionEnd.{SessionEnd}
 use Rattle.session_service.specs.declared.session_end.SessionEnd.TheVariants as session_ends
-use Rattle.session_service.specs.Ends.{unsent_end}
 use Rattle.session_service.specs.SaidLaws.{HasSaid-none}
 use Rattle.session_service.specs.SessionEnds.{IsUnderWay, SessionReplies, SessionEnds, GoesOnToEnd, GreetsFirst}
 use Rattle.session_service.specs.SessionEnds as ends
@@ -36,14 +33,10 @@ greeted nonce = greeting_text nonce ++ 10 ∷ []
 
 module _ {D : Type 0} (faults : D → ℕ) (gives : List StoreEntry → ℤ → Type 0) (nonce : List ℕ) where
   -- it was not written
-  pub SessionEnds-ungreeted : (pass : PassView (LockEntry D)) (before after : Streams) (fault : SendFault) (how : SessionEnd) → how ≡ unsent_end fault → after.left ≡ before.left → (fault ≡ Write → HasRisen before.write_faults after.write_faults) → HoldsSome before.held after.held (greeted nonce) →
-      SessionEnds faults gives nonce pass pass before how after
-  SessionEnds-ungreeted pass before after fault how is left risen some =
-      subst (λ (h : SessionEnd). SessionEnds faults gives nonce pass pass before h after) (sym is)
-      (ends.cut_short fault after [] risen
-      (ends.while_reading [] (record { bytes = []; rest = []; taken = with_front-nil before.left ∙ ap (with_front []) (sym left); first = AreFirst-none []; few = omega arith })
-      (Speaks-said faults gives nonce (guest_with nonce) pass pass [] [] (HasSaid-none faults gives (guest_with nonce) pass)))
-      (record { some = HoldsSome-more before.held after.held (greeted nonce) (output_of []) some; earlier = λ not_none. absurd (not_none refl) }))
+  pub SessionEnds-ungreeted : (pass : PassView (LockEntry D)) (before after : Streams) → after.left ≡ before.left → after.read_faults ≡ before.read_faults → HasRisen before.write_faults after.write_faults → HoldsSome before.held after.held (greeted nonce) →
+      SessionEnds faults gives nonce pass pass before session_ends.WriteFault after
+  SessionEnds-ungreeted pass before after left reads risen some =
+      ends.greeting_cut_short after risen left reads some (Speaks-said faults gives nonce (guest_with nonce) pass pass [] [] (HasSaid-none faults gives (guest_with nonce) pass))
 
   module _ (old new : PassView (LockEntry D)) (before mid after : Streams) (same : mid.left ≡ before.left) (reads : mid.read_faults ≡ before.read_faults) (later : before.write_faults ≤ mid.write_faults) (out : mid.held ≡ with_back before.held (greeted nonce)) where
     -- what was taken since is what was taken
@@ -71,7 +64,7 @@ module _ {D : Type 0} (faults : D → ℕ) (gives : List StoreEntry → ℤ → 
             last.some.held ∙ ap (λ (t : Option (List ℕ)). with_back t (take last.some.count (output_of answers))) out ∙ with_back-with_back before.held (greeted nonce) (take last.some.count (output_of answers))
             ∙ ap (with_back before.held) (sym (take-append-add (greeted nonce) (output_of answers) last.some.count));
       };
-      earlier = λ not_none. omega (arith, last.earlier, length-append (greeted nonce) (output_of (but_last answers)));
+      earlier = omega (arith, last.earlier, length-append (greeted nonce) (output_of (but_last answers)));
     }
 
     risen_before : (fault : SendFault) → (fault ≡ Write → HasRisen mid.write_faults after.write_faults) → fault ≡ Write → HasRisen before.write_faults after.write_faults

@@ -45,6 +45,10 @@ AreFirstLines-read : (left left_after : Option (List ℕ)) (bytes : List ℕ) �
 AreFirstLines-read None left_after bytes reads = tt
 AreFirstLines-read (Some all) left_after bytes reads = subst (λ (b : List ℕ). IsPrefix (lines_of bytes) (lines_of b)) (sym reads.all) (prefix_refl (lines_of bytes))
 
+no_first_lines : (left : Option (List ℕ)) → AreFirstLines left []
+no_first_lines None = tt
+no_first_lines (Some bytes) = (lines_of bytes, refl)
+
 -- ---- a session that ended
 
 module _ {D : Type 0} (faults : D → ℕ) (sources : SessionSources) (nonce : List ℕ) (old new : PassView (LockEntry D)) (before : Streams) where
@@ -109,6 +113,8 @@ module _ {D : Type 0} (faults : D → ℕ) (sources : SessionSources) (nonce : L
   by_end _ _ (ends.written how after written replies out) =
       let h = by_replies after how written replies in
       record { lines = h.lines; answers = h.answers; speaks = h.speaks; first = h.first; told = ends.written how after written h.replies out }
+  by_end _ _ (ends.greeting_cut_short after risen left reads some said) =
+      record { lines = []; answers = []; speaks = said; first = no_first_lines before.left; told = ends.greeting_cut_short after risen left reads some (refl, refl) }
   by_end _ _ (ends.cut_short fault after answers risen way some) =
       let h = by_way after answers way in
       record { lines = h.lines; answers = answers; speaks = h.speaks; first = h.first; told = ends.cut_short fault after answers risen h.way some }

@@ -48,9 +48,10 @@ AreThese lines answers answered replies = (answered ≡ lines) × (replies ≡ a
 -- these replies: from its input and its output as they were when it was accepted, if the listener
 -- told them, to an input and an output of their types, at the end, that tell what a session that
 -- ended so leaves. So at Done the output holds what it held, and then the greeting and these replies,
--- and these lines are all of the input; where the output failed or memory ran out, it holds a first
--- part of that, and more of the input may have been read than was answered. If an input or an output
--- does not tell its bytes, nothing is said of these.
+-- and these lines are all of the input; where the output failed or memory ran out, some of the last
+-- reply may be missing, and more of the input may have been read than was answered; where the output
+-- failed at it, some of the greeting, and no line was answered. If an input or an output does not
+-- tell its bytes, nothing is said of these.
 pub record IsConversation {I O : Type 0} (tells : ConnectionTells I O) (queue : Option (List (I × O)))
     (number : ℕ) (nonce : List ℕ) (lines : List (List ℕ)) (answers : List LineReply) : Type 0 where
   pub input : I

@@ -46,6 +46,7 @@ use Rattle.session_service.specs.Said.{SaysStopped}
 use Rattle.session_service.specs.SessionEnds.{Speaks}
 use Rattle.session_service.specs.Sessions.{SessionSources, IsNonceOf, AreOfSession, sources_of}
 use Rattle.session_service.specs.Conversation.{ConnectionTells}
+use Rattle.session_service.specs.Outputs.{HoldsAtEnd}
 
 -- what is asked in one turn is what a look at any state makes of the command
 abbrev pub TurnsAskWhatCommandsComeTo : Type 0
@@ -137,6 +138,14 @@ DoneAnswersAll gives tells queue nonces = (p : StorePass) (history own : List St
     (s : AreOfSession (sources_of gives tells queue nonces) p history own) → s.told.how ≡ Done →
     IfSome (tells.left s.told.input) (λ bytes. s.lines ≡ lines_of bytes) ×
     (tells.held s.told.output_after ≡ with_back (tells.held s.told.output) (session_output s.nonce s.answers))
+
+-- what the output of a session holds at its end is what it held, the greeting and the replies to its
+-- lines, of which only the last may be cut off, and the greeting only if the output failed
+abbrev pub OutputsHoldTheirOwn : {I O : Type 0} → (List StoreEntry → ℤ → Type 0) →
+    ConnectionTells I O → Option (List (I × O)) → Option (List ℕ) → Type 0
+OutputsHoldTheirOwn gives tells queue nonces = (p : StorePass) (history own : List StoreEntry) →
+    (s : AreOfSession (sources_of gives tells queue nonces) p history own) →
+    HoldsAtEnd s.told.how s.nonce (tells.held s.told.output) (tells.held s.told.output_after) s.answers
 
 -- two sessions of one run have two nonces, if the bytes that are told for their numbers differ
 abbrev pub SessionsHaveTwoNonces : Type 0

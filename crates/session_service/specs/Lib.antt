@@ -6,5 +6,6 @@ pub mod LineTalking
 pub mod Said
 pub mod SaidLaws
 pub mod Written
+pub mod Outputs
 pub mod SessionEnds
 pub mod Conversation

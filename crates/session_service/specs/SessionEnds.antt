@@ -4,7 +4,7 @@
 use Rattle.std.specs.Prelude.{◌≡◌, ◌⊎◌, ℕ, ◌*◌, ◌≤◌, ℤ, List, [], ◌∷◌, ◌++◌, length}
 use Rattle.pcfs_ports.specs.declared.streams.TheConstants.{INPUT_LIMIT}
 use Rattle.pcfs_ports.specs.Faults.{HasRisen}
-use Rattle.pcfs_ports.specs.Observable.{with_back, ReadsToEnd, TakesFirst}
+use Rattle.pcfs_ports.specs.Observable.{with_back, ReadsToEnd, TakesFirst, HoldsSome}
 use Rattle.line_text.specs.Lines.{lines_of}
 use Rattle.line_framer.specs.Feeding.{AreShort}
 use Rattle.line_wire.specs.declared.reply.LineReply.{LineReply}
@@ -24,7 +24,7 @@ use Rattle.pcfs_session.specs.Taken.{AreTaken, AreAllTaken, IsCutAtLong}
 use Rattle.pcfs_session.specs.declared.outbox.SendFault.{SendFault}
 use Rattle.pcfs_session.specs.declared.outbox.SendFault.TheVariants.{Write}
 use Rattle.session_service.specs.declared.session_end.SessionEnd.{SessionEnd}
-use Rattle.session_service.specs.declared.session_end.SessionEnd.TheVariants.{Done, LineTooLong, ReadFault, InputTooLong}
+use Rattle.session_service.specs.declared.session_end.SessionEnd.TheVariants.{Done, LineTooLong, ReadFault, WriteFault, InputTooLong}
 use Rattle.session_service.specs.Ends.{unsent_end}
 use Rattle.session_lines.specs.Turns.{CountsTurns}
 use Rattle.session_service.specs.Said.{AreAnswered, SaysStopped, turns_of}
@@ -58,14 +58,20 @@ module _ (Answered : List (List ℕ) → List LineReply → Type 0) where
         Answered lines answers → SessionRepliesBy before after InputTooLong answers
 
   -- How a session with this nonce ends: the greeting and all those replies were written. Or the
-  -- output failed or memory ran out: some first part was written of the greeting, and no line was
-  -- answered; or the greeting was written, and of the lines that were answered all replies but the
-  -- last, of which some first part was, or that the next line is too long.
+  -- output failed at the greeting, of which some first part was written: no line was answered, and
+  -- nothing was asked of the input. Or the output failed or memory ran out later: the greeting was
+  -- written, and of the lines that were answered all replies but the last, of which some first part
+  -- was, or that the next line is too long.
   pub data SessionEndsBy (nonce : List ℕ) (before : Streams) : SessionEnd → Streams → Type 0 where
     written : (how : SessionEnd) (after : Streams) (answers : List LineReply) →
         SessionRepliesBy before after how answers →
         after.held ≡ with_back before.held (session_output nonce answers) →
         SessionEndsBy nonce before how after
+    greeting_cut_short : (after : Streams) →
+        HasRisen before.write_faults after.write_faults →
+        after.left ≡ before.left → after.read_faults ≡ before.read_faults →
+        HoldsSome before.held after.held (greeting_text nonce ++ 10 ∷ []) → Answered [] [] →
+        SessionEndsBy nonce before WriteFault after
     cut_short : (fault : SendFault) (after : Streams) (answers : List LineReply) →
         (fault ≡ Write → HasRisen before.write_faults after.write_faults) →
         IsUnderWayBy before after answers →

@@ -1,6 +1,6 @@
 //! Laws of sessions. The functions do nothing: each contract is a law.
 
-ghost use Rattle.session_service.specs.Laws.{TurnsAskWhatCommandsComeTo, ProofsAskWhatCommandsComeTo, FaultsAreWhatCommandsComeTo, AbsencesAreWhatCommandsComeTo, CheckpointsAreWhatCommandsComeTo, SessionsArePlaced, LaterSessionsArePlacedAfter, EachEntryHasALine, DoneAnswersAll, SessionsHaveTwoNonces};
+ghost use Rattle.session_service.specs.Laws.{TurnsAskWhatCommandsComeTo, ProofsAskWhatCommandsComeTo, FaultsAreWhatCommandsComeTo, AbsencesAreWhatCommandsComeTo, CheckpointsAreWhatCommandsComeTo, SessionsArePlaced, LaterSessionsArePlacedAfter, EachEntryHasALine, DoneAnswersAll, OutputsHoldTheirOwn, SessionsHaveTwoNonces};
 ghost use Rattle.std.specs.Prelude.{ℕ, List, Option};
 ghost use Rattle.session_service.specs.Sessions.{sources_of};
 ghost use Rattle.session_service.specs.Conversation.{tells_of};
@@ -48,6 +48,18 @@ pub fn each_entry_has_a_line<L: Listener, C: TurnClock>(net: &L, clock: &C)
 pub fn done_answers_all_lines<L: Listener, C: TurnClock>(net: &L, clock: &C)
     ensures { (queue : Option (List (L.In × L.Out))) (nonces : Option (List ℕ)) →
         DoneAnswersAll (C.gives clock.now)
+        (tells_of L.In.left L.In.faults L.In.broken L.Out.held L.Out.faults L.Out.broken) queue nonces }
+{
+    let _ = net;
+    let _ = clock;
+}
+
+/// At the end of a session its output holds what it held, the greeting and all replies to its lines, as far as no port failed
+/// and memory did not run out; else all of these but some end of the last reply, or, if the output failed at it, of the
+/// greeting.
+pub fn outputs_hold_their_own<L: Listener, C: TurnClock>(net: &L, clock: &C)
+    ensures { (queue : Option (List (L.In × L.Out))) (nonces : Option (List ℕ)) →
+        OutputsHoldTheirOwn (C.gives clock.now)
         (tells_of L.In.left L.In.faults L.In.broken L.Out.held L.Out.faults L.Out.broken) queue nonces }
 {
     let _ = net;

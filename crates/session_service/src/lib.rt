@@ -1,8 +1,8 @@
 //! A session over a shared store: from its greeting to the end of its input; and the service that gives each connection one.
 //!
-//! `serve_session` writes the greeting, with a nonce, and answers lines as they come. By the order of the code, and no
-//! clause, the greeting is out before the first read, and each reply before more of the input is taken; if anything was
-//! taken, the output holds the greeting. Whatever other sessions do, the replies are placed in each history that begins with
+//! `serve_session` writes the greeting, with a nonce, and answers lines as they come. The greeting takes no memory: it is
+//! written whole, unless the output fails. By the order of the code, and no clause, it is out before the first read, and
+//! each reply before more of the input is taken. Whatever other sessions do, the replies are placed in each history that begins with
 //! what the session's pass has seen, and the pass's own entries grew by those that the replies were given.
 #![tactic(auto)]
 

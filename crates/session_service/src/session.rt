@@ -8,7 +8,7 @@ ghost use Rattle.pcfs_session.specs.Streams.{streams_of};
 ghost use Rattle.pcfs_server.specs.Ends.{FailedLast};
 
 use crate::greeting::greet;
-use crate::session_end::{SessionEnd, unsent_end};
+use crate::session_end::SessionEnd;
 use crate::talk::LineTalk;
 use pcfs_ports::{Disk, Sink, Source};
 use session_history::TurnClock;
@@ -65,8 +65,8 @@ fn answer_lines<R: Wait, I: Source, O: Sink, D: Disk, C: TurnClock, K: Checker>(
 /// Holds a session over a shared store, with this nonce, under this pass; a proof is checked by this checker, by the order of
 /// the code outside the lock.
 ///
-/// By the order of the code, and no clause, the greeting is out before the first read, and each reply before more of the
-/// input is taken; if anything was taken, the output holds the greeting. At `Done` the input was read to its end and each of
+/// The greeting is written whole, unless the output fails; then nothing is asked of the input. By the order of the code, and
+/// no clause, the greeting is out before the first read, and each reply before more of the input is taken. At `Done` the input was read to its end and each of
 /// its lines was answered. No call of the input failed, unless the session ends by that, and none of the output, unless it
 /// ends by that. Each reply has its place in each history that begins with what the pass has seen at the end, after what it
 /// had seen at first, and places do not go back; what the pass was given by the replies is what its own entries grew by.
@@ -97,9 +97,9 @@ pub fn serve_session_with<R: Wait, I: Source, O: Sink, D: Disk, C: TurnClock, K:
         FailedLast (O.faults output.old) (O.faults output.new) (O.broken output.new) }
     ensures same_lock { pass.new.lock ≡ lock.now }
 {
-    match greet(alloc, &nonce, output) {
+    match greet(&nonce, output) {
         Ok(()) => answer_lines(rt, alloc, lock, pass, input, output, clock, &nonce, checker),
-        Err(fault) => unsent_end(fault),
+        Err(_) => SessionEnd::WriteFault,
     }
 }
 

@@ -12,7 +12,7 @@ returns-clause-belongs g c =
     let service = c.args.self.now in
     let nonces = g.N.Nonces.coming service.nonces.value in
     let sources = sources_of (g.C.TurnClock.gives service.clock.now) (tells_of g.L.In.Source.left g.L.In.Source.faults g.L.In.Source.broken g.L.Out.Sink.held g.L.Out.Sink.faults g.L.Out.Sink.broken) (g.L.Listener.queue service.net.value) nonces in
-    let before : Streams = record { left = g.L.In.Source.left c.args.input.now; read_faults = g.L.In.Source.faults c.args.input.now; held = g.L.Out.Sink.held c.args.output.now; write_faults = g.L.Out.Sink.faults c.args.output.now } in
+    let before : Streams = record { left = g.L.In.Source.left c.args.input; read_faults = g.L.In.Source.faults c.args.input; held = g.L.Out.Sink.held c.args.output; write_faults = g.L.Out.Sink.faults c.args.output } in
     let after : Streams = record { left = g.L.In.Source.left c.serve_session.new.input; read_faults = g.L.In.Source.faults c.serve_session.new.input; held = g.L.Out.Sink.held c.serve_session.new.output; write_faults = g.L.Out.Sink.faults c.serve_session.new.output } in (
       c.serve_session.ensures.same_lock,
       subst (λ (n : ℕ). IsNonceOf nonces n c.args.token.now.nonce) (sym (number_ended g.D.Disk.faults sources c.args.token.now.nonce c.args.token.now.pass _ before _ _ c.serve_session.ensures.ends)) c.requires.belongs.1,
@@ -22,13 +22,13 @@ returns-clause-belongs g c =
             AreOfSeenSession-ended g.D.Disk.faults sources c.args.token.now.nonce c.args.token.now.pass _ before c.serve_session.result after (c.requires.belongs.2.0 c.requires.once)
             (λ lines first. record {
               nonce_is = c.requires.belongs.1;
-              input = c.args.input.now;
-              accepted = input_of g.L.In.Source.left (g.L.Listener.queue service.net.value) c.args.token.now.pass.number c.args.input.now c.args.output.now c.requires.expected;
+              input = c.args.input;
+              accepted = input_of g.L.In.Source.left (g.L.Listener.queue service.net.value) c.args.token.now.pass.number c.args.input c.args.output c.requires.expected;
               first = first;
             })
             (λ lines answers ends. record {
-              input = c.args.input.now;
-              output = c.args.output.now;
+              input = c.args.input;
+              output = c.args.output;
               accepted = c.requires.expected;
               how = c.serve_session.result;
               input_after = c.serve_session.new.input;

@@ -1,0 +1,6 @@
+use Rattle.session_service.specs.Conversation.{tells_of}
+use Rattle.session_service.proofs.OutputLemmas.{OutputsHoldTheirOwn-session}
+use Rattle.session_service.proofs.laws.outputs_hold_their_own.Goals as goal
+
+pub returns : goal.returns
+returns g c = λ queue nonces. OutputsHoldTheirOwn-session (g.C.TurnClock.gives c.args.clock.now) (tells_of g.L.In.Source.left g.L.In.Source.faults g.L.In.Source.broken g.L.Out.Sink.held g.L.Out.Sink.faults g.L.Out.Sink.broken) queue nonces
