@@ -81,14 +81,14 @@ all_out held held_after bytes out = GoesOut-whole held held_after held_after byt
 
 -- ---- all but few bytes are out
 
+-- so many were collected at most, and some first part of them is out
+pub HoldsAllBut-collected : (missing : ℕ) (held held_after : Option (List ℕ)) (collected more : List ℕ) → length collected ≤ missing → HoldsSome held held_after (collected ++ more) → HoldsAllBut missing held held_after (collected ++ []) (collected ++ more)
+HoldsAllBut-collected missing held held_after collected more few some = record { some = some; few = omega (arith, few, length-append collected []) }
+
 module _ (missing : ℕ) (held held_after : Option (List ℕ)) where
   -- of fewer bytes no more are missing
   pub HoldsAllBut-fewer : (earlier fewer all : List ℕ) → length fewer ≤ length earlier → HoldsAllBut missing held held_after earlier all → HoldsAllBut missing held held_after fewer all
   HoldsAllBut-fewer earlier fewer all less most = record { some = most.some; few = omega (arith, less, most.few) }
-
-  -- so many were collected at most, and some first part of them is out
-  pub HoldsAllBut-collected : (collected more : List ℕ) → length collected ≤ missing → HoldsSome held held_after (collected ++ more) → HoldsAllBut missing held held_after (collected ++ []) (collected ++ more)
-  HoldsAllBut-collected collected more few some = record { some = some; few = omega (arith, few, length-append collected []) }
 
   -- after those that went out before, all but few of these are out
   pub GoesOut-most : (mid : Option (List ℕ)) (bytes collected earlier more : List ℕ) → GoesOut held bytes mid collected → HoldsAllBut missing mid held_after (collected ++ earlier) (collected ++ more) → HoldsAllBut missing held held_after (bytes ++ earlier) (bytes ++ more)
@@ -113,7 +113,7 @@ module _ (missing : ℕ) (held held_after : Option (List ℕ)) where
   -- of what was collected at last some first part is out
   pub most_collected : (mid : Option (List ℕ)) (bytes collected fewer : List ℕ) → GoesOut held bytes mid collected → HoldsSome mid held_after collected → length collected ≤ missing → length fewer ≤ length bytes → HoldsAllBut missing held held_after fewer bytes
   most_collected mid bytes collected fewer first some few less =
-      let most = GoesOut-most mid bytes collected [] [] first (HoldsAllBut-collected collected [] few (subst (HoldsSome mid held_after) (sym (append-nil collected)) some)) in
+      let most = GoesOut-most mid bytes collected [] [] first (HoldsAllBut-collected missing mid held_after collected [] few (subst (HoldsSome mid held_after) (sym (append-nil collected)) some)) in
       HoldsAllBut-fewer (bytes ++ []) fewer bytes (omega (arith, less, length-append bytes [])) (subst (HoldsAllBut missing held held_after (bytes ++ [])) (append-nil bytes) most)
 
 -- all that was collected is out
