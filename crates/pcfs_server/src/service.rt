@@ -3,6 +3,7 @@
 ghost use Rattle.std.specs.Prelude.{◌≡◌, ◌⊎◌, ℕ, ◌+◌, ◌<◌, ◌≤◌, ◌≢◌, Bool, true, false, IfOk, OnOk, IsErrOf, is_ok, if◌then◌else◌};
 ghost use Rattle.pcfs_ports.specs.Faults.{HasRisen, raise};
 
+use super::ended_connection::EndedConnection;
 use pcfs_ports::{Sink, Source};
 use std::alloc::Global;
 use std::sync::Wait;
@@ -93,18 +94,19 @@ pub trait Service<I: Source, O: Sink> {
         ensures untouched { IsErrOf result AdmitFault.NoMemory →
             (broken door.new ≡ broken door.old) ⊎ (broken door.new ≡ false) };
 
-    /// Attends the connection of the token's number, whatever its input and output do. It may wait.
+    /// Attends the connection of the token's number, whatever its input and output do, and ends it: nothing more is read or
+    /// written. It may wait.
     fn attend<R: Wait>(
         &self,
         rt: &R,
         alloc: Global,
         token: &mut Self::Token,
-        input: &mut I,
-        output: &mut O,
-    )
+        input: I,
+        output: O,
+    ) -> EndedConnection<I, O>
         requires belongs { is_token self.now token.old }
         requires once { attended token.old ≡ false }
-        requires expected { expects self.now (number token.old) input.old output.old }
+        requires expected { expects self.now (number token.old) input output }
         ensures belongs { is_token self.now token.new }
         ensures attended { attended token.new ≡ true };
 

@@ -54,9 +54,8 @@ fn attend_and_close<R: Wait, I: Source + Drop, O: Sink + Drop, H: Service<I, O>>
     ensures attended { H.attended result ≡ true }
 {
     let mut token = token;
-    let mut input = input;
-    let mut output = output;
-    service.attend(rt, alloc, &mut token, &mut input, &mut output);
+    let connection = service.attend(rt, alloc, &mut token, input, output);
+    drop(connection);
     token
 }
 
