@@ -59,8 +59,10 @@ module _ {D : Type 0} (clock : D → ℕ) (left_since : D → ℕ → List ℕ �
     pub holds : R (standing_of old None) reply (standing_of new met)
     pub goes_on : StoreGoesOn old.store new.store met
 
-  -- the script in the input is answered by an interpreter and ends so, and its store goes on
-  pub record AnswersScript (old : InterpreterView D) (before : Streams) (how : ScriptEnd) (new : InterpreterView D) (after : Streams) : Type 0 where
+  -- the script in the input is answered by an interpreter and ends so, with at most so many bytes of
+  -- replies buffered, and its store goes on
+  pub record AnswersScript (buffered : ℕ) (old : InterpreterView D) (before : Streams)
+      (how : ScriptEnd) (new : InterpreterView D) (after : Streams) : Type 0 where
     pub met : Option StoreEntry
-    pub ends : ScriptEnds (standing_of old None) (standing_of new met) before after how
+    pub ends : ScriptEnds buffered (standing_of old None) (standing_of new met) before after how
     pub goes_on : StoreGoesOn old.store new.store met

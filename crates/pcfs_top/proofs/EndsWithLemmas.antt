@@ -525,7 +525,7 @@ module _ {D : Type 0} (clock : D → ℕ) (left_since : D → ℕ → List ℕ �
 
   module _ (words : List (String Global)) (secrets : Secrets) (a b : D) (is : AsksFor words Stored) where
     pub EndsWith-stored : (may_stay : (d : D) (bytes : List ℕ) → image d ≡ Some bytes → left_since d (clock d) bytes) (before after : Streams) (broken broken' : Broken) (result : ℕ) (s s' : StoreView D) (asker : ScriptContext) (a' b' : D) → IsStore s → IsStore s' →
-        opening.IsOpened clock left_since image faults a b secrets.seal_key secrets.ring s → AnswersInput clock left_since image faults (record { store = s; asker = first_asker script_pass }) before result (record { store = s'; asker = asker }) after broken' →
+        opening.IsOpened clock left_since image faults a b secrets.seal_key secrets.ring s → AnswersInput clock left_since image faults 0 (record { store = s; asker = first_asker script_pass }) before result (record { store = s'; asker = asker }) after broken' →
         a' ≡ first_disk s' → b' ≡ second_disk s' → EndsWith secrets words (rests_of a b a' b') (record { streams = before; broken = broken; disks = disks_of a b }) (record { streams = after; broken = broken'; disks = disks_of a' b' }) result
     EndsWith-stored may_stay before after broken broken' result s s' asker a' b' store store' opened answers a_is b_is =
         subst (λ (x : D). EndsWith secrets words (rests_of a b x b') (record { streams = before; broken = broken; disks = disks_of a b }) (record { streams = after; broken = broken'; disks = disks_of x b' }) result) (sym a_is)

@@ -249,11 +249,12 @@ pub data IsUndone (words : List (String Global)) (before after : Disks) : Type 0
 
 -- The status that a run ends with, and its cause. A script in memory ends as its lines say, and
 -- leaves the disks alone; its own disks are in memory, and fail only if memory runs out. A script
--- over the areas begins where they stand, and so do messages that are taken by their store. An
--- export writes the messages of the events in the areas, or that they are gone, and leaves the
--- bytes of the disks as they are. An inquiry ends as its lines say, and leaves the disks alone. Any
--- other run writes its line, or the output failed, at its last call, and holds some first part of
--- it; an audit, the lines of its report. Memory may run out before that, and then nothing changes.
+-- over the areas begins where they stand, and so do messages that are taken by their store; none of
+-- its replies is buffered while the next line is answered. An export writes the messages of the
+-- events in the areas, or that they are gone, and leaves the bytes of the disks as they are. An
+-- inquiry ends as its lines say, and leaves the disks alone. Any other run writes its line, or the
+-- output failed, at its last call, and holds some first part of it; an audit, the lines of its
+-- report. Memory may run out before that, and then nothing changes.
 -- At an end by a fault of the output one call of it failed, and it was the last, and at each other
 -- end none; so it is with an input that is read, and of one that is not read no call failed. Of the
 -- disks none failed, but at an end at which `stopped` was to be written last: it was at 5, and may
@@ -266,7 +267,7 @@ pub data EndsWith (secrets : Secrets) (words : List (String Global)) (rests : Re
       AsksFor words Stored →
       IsOpened secrets generation image before.disks start →
       Returns rests generation image before.disks after.disks start end →
-      ScriptStatus start end before.streams after.streams after.broken status →
+      ScriptStatus 0 start end before.streams after.streams after.broken status →
       EndsWith secrets words rests before after status
   followed : (status generation : ℕ) (image : List ℕ) (start end : ScriptState) →
       AsksFor words Follow → IsOpened secrets generation image before.disks start →
