@@ -14,9 +14,10 @@ use Rattle.checkpoint_image.specs.ImageSpelling.{image_spelling}
 use Rattle.pcfs_store.specs.Image.{fresh_image}
 use Rattle.pcfs_store.specs.StoredHistory.{payloads_of, state_after, StandsFor}
 use Rattle.pcfs_store.specs.Formats.{IsNoneOrFresh}
-use Rattle.pcfs_store.specs.Newest.{SurvivesWholeClosed, IsNewestAtOrNext, newer, newest, one_of}
-use Rattle.pcfs_store.specs.Checkpoints.{place_after, SurvivesMet, IsNewestMet}
-use Rattle.pcfs_store.specs.Entries.{StoreEntry, checkpointed as checkpoint_mark}
+use Rattle.pcfs_store.specs.Newest.{SurvivesWholeClosed, IsNewestAtOrNext, NewestBegins, newer, newest, one_of}
+use Rattle.pcfs_store.specs.Ready.{SurvivesCheckpoint}
+use Rattle.pcfs_store.specs.Checkpoints.{place_after, SurvivesMet, IsNewestMet, SurvivesMetAt}
+use Rattle.pcfs_store.specs.Entries.{StoreEntry, happened as event_mark, checkpointed as checkpoint_mark}
 use Rattle.pcfs_store.specs.StoreView.{last_after, image_since}
 use Rattle.pcfs_store.specs.declared.format.FormatFault.{FormatFault}
 use Rattle.pcfs_store.specs.declared.format.FormatFault.TheVariants as formats
@@ -109,8 +110,12 @@ image_in opened s = image_since opened (head_in s) s.checkpoints
 -- if the opened area had its closed gate, the newest one that comes back stands for the history at
 -- the end, or, if an event met the fault, for it with this event; it has that generation, and is on
 -- the disk on which the checkpoints put it; or, if a checkpoint met the fault, perhaps the next one,
--- on the other disk. The area that did not count is as it was, if no checkpoint was made, and none
--- met the fault.
+-- on the other disk. All this is so too if the opened area lacked its closed gate and an event was
+-- kept or a checkpoint made before the fault; if neither was and a checkpoint met it, but for the
+-- closed gate; and if neither was and an event met it, the newest area has that generation, is on
+-- that disk, and begins with the image and the records of the history, and what follows is left
+-- open. The area that did not count is as it was, if no checkpoint was made, and none met the
+-- fault.
 pub record Returns (rests : Rests) (generation : ℕ) (image : List ℕ) (before after : Disks) (start end : ScriptState) : Type 0 where
   pub grown : end.generation ≡ generation + length end.checkpoints
   pub whole : IfTold before (λ x y. end.met ≡ None → IfTold after (IsNewestOf end.generation (head_in end) (records_in end)))
@@ -129,6 +134,19 @@ pub record Returns (rests : Rests) (generation : ℕ) (image : List ℕ) (before
       IsNewestClosed generation image start.events x y → (second : Bool) →
       newer (generation_of x) (generation_of y) ≡ Some second →
       IfTold after (IsNewestMet end.generation (place_after (length end.checkpoints) second) met))
+  pub mended : (met : StoreEntry) → end.met ≡ Some met →
+      (end.events ≡ start.events → end.checkpoints ≡ [] → ⊥) → IfTold before (λ x y.
+      (second : Bool) → newer (generation_of x) (generation_of y) ≡ Some second → IfTold after
+      (SurvivesMetAt end.base end.events end.generation
+      (place_after (length end.checkpoints) second) met))
+  pub unclosed : (pass : ℕ) → end.met ≡ Some (checkpoint_mark pass) → IfTold before (λ x y.
+      (second : Bool) → newer (generation_of x) (generation_of y) ≡ Some second → IfTold after
+      (SurvivesCheckpoint end.base end.events end.generation
+      (place_after (length end.checkpoints) second)))
+  pub begins : (event : Event) → end.met ≡ Some (event_mark event) → IfTold before (λ x y.
+      (second : Bool) → newer (generation_of x) (generation_of y) ≡ Some second → IfTold after
+      (NewestBegins end.generation (place_after (length end.checkpoints) second)
+      (area_bytes end.generation (image_in image end) (payloads_of (records_in end)))))
   pub other_stays : end.checkpoints ≡ [] → ((pass : ℕ) → end.met ≡ Some (checkpoint_mark pass) → ⊥)
       → IfTold before (λ x y. (second : Bool) → newer (generation_of x) (generation_of y)
       ≡ Some second → one_of after.b after.a second ≡ one_of before.b before.a second)
@@ -155,6 +173,17 @@ abbrev pub NewestStays : Disks → Disks → Type 0
 NewestStays before after = IfTold before (λ x y. (second : Bool) →
     newer (generation_of x) (generation_of y) ≡ Some second → one_of after.a after.b second
     ≡ one_of before.a before.b second)
+
+-- What is left where a checkpoint met the fault of a disk: the history, in the area that was opened
+-- or in one of the next generation on the other disk; over a closed area it has its closed gate.
+pub record IsLeftUnmade (generation : ℕ) (image : List ℕ) (base : BaseView) (events : List Event) (before after : Disks) : Type 0 where
+  pub survives : IfTold before (λ x y. IsNewestClosed generation image events x y →
+      IfTold after (λ u v. SurvivesWholeClosed base events u v × ((second : Bool) →
+      newer (generation_of x) (generation_of y) ≡ Some second →
+      IsNewestAtOrNext generation second u v)))
+  pub at_rest : IfTold before (λ x y. (second : Bool) →
+      newer (generation_of x) (generation_of y) ≡ Some second →
+      IfTold after (SurvivesCheckpoint base events generation second))
 
 -- What is left where the making of a store met the fault of a disk: if an area was open, all bytes
 -- are as they were; if none was, none is, or the new one. The second disk is as it was.
@@ -201,9 +230,7 @@ pub data HasCause (secrets : Secrets) (words : List (String Global)) (rests : Re
       AsksFor words Checkpoint → IsOpened secrets generation image before start →
       (HasNoNextArea generation (state_of_start start) → ⊥) → HasDiskFailed before after →
       NewestStays before after →
-      IfTold before (λ x y. IsNewestClosed generation image start.events x y → IfTold after (λ u v.
-      SurvivesWholeClosed start.base start.events u v × ((second : Bool) →
-      newer (generation_of x) (generation_of y) ≡ Some second → IsNewestAtOrNext generation second u v))) →
+      IsLeftUnmade generation image start.base start.events before after →
       HasCause secrets words rests before after 5 (codes "stopped")
   audited : (pieces : Option ℕ) (generation : ℕ) (image : List ℕ) (start : ScriptState) (report : Report) →
       AsksFor words (Audit pieces) → IsOpened secrets generation image before start →
