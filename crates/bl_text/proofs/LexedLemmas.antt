@@ -19,7 +19,8 @@ use Rattle.bl_tokens.specs.declared.tokens.Token.TheVariants as tokens
 use Rattle.bl_tokens.specs.declared.tokens.Lexeme.{Lexeme}
 use Rattle.bl_tokens.specs.Classes.{is_in}
 use Rattle.bl_tokens.specs.Numerals.{numeral_below}
-use Rattle.bl_tokens.specs.Dates.{has_date_front, has_time_of_day, date_second_at, day_second_at, is_moment}
+use Rattle.bl_syntax.specs.Reading.{is_moment}
+use Rattle.bl_tokens.specs.Dates.{has_date_front, has_time_of_day, date_second_at, day_second_at}
 use Rattle.bl_tokens.specs.Words.{keyword, sort_named, constant_named, constant_or_name, sort_or_other, keyword_or_other, name_token}
 use Rattle.bl_tokens.specs.Tokens.{sized_lexeme, bad_lexeme, second_token, short_value, token_at_both, digits_of, integer_lexeme, negative_lexeme, time_lexeme, minus_lexeme, plus_lexeme, file_lexeme, parameter_lexeme, text_lexeme, has_first_byte, short_sign, sign_lexeme, other_lexeme, first_lexeme, word_lexeme, variable_lexeme, token_from}
 
@@ -50,9 +51,13 @@ T-from_true : (b : Bool) → b ≡ true → T b
 T-from_true true e = tt
 T-from_true false e = absurd (false≢true e)
 
+T-first : (a b : Bool) → (a && b) ≡ true → T a
+T-first true b e = tt
+T-first false b e = absurd (false≢true e)
+
 moment_is : (second : ℤ) → is_moment second ≡ true → IsMoment second
 moment_is (pos n) h = record { not_before = record { le = tt }; not_after = record { le = T-from_true _ h } }
-moment_is (negsuc n) h = record { not_before = record { le = T-from_true _ h }; not_after = record { le = tt } }
+moment_is (negsuc n) h = record { not_before = record { le = T-first _ _ h }; not_after = record { le = tt } }
 
 second_by : (second : ℤ) (b : Bool) → is_moment second ≡ b → IsLexed (if b then Constant (Time (times.At second)) else BadDate)
 second_by second true h = moment_is second h

@@ -1,6 +1,6 @@
 -- The text of a term is one token, and that token is the term.
 use Rattle.std.proofs.Common.{◌≡◌, ℕ, ℤ, suc, ◌+◌, ◌-◌, Bool, true, false, List, [], ◌∷◌, ◌++◌, length, append_assoc, refl, ap, ◌∙◌, arith}
-use Rattle.std.specs.Prelude.{T, ◌<◌, ◌^◌, pos, negsuc, codes, nat_le, if◌then◌else◌}
+use Rattle.std.specs.Prelude.{T, ◌<◌, ◌^◌, pos, negsuc, codes, nat_le, ◌&&◌, if◌then◌else◌}
 use Rattle.std.specs.Fmt.{decimal}
 use Rattle.std.proofs.lemmas.Bool.{false≢true}
 use Rattle.std.proofs.lemmas.Bool.Decides.{nat_tests}
@@ -14,7 +14,7 @@ use Rattle.bl_syntax.specs.TimeOrder.{IsMoment, IsInRange}
 use Rattle.bl_syntax.specs.Spelling.{IsSpellable}
 use Rattle.bl_tokens.specs.declared.tokens.Token.{Token}
 use Rattle.bl_tokens.specs.declared.tokens.Token.TheVariants as tokens
-use Rattle.bl_tokens.specs.Dates.{is_moment}
+use Rattle.bl_syntax.specs.Reading.{is_moment}
 use Rattle.bl_tokens.specs.Tokens.{sized_lexeme, second_token, first_lexeme}
 use Rattle.bl_text.specs.Printed.{time_text, permission_text, term_text}
 use Rattle.bl_text.specs.PrintedTokens.{EndsRun, term_token, IsInDepth}
@@ -27,9 +27,13 @@ true-from_T : (b : Bool) → T b → b ≡ true
 true-from_T true t = refl
 true-from_T false t = absurd t
 
+and-true : (b : Bool) → T b → (b && true) ≡ true
+and-true true t = refl
+and-true false t = absurd t
+
 moment_true : (second : ℤ) → IsMoment second → is_moment second ≡ true
 moment_true (pos n) h = true-from_T _ h.not_after.le
-moment_true (negsuc n) h = true-from_T _ h.not_before.le
+moment_true (negsuc n) h = and-true _ h.not_before.le
 
 moment_token : (second : ℤ) → IsMoment second → second_token second ≡ tokens.Constant (Time (times.At second))
 moment_token second h = chosen (is_moment second) (moment_true second h)
@@ -45,9 +49,9 @@ time_lexed : (point : TimePoint) (rest : List ℕ) → IsInRange point → EndsR
 time_lexed times.NegInf rest h ends = refl
 time_lexed times.PosInf rest h ends = refl
 time_lexed (times.At (pos n)) rest h ends =
-    second_lexed n rest (few_seconds n 253402300799 (moment_true (pos n) h) (omega arith)) ends ∙ ap (λ t. sized_lexeme t (length (decimal n))) (moment_token (pos n) h)
+    second_lexed n rest (few_seconds n 253402300799 (true-from_T _ h.not_after.le) (omega arith)) ends ∙ ap (λ t. sized_lexeme t (length (decimal n))) (moment_token (pos n) h)
 time_lexed (times.At (negsuc n)) rest h ends =
-    let few : n < 62135596800 = (let le = moment_true (negsuc n) h in grind (arith, nat_tests)) in
+    let few : n < 62135596800 = (let le = true-from_T _ h.not_before.le in grind (arith, nat_tests)) in
     negative_lexed (suc n) rest (omega arith) ends ∙ ap (λ t. sized_lexeme t (length (decimal (suc n)) + 1)) (moment_token (negsuc n) h) ∙ same_size _ _ _ (omega arith)
 
 permission_lexed : (permission : Permission) (rest : List ℕ) → EndsRun rest → first_lexeme (permission_text permission ++ rest) ≡ sized_lexeme (tokens.Constant (Perm permission)) (length (permission_text permission))

@@ -1,6 +1,6 @@
 -- Dates and times of day: their forms, and the seconds that they name. Which dates there are, and
 -- their day numbers, is the calendar of `jiff`.
-use Rattle.std.specs.Prelude.{ℕ, ℤ, pos, negsuc, ◌+◌, ◌-◌, ◌*◌, ◌*ℤ◌, List, length, slice_index, Bool, nat_le, ◌&&◌, ◌==◌, Option, Some, None, if◌then◌else◌}
+use Rattle.std.specs.Prelude.{ℕ, ℤ, pos, ◌+◌, ◌-◌, ◌*◌, ◌*ℤ◌, List, length, slice_index, Bool, nat_le, ◌&&◌, ◌==◌, Option, Some, None, if◌then◌else◌}
 use Rattle.bl_syntax.specs.Names.{is_digit}
 use Rattle.jiff_core.specs.Calendar.{days_in_month, days_from_civil}
 
@@ -49,8 +49,3 @@ date_second_at bytes = date_second (year_at bytes) (two_at bytes 5) (two_at byte
 -- the second of the time of day that stands after the date
 abbrev pub day_second_at : List ℕ → Option ℕ
 day_second_at bytes = day_second (two_at bytes 11) (two_at bytes 14) (two_at bytes 17)
-
--- whether the second lies in the years 1 to 9999
-abbrev pub is_moment : ℤ → Bool
-is_moment (pos n) = nat_le n 253_402_300_799
-is_moment (negsuc n) = nat_le n 62_135_596_799

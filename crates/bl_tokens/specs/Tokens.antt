@@ -18,7 +18,8 @@ use Rattle.bl_tokens.specs.declared.tokens.Cursor.{Cursor}
 use Rattle.bl_tokens.specs.declared.classes.Class.TheVariants as classes
 use Rattle.bl_tokens.specs.Classes.{is_in}
 use Rattle.bl_tokens.specs.Numerals.{numeral_below}
-use Rattle.bl_tokens.specs.Dates.{has_date_front, has_time_of_day, date_second_at, day_second_at, is_moment}
+use Rattle.bl_syntax.specs.Reading.{is_moment}
+use Rattle.bl_tokens.specs.Dates.{has_date_front, has_time_of_day, date_second_at, day_second_at}
 use Rattle.bl_tokens.specs.Words.{word_token}
 
 -- a token of so many bytes

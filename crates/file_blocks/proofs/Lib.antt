@@ -1,4 +1,5 @@
 pub mod OverLemmas
 pub mod BlockLemmas
 pub mod ContentsLemmas
+pub mod TailLemmas
 pub mod StepLemmas

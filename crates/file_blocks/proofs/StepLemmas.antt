@@ -1,11 +1,11 @@
 -- What each step of the code makes of the blocks and of the contents in them.
-use Rattle.std.proofs.Common.{◌≡◌, ℕ, ◌+◌, ◌-◌, ◌*◌, ◌/◌, ◌%◌, ◌^◌, ◌<◌, ◌≤◌, min, max, List, [], ◌∷◌, ◌++◌, length, take, drop, set, get_or, replicate, sym, ap, ◌∙◌, subst, arith, append-nil, length-drop}
+use Rattle.std.proofs.Common.{◌≡◌, ℕ, ◌+◌, ◌-◌, ◌*◌, ◌/◌, ◌%◌, ◌^◌, ◌<◌, ◌≤◌, min, max, List, [], ◌∷◌, ◌++◌, length, take, drop, set, get_or, replicate, refl, sym, ap, ◌∙◌, subst, arith, append-nil, length-drop}
 use Rattle.std.specs.List.{concat}
 use Rattle.std.proofs.lemmas.List.{take_all, drop_all, drop-drop, length-set, length-take-le, nil_from_length}
-use Rattle.std.proofs.lemmas.List.Elements.{All-nil, All-same, All-push, All-set, All-take, All-get_or}
+use Rattle.std.proofs.lemmas.List.Elements.{All-same, All-push, All-set, All-take, All-get_or}
 use borrow.Rule.Slice.PartMut.{put_mid}
 use Rattle.file_world.specs.TreeEffect.{write_at, resize_to}
-use Rattle.file_blocks.specs.Blocks.{over, zeros, blocks_for, AreWhole, AreContents}
+use Rattle.file_blocks.specs.Blocks.{over, zeros, blocks_for, AreWhole, AreContents, IsFilledUp}
 use Rattle.file_blocks.proofs.OverLemmas.{zeros-is, length-zeros, over-is, over-nothing, over-parts, length-over}
 use Rattle.file_blocks.proofs.BlockLemmas.{length-concat, concat-take, concat-over, part-concat, filled-more}
 use Rattle.file_blocks.proofs.ContentsLemmas.{BeginsZero, length-front, written, filled_up, cut_short, wiped, more_zeros}
@@ -152,76 +152,76 @@ all_written {X} len new items same all =
     ap (λ (rest : List X). take len (new ++ rest)) (drop_all (length new) items (omega (arith, same)))
     ∙ (ap (take len) (append-nil new) ∙ take_all len new (omega (arith, same, all)))
 
-pub within_all : (blocks : List (List ℕ)) (len : ℕ) → AreContents blocks len → len ≤ length (concat blocks)
-within_all blocks len kept =
-    let l = length-concat 4096 blocks kept.whole in
-    let within = kept.within in
-    omega (arith, l, within)
+pub within_all : (all : List ℕ) (len : ℕ) → AreContents all len → len ≤ length all
+within_all all len kept = kept.within
 
-begins : (blocks : List (List ℕ)) (len : ℕ) → AreContents blocks len → BeginsZero (concat blocks) len (4096 * length blocks)
-begins blocks len kept = record { long = length-concat 4096 blocks kept.whole; within = kept.within; zero_after = kept.zero_after }
+begins : (all : List ℕ) (len : ℕ) → AreContents all len → BeginsZero all len (length all)
+begins all len kept = record { long = refl; within = kept.within; zero_after = kept.zero_after }
 
-contents_from : (blocks : List (List ℕ)) (len : ℕ) → AreWhole blocks → length blocks ≤ 2 ^ 51 → BeginsZero (concat blocks) len (4096 * length blocks) → AreContents blocks len
-contents_from blocks len whole few b = record { whole = whole; within = b.within; zero_after = b.zero_after; few = few }
+contents_from : (all : List ℕ) (len room : ℕ) → length all < 2 ^ 64 → BeginsZero all len room → AreContents all len
+contents_from all len room few b =
+    let long = b.long in
+    let within = b.within in
+    record {
+      within = omega (arith, long, within);
+      zero_after = b.zero_after ∙ ap (λ (n : ℕ). zeros (n - len)) (sym long);
+      few = few;
+    }
 
-pub length-contents : (blocks : List (List ℕ)) (len : ℕ) → AreContents blocks len → length (take len (concat blocks)) ≡ len
-length-contents blocks len kept = length-front (concat blocks) len (4096 * length blocks) (begins blocks len kept)
+pub length-contents : (all : List ℕ) (len : ℕ) → AreContents all len → length (take len all) ≡ len
+length-contents all len kept = length-front all len (length all) (begins all len kept)
 
-pub no_contents : (blocks : List (List ℕ)) → blocks ≡ [] → AreContents blocks 0
-no_contents blocks none =
-    let empty : List (List ℕ) = [] in
+pub no_contents : (all : List ℕ) → all ≡ [] → AreContents all 0
+no_contents all none =
+    let empty : List ℕ = [] in
     let nothing : AreContents empty 0 = record {
-      whole = All-nil (λ (b : List ℕ). length b ≡ 4096);
       within = omega arith;
       zero_after = sym (zeros-is 0);
       few = omega arith;
     } in
-    subst (λ (s : List (List ℕ)). AreContents s 0) (sym none) nothing
+    subst (λ (s : List ℕ). AreContents s 0) (sym none) nothing
 
 -- the contents with more room
-pub record Roomier (old new : List (List ℕ)) (len : ℕ) : Type 0 where
+pub record Roomier (old new : List ℕ) (len : ℕ) : Type 0 where
   pub kept : AreContents new len
-  pub same : take len (concat new) ≡ take len (concat old)
+  pub same : take len new ≡ take len old
 
-pub roomier : (old new : List (List ℕ)) (len : ℕ) → AreContents old len → AreWhole new → length new ≤ 2 ^ 51 → length old ≤ length new → concat new ≡ concat old ++ zeros (4096 * (length new - length old)) → Roomier old new len
-roomier old new len kept whole few grows e =
-    let more : ℕ = 4096 * (length new - length old) in
-    let r : 4096 * length old + more ≡ 4096 * length new = omega (arith, grows) in
-    let m = more_zeros (concat old) (concat new) len (4096 * length old) more (begins old len kept) e in
-    record {
-      kept = contents_from new len whole few (subst (λ (n : ℕ). BeginsZero (concat new) len n) r m.1);
-      same = m.0;
-    }
+pub roomier : (old new : List ℕ) (len : ℕ) → AreContents old len → length new < 2 ^ 64 → IsFilledUp old new → Roomier old new len
+roomier old new len kept few filled =
+    let more : ℕ = length new - length old in
+    let m = more_zeros old new len (length old) more (begins old len kept) filled.bytes in
+    record { kept = contents_from new len (length old + more) few m.1; same = m.0 }
 
 -- the contents after a write
-pub record Written (old new : List (List ℕ)) (len offset : ℕ) (bytes : List ℕ) : Type 0 where
+pub record Written (old new : List ℕ) (len offset : ℕ) (bytes : List ℕ) : Type 0 where
   pub kept : AreContents new (max len (offset + length bytes))
-  pub bytes_are : take (max len (offset + length bytes)) (concat new) ≡ write_at (take len (concat old)) offset bytes
+  pub bytes_are : take (max len (offset + length bytes)) new ≡ write_at (take len old) offset bytes
+  pub room : length new ≡ length old
 
-pub write_done : (old new : List (List ℕ)) (len offset : ℕ) (bytes : List ℕ) → AreContents old len → 0 < length bytes → offset + length bytes ≤ 4096 * length old → AreWhole new → length new ≡ length old → concat new ≡ over (concat old) offset bytes → Written old new len offset bytes
-write_done old new len offset bytes kept some fits whole same e =
+pub write_done : (old new : List ℕ) (len offset : ℕ) (bytes : List ℕ) → AreContents old len → 0 < length bytes → offset + length bytes ≤ length old → new ≡ over old offset bytes → Written old new len offset bytes
+write_done old new len offset bytes kept some fits e =
     let few = kept.few in
-    let l = length-concat 4096 new whole in
-    let w = written (concat old) (concat new) len (4096 * length old) offset bytes (begins old len kept) some fits e (omega (arith, l, same)) in
+    let same : length new ≡ length old = ap length e ∙ length-over old offset bytes fits in
+    let w = written old new len (length old) offset bytes (begins old len kept) some fits e same in
     record {
-      kept = contents_from new (max len (offset + length bytes)) whole (omega (arith, same, few)) (subst (λ (n : ℕ). BeginsZero (concat new) (max len (offset + length bytes)) (4096 * n)) (sym same) w.begins);
+      kept = contents_from new (max len (offset + length bytes)) (length old) (omega (arith, same, few)) w.begins;
       bytes_are = w.front;
+      room = same;
     }
 
 -- the contents with a new length
-pub record Resized (old new : List (List ℕ)) (len n : ℕ) : Type 0 where
+pub record Resized (old new : List ℕ) (len n : ℕ) : Type 0 where
   pub kept : AreContents new n
-  pub bytes_are : take n (concat new) ≡ resize_to (take len (concat old)) n
+  pub bytes_are : take n new ≡ resize_to (take len old) n
 
-pub resized_up : (old : List (List ℕ)) (len n : ℕ) → AreContents old len → len ≤ n → n ≤ 4096 * length old → Resized old old len n
+pub resized_up : (old : List ℕ) (len n : ℕ) → AreContents old len → len ≤ n → n ≤ length old → Resized old old len n
 resized_up old len n kept longer fits =
-    let r = filled_up (concat old) len (4096 * length old) n (begins old len kept) longer fits in
-    record { kept = contents_from old n kept.whole kept.few r.begins; bytes_are = r.front }
+    let r = filled_up old len (length old) n (begins old len kept) longer fits in
+    record { kept = contents_from old n (length old) kept.few r.begins; bytes_are = r.front }
 
-pub resized_down : (old new : List (List ℕ)) (len n : ℕ) → AreContents old len → n < len → AreWhole new → length new ≡ blocks_for n → concat new ≡ take n (concat old) ++ zeros (4096 * blocks_for n - n) → Resized old new len n
-resized_down old new len n kept shorter whole count e =
+pub resized_down : (old new : List ℕ) (len n : ℕ) → AreContents old len → n < len → length new ≡ min (length old) (4096 * blocks_for n) → new ≡ take n old ++ zeros (length new - n) → Resized old new len n
+resized_down old new len n kept shorter count e =
     let few = kept.few in
     let within = kept.within in
-    let is : concat new ≡ take n (concat old) ++ zeros (4096 * length new - n) = e ∙ ap (λ (k : ℕ). take n (concat old) ++ zeros (4096 * k - n)) (sym count) in
-    let r = cut_short (concat old) (concat new) len (4096 * length old) (4096 * length new) n (begins old len kept) (omega (arith, shorter)) is (omega (arith, count)) in
-    record { kept = contents_from new n whole (omega (arith, count, few, within, shorter)) r.begins; bytes_are = r.front }
+    let r = cut_short old new len (length old) (length new) n (begins old len kept) (omega (arith, shorter)) e (omega (arith, count, within, shorter)) in
+    record { kept = contents_from new n (length new) (omega (arith, count, few)) r.begins; bytes_are = r.front }

@@ -1,6 +1,6 @@
--- The contents of a file in blocks: the blocks end to end begin with the bytes, and have zero bytes
--- after them.
-use Rattle.std.specs.Prelude.{◌≡◌, ℕ, ◌+◌, ◌-◌, ◌*◌, ◌/◌, ◌^◌, ◌≤◌, List, ◌++◌, length, take, drop, replicate}
+-- The contents of a file in blocks: the blocks end to end, and a shorter one after them, begin with the bytes, and have
+-- zero bytes after them.
+use Rattle.std.specs.Prelude.{◌≡◌, ℕ, ◌+◌, ◌-◌, ◌/◌, ◌^◌, ◌<◌, ◌≤◌, List, ◌++◌, length, take, drop, replicate}
 use Rattle.std.specs.List.{All, concat}
 use Rattle.file_blocks.specs.declared.block.TheConstants.{BLOCK_BYTES}
 
@@ -25,12 +25,26 @@ blocks_for len = (len + (BLOCK_BYTES - 1)) / BLOCK_BYTES
 abbrev pub AreWhole : List (List ℕ) → Type 0
 AreWhole blocks = All (λ block. length block ≡ BLOCK_BYTES) blocks
 
-abbrev pub contents_view : List (List ℕ) → ℕ → ContentsView
-contents_view blocks len = record { bytes = take len (concat blocks); room = BLOCK_BYTES * length blocks }
+-- whole blocks end to end, and the tail after them
+abbrev pub joined : List (List ℕ) → List ℕ → List ℕ
+joined blocks tail = concat blocks ++ tail
+
+-- each block has all its bytes, the tail has no more than a block, and there are not too many
+pub record AreBlocks (blocks : List (List ℕ)) (tail : List ℕ) : Type 0 where
+  pub whole : AreWhole blocks
+  pub short : length tail ≤ BLOCK_BYTES
+  pub few : length blocks ≤ 2 ^ 51
+
+-- zero bytes, or none, were added at the end
+pub record IsFilledUp (old new : List ℕ) : Type 0 where
+  pub grows : length old ≤ length new
+  pub bytes : new ≡ old ++ zeros (length new - length old)
+
+abbrev pub contents_view : List ℕ → ℕ → ContentsView
+contents_view all len = record { bytes = take len all; room = length all }
 
 -- so many bytes are in the blocks, and those after them are zero
-pub record AreContents (blocks : List (List ℕ)) (len : ℕ) : Type 0 where
-  pub whole : AreWhole blocks
-  pub within : len ≤ BLOCK_BYTES * length blocks
-  pub zero_after : drop len (concat blocks) ≡ zeros (BLOCK_BYTES * length blocks - len)
-  pub few : length blocks ≤ 2 ^ 51
+pub record AreContents (all : List ℕ) (len : ℕ) : Type 0 where
+  pub within : len ≤ length all
+  pub zero_after : drop len all ≡ zeros (length all - len)
+  pub few : length all < 2 ^ 64

@@ -1,13 +1,13 @@
-//! One block of bytes on the heap.
+//! One block of bytes on the heap: a whole one, or the shorter last one of a file.
 
-ghost use Rattle.std.specs.Prelude.{◌≡◌, ◌+◌, ◌-◌, ◌≤◌, length, IfOk};
+ghost use Rattle.std.specs.Prelude.{◌≡◌, [], ◌+◌, ◌-◌, ◌≤◌, ◌++◌, length, IfOk};
 ghost use Rattle.file_blocks.specs.Blocks.{over, zeros};
 
 use bl_syntax::NoMemory;
 use std::alloc::Global;
 use std::marker::Model;
 
-/// How many bytes a block has.
+/// How many bytes a whole block has.
 pub const BLOCK_BYTES: usize = 4096;
 
 /// A block of bytes. Contracts see the bytes.
@@ -49,13 +49,39 @@ fn overwrite(all: &mut [u8], at: usize, bytes: &[u8])
 }
 
 impl Block {
-    /// A block of zero bytes.
-    pub fn zero(alloc: Global) -> Result<Block, NoMemory>
-        ensures { IfOk result (λ block. block ≡ zeros BLOCK_BYTES) }
+    /// Without bytes. It takes no memory.
+    pub fn empty(alloc: Global) -> Block
+        ensures { result ≡ [] }
+    {
+        Block {
+            bytes: Vec::new(alloc),
+        }
+    }
+
+    /// A block of so many zero bytes.
+    pub fn zero(alloc: Global, len: usize) -> Result<Block, NoMemory>
+        ensures { IfOk result (λ block. block ≡ zeros len) }
     {
         Ok(Block {
-            bytes: zero_bytes(alloc, BLOCK_BYTES)?,
+            bytes: zero_bytes(alloc, len)?,
         })
+    }
+
+    /// The bytes, and zero bytes after them up to the length, in memory of its own.
+    pub fn longer(&self, alloc: Global, len: usize) -> Result<Block, NoMemory>
+        requires { length self.now ≤ len }
+        ensures { IfOk result (λ block. block ≡ self.now ++ zeros (len - length self.now)) }
+    {
+        let mut block = Block::zero(alloc, len)?;
+        block.put(0, self.as_slice());
+        Ok(block)
+    }
+
+    /// How many bytes there are.
+    pub fn len(&self) -> usize
+        ensures { result ≡ length self.now }
+    {
+        self.bytes.len()
     }
 
     /// An equal block in memory of its own.

@@ -1,11 +1,11 @@
 //! The contents of a file.
 
-ghost use Rattle.std.specs.Prelude.{◌≡◌, [], ◌+◌, ◌*◌, ◌^◌, ◌<◌, ◌≤◌, ◌++◌, length, if◌then◌else◌, nat_lt, IfOk, OnOk, OnErr};
+ghost use Rattle.std.specs.Prelude.{◌≡◌, [], ◌+◌, ◌*◌, ◌^◌, ◌<◌, ◌≤◌, ◌++◌, length, min, if◌then◌else◌, nat_lt, IfOk, OnOk, OnErr};
 ghost use Rattle.file_blocks.specs.Blocks.{blocks_for};
 ghost use Rattle.file_world.specs.TreeEffect.{write_at, resize_to, bytes_in};
 
-use crate::block::{BLOCK_BYTES, Block};
-use crate::spans::{append, blocks_for, copy, cut, fill_up, put};
+use crate::block::BLOCK_BYTES;
+use crate::blocks::Blocks;
 use bl_syntax::{Bytes, NoMemory};
 use std::alloc::{AllocError, Global};
 use std::marker::Model;
@@ -17,7 +17,7 @@ const MOST_ROOM: usize = 1 << 63;
 #[derive(Drop)]
 pub struct FileContents {
     /// They begin with the bytes, and have zero bytes after them.
-    blocks: Vec<Block>,
+    blocks: Blocks,
     len: usize,
 }
 
@@ -26,16 +26,16 @@ impl Model for FileContents {
 
     ghost Value = { ContentsView };
 
-    ghost view = { λ c. contents_view c.blocks.items c.len };
+    ghost view = { λ c. contents_view c.blocks c.len };
 
-    ghost invariant = { λ c. AreContents c.blocks.items c.len };
+    ghost invariant = { λ c. AreContents c.blocks c.len };
 }
 
 impl Clone for FileContents {
     ghost is_clone = { λ contents copied. copied.bytes ≡ contents.bytes };
 
     fn clone(&self) -> Result<Self, AllocError> {
-        match copy(self.blocks.as_slice(), *self.blocks.allocator()) {
+        match self.blocks.copy() {
             Ok(blocks) => Ok(FileContents {
                 blocks,
                 len: self.len,
@@ -51,7 +51,7 @@ impl FileContents {
         ensures { result.bytes ≡ [] }
     {
         FileContents {
-            blocks: Vec::new(alloc),
+            blocks: Blocks::new(alloc),
             len: 0,
         }
     }
@@ -80,13 +80,13 @@ impl FileContents {
         ensures room { OnOk result (len ≤ self.new.room) }
         ensures full { OnErr result (self.old.room < len) }
     {
-        if len <= BLOCK_BYTES * self.blocks.len() {
+        if len <= self.blocks.len() {
             return Ok(());
         }
         if MOST_ROOM < len {
             return Err(NoMemory);
         }
-        fill_up(&mut self.blocks, alloc, blocks_for(len))
+        self.blocks.grow(alloc, len)
     }
 
     /// Writes the bytes at the offset, and zero bytes in a gap before them. It takes no memory.
@@ -98,7 +98,7 @@ impl FileContents {
         if bytes.is_empty() {
             return;
         }
-        put(self.blocks.as_mut_slice(), offset, bytes);
+        self.blocks.put(offset, bytes);
         self.len = self.len.max(offset + bytes.len());
     }
 
@@ -107,10 +107,10 @@ impl FileContents {
     pub fn resize(&mut self, len: usize)
         requires { len ≤ self.old.room }
         ensures bytes { self.new.bytes ≡ resize_to self.old.bytes len }
-        ensures room { self.new.room ≡ (if nat_lt len (length self.old.bytes) then BLOCK_BYTES * blocks_for len else self.old.room) }
+        ensures room { self.new.room ≡ (if nat_lt len (length self.old.bytes) then min self.old.room (BLOCK_BYTES * blocks_for len) else self.old.room) }
     {
         if len < self.len {
-            cut(&mut self.blocks, len);
+            self.blocks.cut(len);
         }
         self.len = len;
     }
@@ -122,7 +122,7 @@ impl FileContents {
     {
         let start = offset.min(self.len);
         let end = start + len.min(self.len - start);
-        append(self.blocks.as_slice(), start, end, out)
+        self.blocks.append(start, end, out)
     }
 
     /// Appends all bytes, or none.
@@ -130,7 +130,7 @@ impl FileContents {
         ensures ok { OnOk result (out.new ≡ out.old ++ self.now.bytes) }
         ensures err { OnErr result (out.new ≡ out.old) }
     {
-        append(self.blocks.as_slice(), 0, self.len, out)
+        self.blocks.append(0, self.len, out)
     }
 
     /// All bytes, in memory of their own.

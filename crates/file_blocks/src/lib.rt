@@ -1,10 +1,11 @@
 //! The contents of one file, in blocks on the heap.
 //!
 //! Contracts see the bytes, and the room: how long the contents may become without taking memory. A write and a read
-//! touch the blocks that they cover, and growing copies nothing of what is there.
+//! touch the blocks that they cover, and growing copies at most the last one, which is as long as it needs to be.
 #![tactic(auto)]
 
 mod block;
+mod blocks;
 mod contents;
 mod spans;
 

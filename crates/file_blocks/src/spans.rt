@@ -2,7 +2,7 @@
 
 ghost use Rattle.std.specs.Prelude.{◌≡◌, ◌+◌, ◌-◌, ◌*◌, ◌^◌, ◌<◌, ◌≤◌, ◌++◌, length, max, take, drop, OnOk, OnErr, IfOk};
 ghost use Rattle.std.specs.List.{concat};
-ghost use Rattle.file_blocks.specs.Blocks.{over, zeros, blocks_for, AreWhole};
+ghost use Rattle.file_blocks.specs.Blocks.{over, zeros, blocks_for, joined, AreWhole};
 
 use crate::block::{BLOCK_BYTES, Block};
 use bl_syntax::{Bytes, NoMemory};
@@ -35,15 +35,20 @@ pub fn put(blocks: &mut [Block], offset: usize, bytes: &[u8])
     }
 }
 
-// The bytes from the offset on that lie in one block and before the end: at least one.
-fn piece(blocks: &[Block], at: usize, end: usize) -> &[u8]
+// The bytes from the offset on that lie in one block, or in the tail after them, and before the end: at least one.
+fn piece<'a>(blocks: &'a [Block], tail: &'a Block, at: usize, end: usize) -> &'a [u8]
     requires whole { AreWhole blocks.now }
     requires some { at < end }
-    requires within { end ≤ BLOCK_BYTES * length blocks.now }
-    ensures part { result.now ≡ take (length result.now) (drop at (concat blocks.now)) }
+    requires within { end ≤ BLOCK_BYTES * length blocks.now + length tail.now }
+    requires few { length blocks.now ≤ 2 ^ 51 }
+    ensures part { result.now ≡ take (length result.now) (drop at (joined blocks.now tail.now)) }
     ensures some { 0 < length result.now }
     ensures within { at + length result.now ≤ end }
 {
+    let whole = BLOCK_BYTES * blocks.len();
+    if whole <= at {
+        return &tail.as_slice()[at - whole..end - whole];
+    }
     let start = at % BLOCK_BYTES;
     let count = (end - at).min(BLOCK_BYTES - start);
     let bytes = blocks[at / BLOCK_BYTES].as_slice();
@@ -51,17 +56,24 @@ fn piece(blocks: &[Block], at: usize, end: usize) -> &[u8]
 }
 
 /// Appends the bytes from the start to the end, all or none.
-pub fn append(blocks: &[Block], start: usize, end: usize, out: &mut Bytes) -> Result<(), NoMemory>
+pub fn append(
+    blocks: &[Block],
+    tail: &Block,
+    start: usize,
+    end: usize,
+    out: &mut Bytes,
+) -> Result<(), NoMemory>
     requires whole { AreWhole blocks.now }
     requires order { start ≤ end }
-    requires within { end ≤ BLOCK_BYTES * length blocks.now }
-    ensures ok { OnOk result (out.new ≡ out.old ++ take (end - start) (drop start (concat blocks.now))) }
+    requires within { end ≤ BLOCK_BYTES * length blocks.now + length tail.now }
+    requires few { length blocks.now ≤ 2 ^ 51 }
+    ensures ok { OnOk result (out.new ≡ out.old ++ take (end - start) (drop start (joined blocks.now tail.now))) }
     ensures err { OnErr result (out.new ≡ out.old) }
 {
     let before = out.len();
     let mut at = start;
     'pieces: while at < end {
-        let part = piece(blocks, at, end);
+        let part = piece(blocks, tail, at, end);
         if let Err(refused) = out.extend(part) {
             out.truncate(before);
             return Err(refused);
@@ -82,7 +94,7 @@ pub fn fill_up(blocks: &mut Vec<Block>, alloc: Global, count: usize) -> Result<(
     ensures full { OnErr result (length blocks.old.items < count) }
 {
     for _added in blocks.len()..count {
-        blocks.push(Block::zero(alloc)?)?;
+        blocks.push(Block::zero(alloc, BLOCK_BYTES)?)?;
     }
     Ok(())
 }

@@ -1,6 +1,7 @@
 -- A message that is taken by a store, and the store after it.
-use Rattle.std.proofs.Common.{◌≡◌, ◌≢◌, ◌⊎◌, inl, inr, ◌≤◌, ℕ, Bool, true, false, List, [], ◌∷◌, Option, Some, None, Result, Ok, Err, refl, sym, ap, subst, ◌∙◌, arith, append-nil}
+use Rattle.std.proofs.Common.{◌≡◌, ◌≢◌, ◌⊎◌, inl, inr, ◌≤◌, ℕ, Bool, true, false, List, [], ◌∷◌, Option, Some, None, Result, Ok, Err, refl, sym, ap, subst, ◌∙◌, arith, append-nil, ◌<◌, length}
 use Rattle.std.specs.Prelude.{IfErr}
+use Rattle.pcfs_ports.specs.Disk.{IsPinned}
 use Rattle.pcfs_ports.specs.Faults.{HasRisen}
 use Rattle.pcfs_ports.specs.Observable.{with_back, HoldsSome}
 use Rattle.journal_records.specs.declared.event.Event.{Event}
@@ -10,14 +11,16 @@ use Rattle.follower.specs.declared.taking.Taken.TheVariants as answers
 use Rattle.follower.specs.Taking.{IsNextEvent, Takes}
 use Rattle.follower.specs.Taking as takes
 use Rattle.pcfs_store.specs.Checkpoints.{SurvivesMetAt}
-use Rattle.pcfs_store.specs.Entries.{StoreEntry, happened}
-use Rattle.pcfs_store.specs.Newest.{one_of}
-use Rattle.pcfs_store.specs.Ready.{IsReady, IsCurrent, StopsNow, SurvivesStopAt}
-use Rattle.pcfs_store.specs.StoreView.{StoreView, NoneFailed, first_disk, second_disk}
+use Rattle.pcfs_store.specs.Entries.{StoreEntry, happened, checkpointed}
+use Rattle.pcfs_store.specs.Newest.{one_of, NewestBegins}
+use Rattle.pcfs_store.specs.Ready.{IsReady, IsCurrent, IsAtRest, RestsSince, StopsNow, SurvivesStopAt}
+use Rattle.pcfs_store.specs.StoreView.{StoreView, NoneFailed, first_disk, second_disk, body_of}
+use Rattle.pcfs_store.specs.Steps.{with_event}
+use Rattle.pcfs_store.proofs.SurvivalLemmas.{one_longer, rests_ready, rests_same}
 use Rattle.pcfs_store.proofs.CountLemmas.{NoneFailed-same, NoneFailed-event}
 use Rattle.pcfs_session.specs.Stored.{StoreGoesOn}
 use Rattle.pcfs_session.proofs.OutboxLemmas.{with_back-nil}
-use Rattle.pcfs_session.proofs.StoredLemmas.{none_some, running_for, StoreGoesOn-same}
+use Rattle.pcfs_session.proofs.StoredLemmas.{none_some, event_no_checkpoint, running_for, StoreGoesOn-same}
 use Rattle.follow_run.specs.AnswerText.{answer_line, HoldsButLast}
 use Rattle.follow_run.specs.FollowRun.{IsNextIn, TakesIn}
 use Rattle.follow_run.specs.FollowRun as follows
@@ -126,8 +129,22 @@ module _ {D : Type 0} (clock : D → ℕ) (left_since : D → ℕ → List ℕ �
     pub ready : IsReady clock left_since image old → taken ≢ answers.Stopped → IsReady clock left_since image new
     pub current : IsCurrent clock left_since image old → taken ≢ answers.Stopped → IsCurrent clock left_since image new
     pub met : IsReady clock left_since image old → taken ≡ answers.Stopped → StopsNow clock left_since image new (SurvivesStopAt old.base old.events old.generation old.second_active new.met)
+    pub met_at_rest : IsAtRest clock left_since image old → taken ≡ answers.Stopped → StopsNow clock left_since image new (NewestBegins old.generation old.second_active (body_of old))
+    pub makes_ready : IsCurrent clock left_since image old → length old.events < length new.events → (active other : List ℕ) → image old.active ≡ Some active → image old.other ≡ Some other → IsPinned clock left_since image old.other → IsReady clock left_since image new
     pub first_never_falls : faults (first_disk old) ≤ faults (first_disk new)
     pub second_never_falls : faults (second_disk old) ≤ faults (second_disk new)
+
+  -- a store at rest is so after a message that was taken, and ready if its event was kept
+  rests_since : (old new : StoreView D) (message : Message) (taken : Taken) → taken ≢ answers.Stopped → Took old message taken new → Takes faults old message.number message.payload taken new → IsAtRest clock left_since image old → RestsSince clock left_since image old new
+  rests_since old _ message _ going t (takes.stopped earlier is) rest = absurd (going refl)
+  rests_since old _ message _ going t (takes.known goes few) rest = rests_same clock left_since image old rest
+  rests_since old _ message _ going t (takes.missing goes more) rest = rests_same clock left_since image old rest
+  rests_since old _ message _ going t (takes.damaged damage goes at is) rest = rests_same clock left_since image old rest
+  rests_since old _ message _ going t (takes.full event goes n over) rest = rests_same clock left_since image old rest
+  rests_since old _ message _ going t (takes.failed event active goes n fits risen) rest = absurd (going refl)
+  rests_since old _ message _ going t (takes.kept event active goes n fits stood) rest =
+      rests_ready clock left_since image (with_event old event active) old (t.makes_ready rest.current (one_longer old.events event) rest.active_bytes rest.other_bytes rest.active_told rest.other_told rest.other_pinned)
+  rests_since old _ message _ going t (takes.without_memory goes at) rest = rests_same clock left_since image old rest
 
   goes_running : (old new : StoreView D) (message : Message) (taken : Taken) → taken ≢ answers.Stopped → Took old message taken new → StoreGoesOn clock left_since image faults old new None
   goes_running old new message taken going t =
@@ -141,6 +158,10 @@ module _ {D : Type 0} (clock : D → ℕ) (left_since : D → ℕ → List ℕ �
         other_stays = λ none untried. place.other;
         ready = λ is none. t.ready is going;
         halts = λ is entry same. none_some entry same;
+        at_rest = λ rest none. rests_since old new message taken going t t.answer rest;
+        halts_mended = λ rest entry same. none_some entry same;
+        halts_checkpoint = λ rest pass same. none_some (checkpointed pass) same;
+        halts_event = λ rest event same. none_some (happened event) same;
         current = λ is none. t.current is going;
         first_never_falls = t.first_never_falls;
         second_never_falls = t.second_never_falls;
@@ -195,6 +216,10 @@ module _ {D : Type 0} (clock : D → ℕ) (left_since : D → ℕ → List ℕ �
         ready = λ is_ready none. none_some (happened event) (sym none);
         halts = λ is_ready entry same.
             subst (λ (x : StoreEntry). StopsNow clock left_since image (record old { active = active; stop = Some 0; met = Some event }) (SurvivesMetAt old.base old.events old.generation old.second_active x)) (some_same (happened event) entry same) (t.met is_ready refl);
+        at_rest = λ rest none. none_some (happened event) (sym none);
+        halts_mended = λ rest entry same added. absurd (added (record { events_stay = refl; checkpoints_stay = refl }));
+        halts_checkpoint = λ rest pass same. event_no_checkpoint event pass same;
+        halts_event = λ rest e same. t.met_at_rest rest refl;
         current = λ is_current none. none_some (happened event) (sym none);
         first_never_falls = t.first_never_falls;
         second_never_falls = t.second_never_falls;

@@ -110,6 +110,7 @@ module _ {D : Type 0} (clock : D → ℕ) (left_since : D → ℕ → List ℕ �
       makes_ready = a.makes_ready;
       any_moment = λ is_ready x y left_x left_y. leave x y (a.any_moment is_ready x y left_x left_y);
       met = λ is_ready is. a.met is_ready (stopped_of admitted is);
+      met_at_rest = λ rest is. a.met_at_rest rest (stopped_of admitted is);
       first_told = a.first_told;
       second_told = a.second_told;
       first_never_falls = a.first_never_falls;

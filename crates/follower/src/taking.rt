@@ -3,8 +3,9 @@
 ghost use Rattle.std.specs.Prelude.{◌≡◌, ◌≢◌, ◌<◌, ◌≤◌, ℕ, List, None, Some, length, is_some};
 ghost use Rattle.bl_syntax.specs.declared.limits.TheConstants.{MOST_EVENTS};
 ghost use Rattle.pcfs_ports.specs.Disk.{IsPinned};
-ghost use Rattle.pcfs_store.specs.StoreView.{first_disk, second_disk};
-ghost use Rattle.pcfs_store.specs.Ready.{IsReady, IsCurrent, Keeps, StopsLeave, StopsNow, SurvivesStopAt};
+ghost use Rattle.pcfs_store.specs.StoreView.{first_disk, second_disk, body_of};
+ghost use Rattle.pcfs_store.specs.Newest.{NewestBegins};
+ghost use Rattle.pcfs_store.specs.Ready.{IsReady, IsCurrent, IsAtRest, Keeps, StopsLeave, StopsNow, SurvivesStopAt};
 ghost use Rattle.follower.specs.Taking.{LeavesTaking, Takes, Taking, last_number, next_number, taken_of};
 
 use bl_syntax::CodecFault;
@@ -131,6 +132,12 @@ pub fn take<D: Disk>(alloc: Global, store: &mut Store<D>, number: u64, payload: 
     ensures met { IsReady D.clock D.left_since D.image store.old → result ≡ Taken.Stopped →
         StopsNow D.clock D.left_since D.image store.new
         (SurvivesStopAt store.old.base store.old.events store.old.generation store.old.second_active store.new.met) }
+
+    // If the area lacked its closed gate and nothing was pending, its history still begins an area of the
+    // same generation on the same disk; what follows it there is left open.
+    ensures met_at_rest { IsAtRest D.clock D.left_since D.image store.old → result ≡ Taken.Stopped →
+        StopsNow D.clock D.left_since D.image store.new
+        (NewestBegins store.old.generation store.old.second_active (body_of store.old)) }
 
     ensures first_told { is_some (D.image (first_disk store.new)) ≡ is_some (D.image (first_disk store.old)) }
     ensures second_told { is_some (D.image (second_disk store.new)) ≡ is_some (D.image (second_disk store.old)) }

@@ -164,6 +164,28 @@ append_says body bytes payload frame left end counted is closed torn =
     (λ gate. torn_gate body bytes (to_be_bytes w32 (length payload) ++ payload) left closed gate)
     placed
 
+-- a write from a place on leaves the bytes that stand in front of it
+pub torn_keeps : (at : ℕ) (front bytes piece left : List ℕ) → length front ≤ at → Begins front bytes → Torn at piece bytes left → Begins front left
+torn_keeps at front bytes piece left before begins torn =
+    let within = begins_within front bytes begins in
+    let least : length front ≤ min at (length bytes) = omega (arith, before, within) in
+    sym (take-take (length front) (min at (length bytes)) left least)
+    ∙ ap (take (length front)) torn.below
+    ∙ take-take (length front) at bytes before
+    ∙ begins
+
+-- what an append leaves begins with the records of before
+pub append_keeps : (body bytes frame left : List ℕ) (end : ℕ) → length body ≡ end → Begins body bytes →
+    Torn (end + 1) frame bytes left ⊎ Torn end (1 ∷ []) (written (end + 1) frame bytes) left → Begins body left
+append_keeps body bytes frame left end counted begins torn =
+    let later : length body ≤ end + 1 = omega (arith, counted) in
+    let here : length body ≤ end = omega (arith, counted) in
+    ⊎_elim
+    (λ after. torn_keeps (end + 1) body bytes frame left later begins after)
+    (λ gate. torn_keeps end body (written (end + 1) frame bytes) (1 ∷ []) left here
+    (torn_keeps (end + 1) body bytes frame (written (end + 1) frame bytes) later begins (torn_written (end + 1) frame bytes)) gate)
+    torn
+
 -- the two writes of an append are one of the record and a closed gate
 pub append_writes : (end : ℕ) (frame payload bytes : List ℕ) → frame ≡ frame_bytes payload →
     written end (1 ∷ []) (written (end + 1) frame bytes) ≡ written end (record_bytes payload ++ 0 ∷ []) bytes

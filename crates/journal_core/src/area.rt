@@ -4,7 +4,7 @@ ghost use Rattle.std.specs.Prelude.{◌≡◌, ◌≢◌, ◌↔◌, ◌+◌, �
 ghost use Rattle.std.specs.Option.{option_map};
 ghost use Rattle.pcfs_ports.specs.Faults.{HasRisen};
 ghost use Rattle.pcfs_ports.specs.Disk.{written, IsPinned, LeavesOnly};
-ghost use Rattle.journal_core.specs.Area.{area_limit, base_bytes, area_bytes, record_bytes, StandsForBody, IsGeneration};
+ghost use Rattle.journal_core.specs.Area.{area_limit, base_bytes, area_bytes, record_bytes, Begins, StandsForBody, IsGeneration};
 ghost use Rattle.journal_core.specs.Rest.{Rests, IsWithOrWithout, IsOldOrShutOrNew};
 ghost use Rattle.journal_core.specs.declared.area.AreaFault.TheVariants.{Disk as DiskFailed, NoMemory as OutOfMemory};
 
@@ -217,6 +217,12 @@ impl<D: Disk> Area<D> {
         ensures any_moment { (body : List ℕ) → length body ≡ self.old.end →
             Rests D.clock D.left_since D.image self.old.disk body →
             LeavesOnly D.clock D.left_since self.old.disk self.new.disk (IsWithOrWithout body framed.now) }
+
+        // Also if the closed gate was cut off before, what a crash at any moment leaves begins with the records of before.
+        ensures front { (body bytes : List ℕ) → length body ≡ self.old.end →
+            D.image self.old.disk ≡ Some bytes → Begins body bytes →
+            IsPinned D.clock D.left_since D.image self.old.disk →
+            LeavesOnly D.clock D.left_since self.old.disk self.new.disk (Begins body) }
 
         // After a fault the disk may be read: what it gives is the records of before, with the new one or without.
         ensures found { IsErrOf result AreaFault.Disk → (body bytes : List ℕ) →

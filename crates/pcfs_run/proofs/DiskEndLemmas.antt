@@ -4,6 +4,7 @@ use Rattle.std.specs.declared.alloc.Global.{Global}
 use Rattle.event_messages.specs.Messages.{Message}
 use Rattle.follow_run.specs.FollowRun.{FollowEnds, HasEnded}
 use Rattle.follow_run.specs.FollowRun as follows
+use Rattle.line_wire.specs.declared.reply.LineReply.{LineReply}
 use Rattle.pcfs_secrets.specs.declared.secrets.Secrets.{Secrets}
 use Rattle.pcfs_session.specs.ScriptEnds.{ScriptEnds, ScriptWrites}
 use Rattle.pcfs_session.specs.ScriptEnds as scripts
@@ -32,30 +33,30 @@ module _ (start end : ScriptState) (met : StoreEntry) (is : end.met ≡ Some met
   runs_on : {P : Type 0} → end.met ≡ None → P
   runs_on none = none_some met (sym none ∙ is)
 
-  by_writes : (before last after : Streams) (broken : Broken) (status faults : ℕ) (held : Option (List ℕ)) (how : ScriptEnd) (whole : List ℕ) → ScriptWrites start end before last how whole → TellsEnd how held faults status after.held after.write_faults broken.output → IsFaultStatus status
-  by_writes before last after broken status faults held _ _ (scripts.done bytes written reads short run running) tells = runs_on running
-  by_writes before last after broken status faults held _ _ (scripts.line_too_long lines written cut run running) tells = runs_on running
-  by_writes before last after broken status faults held _ _ (scripts.read_fault lines written risen all run running) tells = runs_on running
-  by_writes before last after broken status faults held _ _ (scripts.input_too_long lines written first all run running) tells = runs_on running
-  by_writes before last after broken status faults held _ _ (scripts.stopped written entry way there) tells = inl tells.0
+  by_writes : (before last after : Streams) (broken : Broken) (status faults : ℕ) (held : Option (List ℕ)) (how : ScriptEnd) (replies : List LineReply) → ScriptWrites start end before last how replies → TellsEnd how held faults status after.held after.write_faults broken.output → IsFaultStatus status
+  by_writes before last after broken status faults held _ _ (scripts.done bytes replies reads short run running) tells = runs_on running
+  by_writes before last after broken status faults held _ _ (scripts.line_too_long lines replies cut run running) tells = runs_on running
+  by_writes before last after broken status faults held _ _ (scripts.read_fault lines replies risen all run running) tells = runs_on running
+  by_writes before last after broken status faults held _ _ (scripts.input_too_long lines replies first all run running) tells = runs_on running
+  by_writes before last after broken status faults held _ _ (scripts.stopped replies entry way there) tells = inl tells.0
 
   -- at a line that is too long
-  long_runs : (before last : Streams) (how : ScriptEnd) (whole : List ℕ) → how ≡ LineTooLong → ScriptWrites start end before last how whole → end.met ≡ None
-  long_runs before last _ _ is (scripts.done bytes written reads short run running) = running
-  long_runs before last _ _ is (scripts.line_too_long lines written cut run running) = running
-  long_runs before last _ _ is (scripts.read_fault lines written risen all run running) = running
-  long_runs before last _ _ is (scripts.input_too_long lines written first all run running) = running
-  long_runs before last _ _ is (scripts.stopped written entry way there) = absurd cc
+  long_runs : (before last : Streams) (how : ScriptEnd) (replies : List LineReply) → how ≡ LineTooLong → ScriptWrites start end before last how replies → end.met ≡ None
+  long_runs before last _ _ is (scripts.done bytes replies reads short run running) = running
+  long_runs before last _ _ is (scripts.line_too_long lines replies cut run running) = running
+  long_runs before last _ _ is (scripts.read_fault lines replies risen all run running) = running
+  long_runs before last _ _ is (scripts.input_too_long lines replies first all run running) = running
+  long_runs before last _ _ is (scripts.stopped replies entry way there) = absurd cc
 
-  by_end : (before last after : Streams) (broken : Broken) (status faults : ℕ) (held : Option (List ℕ)) (how : ScriptEnd) → ScriptEnds start end before last how → TellsEnd how held faults status after.held after.write_faults broken.output → IsFaultStatus status
-  by_end before last after broken status faults held _ (scripts.written how whole writes out) tells = by_writes before last after broken status faults held how whole writes tells
-  by_end before last after broken status faults held _ (scripts.cut_short whole risen way some) tells = inr tells.0
-  by_end before last after broken status faults held _ (scripts.cut_at_long_line whole risen writes some) tells = inr tells.0
-  by_end before last after broken status faults held _ (scripts.out_of_memory whole way running some) tells = runs_on running
-  by_end before last after broken status faults held _ (scripts.out_of_memory_at_long_line whole writes some) tells = runs_on (long_runs before last LineTooLong whole refl writes)
+  by_end : (buffered : ℕ) (before last after : Streams) (broken : Broken) (status faults : ℕ) (held : Option (List ℕ)) (how : ScriptEnd) → ScriptEnds buffered start end before last how → TellsEnd how held faults status after.held after.write_faults broken.output → IsFaultStatus status
+  by_end buffered before last after broken status faults held _ (scripts.written how replies writes out) tells = by_writes before last after broken status faults held how replies writes tells
+  by_end buffered before last after broken status faults held _ (scripts.cut_short replies risen way some) tells = inr tells.0
+  by_end buffered before last after broken status faults held _ (scripts.cut_at_long_line replies risen writes some) tells = inr tells.0
+  by_end buffered before last after broken status faults held _ (scripts.out_of_memory replies way running some) tells = runs_on running
+  by_end buffered before last after broken status faults held _ (scripts.out_of_memory_at_long_line replies writes some) tells = runs_on (long_runs before last LineTooLong replies refl writes)
 
-  of_script : (before after : Streams) (broken : Broken) (status : ℕ) → ScriptStatus start end before after broken status → IsFaultStatus status
-  of_script before after broken status s = by_end before (record after { held = s.held; write_faults = s.write_faults }) after broken status s.write_faults s.held s.how s.ends s.tells
+  of_script : (buffered : ℕ) (before after : Streams) (broken : Broken) (status : ℕ) → ScriptStatus buffered start end before after broken status → IsFaultStatus status
+  of_script buffered before after broken status s = by_end buffered before (record after { held = s.held; write_faults = s.write_faults }) after broken status s.write_faults s.held s.how s.ends s.tells
 
   by_ended : (before after : Streams) (broken : Broken) (messages : List Message) (status : ℕ) (last : List ℕ) → HasEnded end before after broken.input messages status last → IsFaultStatus status
   by_ended before after broken messages _ _ (follows.done all reads running) = runs_on running
@@ -112,7 +113,7 @@ module _ (secrets : Secrets) (words : List (String Global)) where
     of_run : (rests : Rests) (status : ℕ) → EndsWith secrets words rests before.ports after.ports status → Ends status
     of_run rests _ (runs.in_memory status asks same ends) = inl (same_counts before.ports.disks after.ports.disks same)
     of_run rests _ (runs.stored status generation image start end asks opened back ends) =
-        by_met rests generation image before.ports.disks after.ports.disks start end status back (λ met is. of_script start end met is before.ports.streams after.ports.streams after.ports.broken status ends) end.met refl
+        by_met rests generation image before.ports.disks after.ports.disks start end status back (λ met is. of_script start end met is 0 before.ports.streams after.ports.streams after.ports.broken status ends) end.met refl
     of_run rests _ (runs.followed status generation image start end asks opened back ends) =
         by_met rests generation image before.ports.disks after.ports.disks start end status back (λ met is. of_following start end met is before.ports.streams after.ports.streams after.ports.broken status ends) end.met refl
     of_run rests _ (runs.exported from status generation image start asks opened same rest input tells) = inl same.none_failed

@@ -24,6 +24,7 @@ use Rattle.pcfs_inquiry.specs.Answers as inquiries
 use Rattle.pcfs_modes.specs.Answers.{ComesTo, ModesEnds}
 use Rattle.pcfs_modes.specs.Answers as tables
 use Rattle.pcfs_session.specs.LineAnswer.{authority_under}
+use Rattle.line_wire.specs.declared.reply.LineReply.{LineReply}
 use Rattle.pcfs_session.specs.ScriptEnds.{ScriptEnds, ScriptWrites}
 use Rattle.pcfs_session.specs.ScriptEnds as scripts
 use Rattle.pcfs_session.specs.ScriptRun.{ScriptState}
@@ -83,7 +84,7 @@ module _ (secrets : Secrets) (words : List (String Global)) (before after : Serv
 
   -- ---- scripts
 
-  module _ (status : ℕ) (held : Option (List ℕ)) (faults : ℕ) (later : before.ports.streams.write_faults ≤ faults) (asks : AsksFor words Script ⊎ AsksFor words Stored) (start end : ScriptState) (runs_on : (met : StoreEntry) → end.met ≡ Some met → status ≡ 5 → ⊥) where
+  module _ (buffered status : ℕ) (held : Option (List ℕ)) (faults : ℕ) (later : before.ports.streams.write_faults ≤ faults) (asks : AsksFor words Script ⊎ AsksFor words Stored) (start end : ScriptState) (runs_on : (met : StoreEntry) → end.met ≡ Some met → status ≡ 5 → ⊥) where
     -- what the streams told when the script had ended, before its last line
     abbrev ended_at : Streams
     ended_at = record after.ports.streams { held = held; write_faults = faults }
@@ -91,31 +92,31 @@ module _ (secrets : Secrets) (words : List (String Global)) (before after : Serv
     abbrev Tells : ScriptEnd → Type 0
     Tells how = TellsEnd how held faults status after.ports.streams.held after.ports.streams.write_faults after.ports.broken.output
 
-    by_writes : (how : ScriptEnd) (whole : List ℕ) → ScriptWrites start end before.ports.streams ended_at how whole → Tells how → Ends status
-    by_writes _ _ (scripts.done bytes written reads short run running) tells = subst Ends (sym tells.0) healthy.done
-    by_writes _ _ (scripts.line_too_long lines written cut run running) tells = healthy.script_unfit status asks (subst (IsUnfit before.ports.streams after.ports.streams) (sym tells.0) (long_line lines cut))
-    by_writes _ _ (scripts.read_fault lines written risen all run running) tells = absurd (sound.input risen)
-    by_writes _ _ (scripts.input_too_long lines written first all run running) (inl told) =
+    by_writes : (how : ScriptEnd) (replies : List LineReply) → ScriptWrites start end before.ports.streams ended_at how replies → Tells how → Ends status
+    by_writes _ _ (scripts.done bytes replies reads short run running) tells = subst Ends (sym tells.0) healthy.done
+    by_writes _ _ (scripts.line_too_long lines replies cut run running) tells = healthy.script_unfit status asks (subst (IsUnfit before.ports.streams after.ports.streams) (sym tells.0) (long_line lines cut))
+    by_writes _ _ (scripts.read_fault lines replies risen all run running) tells = absurd (sound.input risen)
+    by_writes _ _ (scripts.input_too_long lines replies first all run running) (inl told) =
         healthy.script_unfit status asks (subst (IsUnfit before.ports.streams after.ports.streams) (sym told.0) (too_many_bytes first))
-    by_writes _ _ (scripts.input_too_long lines written first all run running) (inr failed) = absurd (not_since faults later failed.1)
-    by_writes _ _ (scripts.stopped written met way is) tells = absurd (runs_on met is tells.0)
+    by_writes _ _ (scripts.input_too_long lines replies first all run running) (inr failed) = absurd (not_since faults later failed.1)
+    by_writes _ _ (scripts.stopped replies met way is) tells = absurd (runs_on met is tells.0)
 
     -- the output failed, so its count rose
     unwritten : HasRisen before.ports.streams.write_faults faults → Tells script_ends.WriteFault → ⊥
     unwritten risen tells = sound.output (subst (HasRisen before.ports.streams.write_faults) (sym tells.2) risen)
 
-    by_end : (how : ScriptEnd) → ScriptEnds start end before.ports.streams ended_at how → Tells how → Ends status
-    by_end _ (scripts.written how whole writes out) tells = by_writes how whole writes tells
-    by_end _ (scripts.cut_short whole risen way some) tells = absurd (unwritten risen tells)
-    by_end _ (scripts.cut_at_long_line whole risen writes some) tells = absurd (unwritten risen tells)
-    by_end _ (scripts.out_of_memory whole way running some) tells = subst Ends (sym tells.0) healthy.out_of_memory
-    by_end _ (scripts.out_of_memory_at_long_line whole writes some) tells = subst Ends (sym tells.0) healthy.out_of_memory
+    by_end : (how : ScriptEnd) → ScriptEnds buffered start end before.ports.streams ended_at how → Tells how → Ends status
+    by_end _ (scripts.written how replies writes out) tells = by_writes how replies writes tells
+    by_end _ (scripts.cut_short replies risen way some) tells = absurd (unwritten risen tells)
+    by_end _ (scripts.cut_at_long_line replies risen writes some) tells = absurd (unwritten risen tells)
+    by_end _ (scripts.out_of_memory replies way running some) tells = subst Ends (sym tells.0) healthy.out_of_memory
+    by_end _ (scripts.out_of_memory_at_long_line replies writes some) tells = subst Ends (sym tells.0) healthy.out_of_memory
 
-  of_script : (status : ℕ) (start end : ScriptState) → AsksFor words Script ⊎ AsksFor words Stored → ((met : StoreEntry) → end.met ≡ Some met → status ≡ 5 → ⊥) → ScriptStatus start end before.ports.streams after.ports.streams after.ports.broken status → Ends status
-  of_script status start end asks runs_on s = by_end status s.held s.write_faults s.never_falls asks start end runs_on s.how s.ends s.tells
+  of_script : (buffered status : ℕ) (start end : ScriptState) → AsksFor words Script ⊎ AsksFor words Stored → ((met : StoreEntry) → end.met ≡ Some met → status ≡ 5 → ⊥) → ScriptStatus buffered start end before.ports.streams after.ports.streams after.ports.broken status → Ends status
+  of_script buffered status start end asks runs_on s = by_end buffered status s.held s.write_faults s.never_falls asks start end runs_on s.how s.ends s.tells
 
   of_memory : (status : ℕ) → AsksFor words Script → MemoryEnds secrets before.ports.streams after.ports.streams after.ports.broken status → Ends status
-  of_memory _ asks (in_memory.ended status end runs_on s) = of_script status _ end (inl asks) (λ met is five. runs_on five) s
+  of_memory _ asks (in_memory.ended status end runs_on s) = of_script _ status _ end (inl asks) (λ met is five. runs_on five) s
   of_memory _ asks (in_memory.disk_failed end s) = healthy.out_of_memory
 
   -- ---- messages that are taken
@@ -223,7 +224,7 @@ module _ (secrets : Secrets) (words : List (String Global)) (before after : Serv
 
   of_run : (rests : Rests) (status : ℕ) → ((port count : ℕ) → IsServe words port count → ⊥) → ((port count : ℕ) → IsServe9 words port count → ⊥) → EndsWith secrets words rests before.ports after.ports status → Ends status
   of_run rests _ alone apart (runs.in_memory status asks same ends) = of_memory status asks ends
-  of_run rests _ alone apart (runs.stored status generation image start end asks opened back ends) = of_script status start end (inr asks) (λ met is five. no_disk_failed (back.failed met is)) ends
+  of_run rests _ alone apart (runs.stored status generation image start end asks opened back ends) = of_script 0 status start end (inr asks) (λ met is five. no_disk_failed (back.failed met is)) ends
   of_run rests _ alone apart (runs.followed status generation image start end asks opened back ends) = of_following end asks (λ met is. no_disk_failed (back.failed met is)) start status ends
   of_run rests _ alone apart (runs.exported from status generation image start asks opened same rest input tells) = of_export from generation image start asks opened status tells
   of_run rests _ alone apart (runs.told status line cause input out writes) = by_cause rests status line alone apart cause

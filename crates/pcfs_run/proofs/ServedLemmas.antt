@@ -2,6 +2,7 @@
 use Rattle.std.proofs.Common.{◌≡◌, ◌∙◌, ◌⊎◌, inl, inr, ℕ, ◌+◌, ◌≤◌, List, [], ◌∷◌, ◌++◌, ◌-◌, length, take, drop, append_assoc, append-nil, map, Bool, true, false, Option, Some, None, codes, decimal, refl, sym, ap, subst, arith, add-zero}
 use Rattle.pcfs_ports.specs.Accepted.{FallsBy}
 use Rattle.pcfs_ports.specs.Faults.{HasRisen}
+use Rattle.journal_core.specs.Area.{area_bytes}
 use Rattle.access_history.specs.Base.{BaseView}
 use Rattle.access_history.specs.History.{authority_with}
 use Rattle.access_history.specs.Lawful.{IsLawful}
@@ -18,10 +19,10 @@ use Rattle.pcfs_session.proofs.StoredLemmas.{HasRisen-earlier}
 use Rattle.pcfs_store.specs.Entries.{Root, StoreEntry, happened, checkpointed, stopped, stop_entries, merged, root_of, entries_of, checkpoints_among, events_among}
 use Rattle.pcfs_store.specs.Checkpoints.{place_after}
 use Rattle.pcfs_store.specs.declared.checkpoints.Checkpoint.{Checkpoint}
-use Rattle.pcfs_store.specs.Newest.{one_of}
-use Rattle.pcfs_store.specs.Ready.{SurvivesStop, IsNewestStop}
-use Rattle.pcfs_store.specs.StoredHistory.{state_after}
-use Rattle.pcfs_store.specs.StoreView.{StoreView, IsStore, first_disk, second_disk, head_of, image_since, image_of, last_after, records_of}
+use Rattle.pcfs_store.specs.Newest.{one_of, NewestBegins}
+use Rattle.pcfs_store.specs.Ready.{SurvivesStop, IsNewestStop, SurvivesStopAt, SurvivesCheckpoint}
+use Rattle.pcfs_store.specs.StoredHistory.{payloads_of, state_after}
+use Rattle.pcfs_store.specs.StoreView.{StoreView, IsStore, first_disk, second_disk, body_of, head_of, image_since, image_of, last_after, records_of}
 use Rattle.pcfs_store.proofs.EntryLemmas.{events-entries, generation-entries}
 use Rattle.recover.specs.declared.fault.OpenFault.{OpenFault}
 use Rattle.recover.specs.declared.fault.OpenFault.TheVariants as opens
@@ -32,7 +33,7 @@ use Rattle.pcfs_tools.specs.Broken.{Broken}
 use Rattle.pcfs_tools.specs.LastLine.{Wrote}
 use Rattle.pcfs_top.specs.Ports.{Rests, AreDisksKept}
 use Rattle.pcfs_top.specs.Run.{IsNewestOf, TellsUnopened, damaged_text}
-use Rattle.pcfs_top.proofs.EndsWithLemmas.{disks_of, rests_of, newest_of, counts_now, closed_of, pinned_at, none_failed_since, other_is, added_all, place_kept, place_moved, has_no_area}
+use Rattle.pcfs_top.proofs.EndsWithLemmas.{disks_of, rests_of, newest_of, counts_now, closed_of, pinned_at, none_failed_since, other_is, added_all, place_kept, place_moved, has_no_area, opened_at_rest}
 use Rattle.pcfs_run.specs.Passes.{PassEntries, AreOfPasses, IsGrown, stop_among}
 use Rattle.pcfs_run.specs.Served.{Net, ServePorts, IsNetKept, AreAttended, root_under, IsServed, TellsServed, ServeWrites, EndsServing, all_served, net_failed}
 use Rattle.pcfs_run.specs.Served as serving
@@ -250,6 +251,33 @@ module _ {D : Type 0} (is_of : PassEntries) (clock : D → ℕ) (left_since : D 
           subst (λ (n : ℕ). IsNewestStop n (place_after (length s'.checkpoints) second) s'.met x' y') generation_is
           (subst (λ (w : Bool). IsNewestStop s'.generation w s'.met x' y') there
           (goes.halts (opened.ready x y is_x is_y gate) pass (is ∙ stops) x' y' (may_stay (first_disk s') x' is_x') (may_stay (second_disk s') y' is_y')).1);
+      mended = λ pass stops added x y is_x is_y second counts x' y' is_x' is_y'.
+          let now = counts_now clock left_since image faults s store (opened.current x y is_x is_y) x y (opened.first_read.same ∙ is_x) (opened.second_read.same ∙ is_y) in
+          let there = place_moved goes.checkpoints_go_on.0 s'.checkpoints s.second_active second s'.second_active added_to (same_place s.second_active second (sym now ∙ counts)) goes.place_is in
+          under (λ key ring base. SurvivesStopAt base s'.events (s.generation + length s'.checkpoints) (place_after (length s'.checkpoints) second) s'.met x' y')
+          (subst (λ (n : ℕ). SurvivesStopAt s'.base s'.events n (place_after (length s'.checkpoints) second) s'.met x' y') generation_is
+          (subst (λ (w : Bool). SurvivesStopAt s'.base s'.events s'.generation w s'.met x' y') there
+          (goes.halts_mended (opened_at_rest clock left_since image faults secrets a b s opened x y is_x is_y) pass (is ∙ stops) (λ nothing. added nothing.events_stay (nothing.checkpoints_stay ∙ opened.unsettled))
+          x' y' (may_stay (first_disk s') x' is_x') (may_stay (second_disk s') y' is_y'))));
+      unclosed = λ pass stops none x y is_x is_y second counts x' y' is_x' is_y'.
+          let now = counts_now clock left_since image faults s store (opened.current x y is_x is_y) x y (opened.first_read.same ∙ is_x) (opened.second_read.same ∙ is_y) in
+          let there = place_moved goes.checkpoints_go_on.0 s'.checkpoints s.second_active second s'.second_active added_to (same_place s.second_active second (sym now ∙ counts)) goes.place_is in
+          under (λ key ring base. SurvivesCheckpoint base s'.events (s.generation + length s'.checkpoints) (place_after (length s'.checkpoints) second) x' y')
+          (subst (λ (n : ℕ). SurvivesCheckpoint s'.base s'.events n (place_after (length s'.checkpoints) second) x' y') generation_is
+          (subst (λ (w : Bool). SurvivesCheckpoint s'.base s'.events s'.generation w x' y') there
+          (goes.halts_checkpoint (opened_at_rest clock left_since image faults secrets a b s opened x y is_x is_y) pass (is ∙ stops) none
+          x' y' (may_stay (first_disk s') x' is_x') (may_stay (second_disk s') y' is_y'))));
+      begins = λ pass event stops same x y is_x is_y second counts x' y' is_x' is_y'.
+          let now = counts_now clock left_since image faults s store (opened.current x y is_x is_y) x y (opened.first_read.same ∙ is_x) (opened.second_read.same ∙ is_y) in
+          let there = place_moved goes.checkpoints_go_on.0 s'.checkpoints s.second_active second s'.second_active added_to (same_place s.second_active second (sym now ∙ counts)) goes.place_is in
+          let place = place_after (length s'.checkpoints) second in
+          let records = payloads_of (records_of s') in
+          under (λ key ring base. NewestBegins (s.generation + length s'.checkpoints) place (area_bytes (s.generation + length s'.checkpoints) (image_since s.opened (state_after base s'.events (last_after 0 s'.checkpoints)) s'.checkpoints) records) x' y')
+          (subst (λ (found : List ℕ). NewestBegins (s.generation + length s'.checkpoints) place (area_bytes (s.generation + length s'.checkpoints) (image_since found (head_of s') s'.checkpoints) records) x' y') goes.opened_stays
+          (subst (λ (n : ℕ). NewestBegins n place (area_bytes n (image_of s') records) x' y') generation_is
+          (subst (λ (w : Bool). NewestBegins s'.generation w (body_of s') x' y') there
+          (goes.halts_event (opened_at_rest clock left_since image faults secrets a b s opened x y is_x is_y) pass event (is ∙ stops) same
+          x' y' (may_stay (first_disk s') x' is_x') (may_stay (second_disk s') y' is_y')))));
       other_stays = λ none x y is_x is_y second counts.
           let now = counts_now clock left_since image faults s store (opened.current x y is_x is_y) x y (opened.first_read.same ∙ is_x) (opened.second_read.same ∙ is_y) in
           subst (OtherAt stop) (same_place s.second_active second (sym now ∙ counts)) (other_by stop is none (goes.other_stays (added_to ∙ none)));

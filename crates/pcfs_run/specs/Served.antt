@@ -5,7 +5,7 @@ use Rattle.std.specs.Fmt.{decimal}
 use Rattle.std.specs.declared.alloc.Global.{Global}
 use Rattle.pcfs_ports.specs.Faults.{HasRisen, raise}
 use Rattle.pcfs_ports.specs.Observable.{with_back, HoldsSome}
-use Rattle.journal_core.specs.Area.{generation_of}
+use Rattle.journal_core.specs.Area.{area_bytes, generation_of}
 use Rattle.access_history.specs.Headline.{Headline}
 use Rattle.access_history.specs.Lawful.{IsLawful}
 use Rattle.access_history.specs.Base.{BaseView}
@@ -21,10 +21,10 @@ use Rattle.pcfs_session.specs.ScriptEnds.{with_line_end}
 use Rattle.pcfs_store.specs.declared.checkpoints.Checkpoint.{Checkpoint}
 use Rattle.pcfs_store.specs.Entries.{Root, StoreEntry, happened, stop_entries, merged, checkpoints_among, events_among}
 use Rattle.pcfs_store.specs.Checkpoints.{place_after}
-use Rattle.pcfs_store.specs.StoredHistory.{state_after}
+use Rattle.pcfs_store.specs.StoredHistory.{payloads_of, state_after}
 use Rattle.pcfs_store.specs.StoreView.{AreInOrder, image_since, last_after}
-use Rattle.pcfs_store.specs.Newest.{newer, one_of}
-use Rattle.pcfs_store.specs.Ready.{SurvivesStop, IsNewestStop}
+use Rattle.pcfs_store.specs.Newest.{newer, one_of, NewestBegins}
+use Rattle.pcfs_store.specs.Ready.{SurvivesStop, IsNewestStop, SurvivesStopAt, SurvivesCheckpoint}
 use Rattle.recover.specs.Opening.{IsNewestHistory, IsNewestDamaged, IsNewestClosed}
 use Rattle.pcfs_tools.specs.LastLine.{Wrote, WroteNothing}
 use Rattle.pcfs_top.specs.Ports.{Disks, Ports, Rests, IfTold, HasDiskFailed, NoDiskFailed, AreBytesKept, AreDisksKept, IsInputKept}
@@ -100,9 +100,12 @@ root_under secrets generation image base = record {
 -- the step was keeping, which may follow them: this is in the mark, which is one of the entries of
 -- the pass, so that a line of its session, or a message, asks for it. This newest one has the
 -- generation and the place that follow from the checkpoints; or, if the turn was to make one more,
--- perhaps those that follow with it. The area that did not count
--- is as it was, if no checkpoint was made; only if one was tried, its disk may have failed, and
--- then the mark has no event.
+-- perhaps those that follow with it. All this is so too if the opened area lacked its closed gate
+-- and an event was kept or a checkpoint made before; and if neither was, and the turn was to make a
+-- checkpoint, but for the closed gate; and if neither was, and the turn was a step, the newest area
+-- has that generation and place, and begins with the image and the records of these events, and
+-- what follows is left open. The area that did not count is as it was, if no checkpoint was made;
+-- only if one was tried, its disk may have failed, and then the mark has no event.
 pub record IsServed (is_of : PassEntries) (secrets : Secrets) (rests : Rests) (before after : Disks) (attended count : ℕ) (stop : Option ℕ) : Type 0 where
   pub generation : ℕ
   pub image : List ℕ
@@ -144,6 +147,22 @@ pub record IsServed (is_of : PassEntries) (secrets : Secrets) (rests : Rests) (b
       IsNewestClosed generation image opened x y → (second : Bool) →
       newer (generation_of x) (generation_of y) ≡ Some second → IfTold after
       (IsNewestStop (generation + length checkpoints) (place_after (length checkpoints) second) met))
+  pub mended : (pass : ℕ) → stop ≡ Some pass → (events ≡ opened → checkpoints ≡ [] → ⊥) →
+      IfTold before (λ x y. (second : Bool) →
+      newer (generation_of x) (generation_of y) ≡ Some second → IfTold after
+      (SurvivesStopAt base events (generation + length checkpoints)
+      (place_after (length checkpoints) second) met))
+  pub unclosed : (pass : ℕ) → stop ≡ Some pass → met ≡ None → IfTold before (λ x y.
+      (second : Bool) → newer (generation_of x) (generation_of y) ≡ Some second → IfTold after
+      (SurvivesCheckpoint base events (generation + length checkpoints)
+      (place_after (length checkpoints) second)))
+  pub begins : (pass : ℕ) (event : Event) → stop ≡ Some pass → met ≡ Some event →
+      IfTold before (λ x y. (second : Bool) →
+      newer (generation_of x) (generation_of y) ≡ Some second → IfTold after
+      (NewestBegins (generation + length checkpoints) (place_after (length checkpoints) second)
+      (area_bytes (generation + length checkpoints)
+      (image_since image (state_after base events (last_after 0 checkpoints)) checkpoints)
+      (payloads_of (drop (last_after 0 checkpoints) events)))))
   pub other_stays : checkpoints ≡ [] → IfTold before (λ x y. (second : Bool) →
       newer (generation_of x) (generation_of y) ≡ Some second →
       (one_of after.b after.a second ≡ one_of before.b before.a second) ⊎

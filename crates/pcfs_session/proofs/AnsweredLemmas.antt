@@ -1,5 +1,5 @@
 -- Lines that are answered over a store, one after the other.
-use Rattle.std.proofs.Common.{◌≡◌, ◌↔◌, ℕ, ◌≤◌, List, ◌∷◌, [], ◌++◌, length, true, false, Option, Some, None, refl, sym, ap, subst, ◌∙◌, append-nil}
+use Rattle.std.proofs.Common.{◌≡◌, ◌↔◌, ℕ, ◌+◌, ◌≤◌, List, ◌∷◌, [], ◌++◌, length, true, false, Option, Some, None, refl, sym, ap, subst, ◌∙◌, append-nil, length-append, arith}
 use Rattle.std.specs.Prelude.{◌≢◌, IsTrue, IsSome}
 use Rattle.pcfs_ports.specs.Observable.{with_back, HoldsSome}
 use Rattle.line_text.specs.Words.{HasNo}
@@ -10,7 +10,8 @@ use Rattle.line_wire.specs.ReplyText.{reply_text, output_of}
 use Rattle.pcfs_store.specs.Entries.{StoreEntry, happened, checkpointed, stopped as stop_mark}
 use Rattle.pcfs_session.specs.Answered.{IsOutAt, IsMetAt, WasRun, AreAnswered, HaltsAt, AnswersHeld, HaltsWithin}
 use Rattle.pcfs_session.specs.InterpreterView.{InterpreterView, standing_of}
-use Rattle.pcfs_session.specs.Outbox.{GoesOut}
+use Rattle.session_loop.specs.Written.{but_last}
+use Rattle.pcfs_session.specs.Outbox.{GoesOut, HoldsAllBut, missing_after}
 use Rattle.pcfs_session.specs.ScriptContext.{ScriptContext}
 use Rattle.pcfs_session.specs.ScriptRun.{ScriptState, IsLawfulStanding, standing_after, Becomes, IsReplied}
 use Rattle.pcfs_session.specs.ScriptRun as script
@@ -21,8 +22,8 @@ use Rattle.pcfs_session.specs.declared.outbox.SendFault.TheVariants.{Write, NoMe
 use Rattle.pcfs_session.specs.declared.script_end.Halt.{Halt}
 use Rattle.pcfs_session.specs.declared.script_end.Halt.TheVariants.{Unsent, Stopped}
 use Rattle.pcfs_session.proofs.LawfulRunLemmas.{IsLawfulStanding-run}
-use Rattle.pcfs_session.proofs.OutboxLemmas.{GoesOut-none, GoesOut-all, GoesOut-whole, GoesOut-part, GoesOut-then, out_then, some_then}
-use Rattle.pcfs_session.proofs.ScriptLemmas.{ScriptRun-then, output-append, output-one}
+use Rattle.pcfs_session.proofs.OutboxLemmas.{GoesOut-none, GoesOut-all, GoesOut-whole, GoesOut-then, out_then, HoldsAllBut-fewer, HoldsAllBut-collected, most_then, most_collected, most_unsent}
+use Rattle.pcfs_session.proofs.ScriptLemmas.{ScriptRun-then, output-append, output-one, but_last-fewer, but_last-append}
 use Rattle.pcfs_session.proofs.StoredLemmas.{none_some, StoreGoesOn-on, StoreGoesOn-same, runs_for}
 use Rattle.pcfs_session.proofs.TakenLemmas.{AreFirst-none, AreFirst-more}
 
@@ -69,9 +70,23 @@ is_stopped line before _ _ met running is script.without_memory = none_some met 
 -- ---- what is out
 
 -- of what was collected, told and told then
-out_at-then : (halt : Halt) (held between held_after : Option (List ℕ)) (collected told kept more : List ℕ) → GoesOut held (collected ++ told) between kept → IsOutAt halt between held_after (kept ++ more) → IsOutAt halt held held_after (collected ++ (told ++ more))
-out_at-then (Unsent fault) held between held_after collected told kept more first some = some_then held between held_after collected told kept more first some
-out_at-then Stopped held between held_after collected told kept more first all = out_then held between held_after collected told kept more first all
+out_at-then : (buffered : ℕ) (halt : Halt) (held between held_after : Option (List ℕ)) (collected told kept earlier more : List ℕ) → GoesOut held (collected ++ told) between kept → IsOutAt buffered halt between held_after (kept ++ earlier) (kept ++ more) → IsOutAt buffered halt held held_after (collected ++ (told ++ earlier)) (collected ++ (told ++ more))
+out_at-then buffered (Unsent fault) held between held_after collected told kept earlier more first most = most_then (missing_after buffered fault) held held_after between collected told kept earlier more first most
+out_at-then buffered Stopped held between held_after collected told kept earlier more first all = out_then held between held_after collected told kept more first all
+
+-- of fewer earlier bytes
+out_at-fewer : (buffered : ℕ) (halt : Halt) (held held_after : Option (List ℕ)) (earlier fewer all : List ℕ) → length fewer ≤ length earlier → IsOutAt buffered halt held held_after earlier all → IsOutAt buffered halt held held_after fewer all
+out_at-fewer buffered (Unsent fault) held held_after earlier fewer all less most = HoldsAllBut-fewer (missing_after buffered fault) held held_after earlier fewer all less most
+out_at-fewer buffered Stopped held held_after earlier fewer all less out = out
+
+-- of replies and of replies after them
+replies_out : (buffered : ℕ) (halt : Halt) (held between held_after : Option (List ℕ)) (collected kept : List ℕ) (told after : List LineReply) → GoesOut held (collected ++ output_of told) between kept →
+    IsOutAt buffered halt between held_after (kept ++ output_of (but_last after)) (kept ++ output_of after) → IsOutAt buffered halt held held_after (collected ++ output_of (but_last (told ++ after))) (collected ++ output_of (told ++ after))
+replies_out buffered halt held between held_after collected kept told after first next =
+    let all = subst (λ (b : List ℕ). IsOutAt buffered halt held held_after (collected ++ (output_of told ++ output_of (but_last after))) (collected ++ b)) (sym (output-append told after))
+    (out_at-then buffered halt held between held_after collected (output_of told) kept (output_of (but_last after)) (output_of after) first next) in
+    out_at-fewer buffered halt held held_after (collected ++ (output_of told ++ output_of (but_last after))) (collected ++ output_of (but_last (told ++ after))) (collected ++ output_of (told ++ after))
+    (omega (arith, but_last-append told after, length-append collected (output_of (but_last (told ++ after))), length-append collected (output_of told ++ output_of (but_last after)), length-append (output_of told) (output_of (but_last after)))) all
 
 module _ {D : Type 0} (clock : D → ℕ) (left_since : D → ℕ → List ℕ → Type 0) (image : D → Option (List ℕ)) (faults : D → ℕ) where
   abbrev Was : List (List ℕ) → InterpreterView D → InterpreterView D → Option StoreEntry → List LineReply → Type 0
@@ -80,8 +95,8 @@ module _ {D : Type 0} (clock : D → ℕ) (left_since : D → ℕ → List ℕ �
   abbrev Answered : List (List ℕ) → InterpreterView D → InterpreterView D → Option (List ℕ) → List ℕ → Option (List ℕ) → List ℕ → Type 0
   Answered lines old new held collected held_after after = AreAnswered clock left_since image faults lines old new held collected held_after after
 
-  abbrev Halts : List (List ℕ) → InterpreterView D → InterpreterView D → Option (List ℕ) → List ℕ → Halt → Option (List ℕ) → Type 0
-  Halts lines old new held collected halt held_after = HaltsAt clock left_since image faults lines old new held collected halt held_after
+  abbrev Halts : ℕ → List (List ℕ) → InterpreterView D → InterpreterView D → Option (List ℕ) → List ℕ → Halt → Option (List ℕ) → Type 0
+  Halts buffered lines old new held collected halt held_after = HaltsAt clock left_since image faults buffered lines old new held collected halt held_after
 
   abbrev Leads : List ℕ → InterpreterView D → LineReply → InterpreterView D → Type 0
   Leads line old reply new = LeadsTo clock left_since image faults (IsReplied line) old reply new
@@ -117,27 +132,27 @@ module _ {D : Type 0} (clock : D → ℕ) (left_since : D → ℕ → List ℕ �
         (GoesOut-then held between held_after collected (output_of one.told) kept (output_of other.told) after one.out other.out);
   }
 
-  pub HaltsAt-then : (lines others : List (List ℕ)) (old mid new : InterpreterView D) (held between held_after : Option (List ℕ)) (collected kept : List ℕ) (halt : Halt) → Answered lines old mid held collected between kept → Halts others mid new between kept halt held_after →
-      Halts (lines ++ others) old new held collected halt held_after
-  HaltsAt-then lines others old mid new held between held_after collected kept halt one other = record {
+  pub HaltsAt-then : (buffered : ℕ) (lines others : List (List ℕ)) (old mid new : InterpreterView D) (held between held_after : Option (List ℕ)) (collected kept : List ℕ) (halt : Halt) → Answered lines old mid held collected between kept → Halts buffered others mid new between kept halt held_after →
+      Halts buffered (lines ++ others) old new held collected halt held_after
+  HaltsAt-then buffered lines others old mid new held between held_after collected kept halt one other = record {
     told = one.told ++ other.told;
     met = other.met;
     was = WasRun-then lines others old mid new other.met one.told other.told one.was other.was;
     is_met = other.is_met;
-    out =
-        subst (λ (b : List ℕ). IsOutAt halt held held_after (collected ++ b)) (sym (output-append one.told other.told))
-        (out_at-then halt held between held_after collected (output_of one.told) kept (output_of other.told) one.out other.out);
+    out = replies_out buffered halt held between held_after collected kept one.told other.told one.out other.out;
   }
 
   -- no line more was answered, but the output failed
-  pub HaltsAt-unsent : (lines : List (List ℕ)) (old new : InterpreterView D) (held between held_after : Option (List ℕ)) (collected kept : List ℕ) (fault : SendFault) → Answered lines old new held collected between kept → HoldsSome between held_after kept →
-      Halts lines old new held collected (Unsent fault) held_after
-  HaltsAt-unsent lines old new held between held_after collected kept fault one some = record {
+  pub HaltsAt-unsent : (buffered : ℕ) (lines : List (List ℕ)) (old new : InterpreterView D) (held between held_after : Option (List ℕ)) (collected kept : List ℕ) → Answered lines old new held collected between kept → length kept ≤ buffered → HoldsSome between held_after kept →
+      Halts buffered lines old new held collected (Unsent Write) held_after
+  HaltsAt-unsent buffered lines old new held between held_after collected kept one few some = record {
     told = one.told;
     met = None;
     was = one.was;
-    is_met = unmet fault None refl;
-    out = GoesOut-part held between held_after (collected ++ output_of one.told) kept one.out some;
+    is_met = tt;
+    out =
+        most_collected buffered held held_after between (collected ++ output_of one.told) kept (collected ++ output_of (but_last one.told)) one.out some few
+        (omega (arith, but_last-fewer one.told, length-append collected (output_of one.told), length-append collected (output_of (but_last one.told))));
   }
 
   -- ---- one line
@@ -160,14 +175,14 @@ module _ {D : Type 0} (clock : D → ℕ) (left_since : D → ℕ → List ℕ �
   }
 
   -- its reply was not sent
-  pub HaltsAt-line : (line : List ℕ) (old new : InterpreterView D) (reply : LineReply) (held held_after : Option (List ℕ)) (collected : List ℕ) (fault : SendFault) → Leads line old reply new → (IsTrue false ↔ IsSome new.store.stop) →
-      HoldsSome held held_after (collected ++ (reply_text reply ++ 10 ∷ [])) → Halts (line ∷ []) old new held collected (Unsent fault) held_after
-  HaltsAt-line line old new reply held held_after collected fault l tells some = record {
+  pub HaltsAt-line : (buffered : ℕ) (line : List ℕ) (old new : InterpreterView D) (reply : LineReply) (held held_after : Option (List ℕ)) (collected : List ℕ) (fault : SendFault) → Leads line old reply new → (IsTrue false ↔ IsSome new.store.stop) → length collected ≤ buffered →
+      HoldsSome held held_after (collected ++ (reply_text reply ++ 10 ∷ [])) → (fault ≡ NoMemory → held_after ≡ with_back held collected) → Halts buffered (line ∷ []) old new held collected (Unsent fault) held_after
+  HaltsAt-line buffered line old new reply held held_after collected fault l tells few some out = record {
     told = reply ∷ [];
     met = l.met;
     was = one_line line old new reply l;
     is_met = unmet fault l.met (met_nothing new.store.stop l.met l.goes_on.stop_for (not_some new.store.stop tells));
-    out = subst (λ (b : List ℕ). HoldsSome held held_after (collected ++ b)) (sym (output-one reply)) some;
+    out = subst (λ (b : List ℕ). HoldsAllBut (missing_after buffered fault) held held_after (collected ++ []) (collected ++ b)) (sym (output-one reply)) (most_unsent buffered fault held held_after collected (reply_text reply ++ 10 ∷ []) few some out);
   }
 
   -- what is told where a disk failed for it
@@ -176,19 +191,21 @@ module _ {D : Type 0} (clock : D → ℕ) (left_since : D → ℕ → List ℕ �
       sym (output-one replies.Stopped) ∙ ap (λ (r : LineReply). output_of (r ∷ [])) (sym (is_stopped line (standing_of old None) reply (standing_of new l.met) met refl is l.holds))
 
   -- a disk failed for it
-  pub HaltsAt-stopped : (line : List ℕ) (old new : InterpreterView D) (reply : LineReply) (held held_after : Option (List ℕ)) (collected : List ℕ) (halt : Halt) → Leads line old reply new → (IsTrue true ↔ IsSome new.store.stop) → halt ≢ Unsent NoMemory →
-      (halt ≡ Stopped → held_after ≡ with_back held (collected ++ (reply_text replies.Stopped ++ 10 ∷ []))) → (halt ≡ Unsent Write → HoldsSome held held_after (collected ++ (reply_text replies.Stopped ++ 10 ∷ []))) → Halts (line ∷ []) old new held collected halt held_after
-  HaltsAt-stopped line old new reply held held_after collected (Unsent Write) l tells had all some =
+  pub HaltsAt-stopped : (buffered : ℕ) (line : List ℕ) (old new : InterpreterView D) (reply : LineReply) (held held_after : Option (List ℕ)) (collected : List ℕ) (halt : Halt) → Leads line old reply new → (IsTrue true ↔ IsSome new.store.stop) → length collected ≤ buffered → halt ≢ Unsent NoMemory →
+      (halt ≡ Stopped → held_after ≡ with_back held (collected ++ (reply_text replies.Stopped ++ 10 ∷ []))) → (halt ≡ Unsent Write → HoldsSome held held_after (collected ++ (reply_text replies.Stopped ++ 10 ∷ []))) → Halts buffered (line ∷ []) old new held collected halt held_after
+  HaltsAt-stopped buffered line old new reply held held_after collected (Unsent Write) l tells few had all some =
       let met = met_some new.store.stop l.met l.goes_on.stop_for (tells.0 refl) in
       record {
         told = reply ∷ [];
         met = l.met;
         was = one_line line old new reply l;
         is_met = tt;
-        out = subst (λ (b : List ℕ). HoldsSome held held_after (collected ++ b)) (stopped_line line old new reply l met.0 met.1) (some refl);
+        out =
+            subst (λ (b : List ℕ). HoldsAllBut buffered held held_after (collected ++ []) (collected ++ b)) (stopped_line line old new reply l met.0 met.1)
+            (HoldsAllBut-collected buffered held held_after collected (reply_text replies.Stopped ++ 10 ∷ []) few (some refl));
       }
-  HaltsAt-stopped line old new reply held held_after collected (Unsent NoMemory) l tells had all some = absurd (had refl)
-  HaltsAt-stopped line old new reply held held_after collected Stopped l tells had all some =
+  HaltsAt-stopped buffered line old new reply held held_after collected (Unsent NoMemory) l tells few had all some = absurd (had refl)
+  HaltsAt-stopped buffered line old new reply held held_after collected Stopped l tells few had all some =
       let met = met_some new.store.stop l.met l.goes_on.stop_for (tells.0 refl) in
       record {
         told = reply ∷ [];
@@ -228,23 +245,23 @@ module _ {D : Type 0} (clock : D → ℕ) (left_since : D → ℕ → List ℕ �
     pub AnswersHeld-all : (now : InterpreterView D) (left : List ℕ) (held_now : Option (List ℕ)) (collected_now : List ℕ) → IsAnswering now left held_now collected_now → HasNo 10 left → AnswersHeld clock left_since image faults bytes left start now held collected held_now collected_now
     AnswersHeld-all now left held_now collected_now so_far none = record { lines = so_far.lines; first = so_far.first; no_more = none; answered = so_far.answered }
 
-    pub HaltsWithin-at : (now next : InterpreterView D) (left line rest : List ℕ) (held_now held_after : Option (List ℕ)) (collected_now : List ℕ) (halt : Halt) → IsAnswering now left held_now collected_now → IsFirst left line rest → length line ≤ 262144 →
-        Halts (line ∷ []) now next held_now collected_now halt held_after → HaltsWithin clock left_since image faults bytes start next held collected halt held_after
-    HaltsWithin-at now next left line rest held_now held_after collected_now halt so_far is few one = record {
+    pub HaltsWithin-at : (buffered : ℕ) (now next : InterpreterView D) (left line rest : List ℕ) (held_now held_after : Option (List ℕ)) (collected_now : List ℕ) (halt : Halt) → IsAnswering now left held_now collected_now → IsFirst left line rest → length line ≤ 262144 →
+        Halts buffered (line ∷ []) now next held_now collected_now halt held_after → HaltsWithin clock left_since image faults buffered bytes start next held collected halt held_after
+    HaltsWithin-at buffered now next left line rest held_now held_after collected_now halt so_far is few one = record {
       lines = so_far.lines ++ line ∷ [];
       rest = rest;
       first = AreFirst-more bytes so_far.lines left line rest so_far.first is few;
-      halts = HaltsAt-then so_far.lines (line ∷ []) start now next held held_now held_after collected collected_now halt so_far.answered one;
+      halts = HaltsAt-then buffered so_far.lines (line ∷ []) start now next held held_now held_after collected collected_now halt so_far.answered one;
     }
 
   -- all were answered, and the output failed then
-  pub HaltsWithin-unsent : (bytes left : List ℕ) (old new : InterpreterView D) (held between held_after : Option (List ℕ)) (collected kept : List ℕ) (fault : SendFault) → AnswersHeld clock left_since image faults bytes left old new held collected between kept →
-      HoldsSome between held_after kept → HaltsWithin clock left_since image faults bytes old new held collected (Unsent fault) held_after
-  HaltsWithin-unsent bytes left old new held between held_after collected kept fault all some = record {
+  pub HaltsWithin-unsent : (buffered : ℕ) (bytes left : List ℕ) (old new : InterpreterView D) (held between held_after : Option (List ℕ)) (collected kept : List ℕ) → AnswersHeld clock left_since image faults bytes left old new held collected between kept → length kept ≤ buffered →
+      HoldsSome between held_after kept → HaltsWithin clock left_since image faults buffered bytes old new held collected (Unsent Write) held_after
+  HaltsWithin-unsent buffered bytes left old new held between held_after collected kept all few some = record {
     lines = all.lines;
     rest = left;
     first = all.first;
-    halts = HaltsAt-unsent all.lines old new held between held_after collected kept fault all.answered some;
+    halts = HaltsAt-unsent buffered all.lines old new held between held_after collected kept all.answered few some;
   }
 
   -- and the replies that were collected went out

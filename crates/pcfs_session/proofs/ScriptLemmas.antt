@@ -1,10 +1,11 @@
 -- Runs of a script, one after the other.
-use Rattle.std.proofs.Common.{◌≡◌, ℕ, List, [], ◌∷◌, ◌++◌, refl, subst, append-nil}
+use Rattle.std.proofs.Common.{◌≡◌, ℕ, ◌+◌, ◌≤◌, List, [], ◌∷◌, ◌++◌, length, refl, subst, append-nil, length-append, arith}
 use Rattle.std.proofs.lemmas.Grind.{flat_map-append}
 use Rattle.access_history.proofs.HeadlineLemmas.{Headline-lawful}
 use Rattle.line_wire.specs.declared.reply.LineReply.{LineReply}
 use Rattle.line_wire.specs.ReplyText.{reply_text, output_of}
 use Rattle.pcfs_secrets.specs.declared.secrets.Secrets.{Secrets}
+use Rattle.session_loop.specs.Written.{but_last}
 use Rattle.pcfs_session.specs.LineAnswer.{authority_under}
 use Rattle.pcfs_session.specs.ScriptRun.{ScriptState, IsLawfulStanding, ScriptRun}
 use Rattle.pcfs_session.specs.ScriptRun as script
@@ -23,17 +24,39 @@ output-append told after = flat_map-append (λ (r : LineReply). reply_text r ++ 
 pub output-one : (reply : LineReply) → output_of (reply ∷ []) ≡ reply_text reply ++ 10 ∷ []
 output-one reply = append-nil (reply_text reply ++ 10 ∷ [])
 
-pub RunsOver-ran : (start end : ScriptState) (lines : List (List ℕ)) (told : List LineReply) → IsLawfulStanding start → ScriptRun start lines told end → RunsOver start lines end (output_of told)
+-- ---- all replies but the last
+
+-- the same bytes in front of fewer and of more
+longer : (front few many : List ℕ) (more : ℕ) → length few ≤ length many + more → length (front ++ few) ≤ length (front ++ many) + more
+longer front few many more within = omega (arith, within, length-append front few, length-append front many)
+
+-- they have no more bytes than all
+pub but_last-fewer : (told : List LineReply) → length (output_of (but_last told)) ≤ length (output_of told)
+but_last-fewer [] = omega arith
+but_last-fewer (reply ∷ []) = omega arith
+but_last-fewer (reply ∷ (next ∷ more)) =
+    omega (arith, longer (reply_text reply ++ 10 ∷ []) (output_of (but_last (next ∷ more))) (output_of (next ∷ more)) 0 (omega (arith, but_last-fewer (next ∷ more))))
+
+-- after others they have no more than these and all of theirs but the last
+pub but_last-append : (told after : List LineReply) → length (output_of (but_last (told ++ after))) ≤ length (output_of told) + length (output_of (but_last after))
+but_last-append [] after = omega arith
+but_last-append (reply ∷ []) [] = omega arith
+but_last-append (reply ∷ []) (next ∷ more) =
+    longer (reply_text reply ++ 10 ∷ []) (output_of (but_last (next ∷ more))) [] (length (output_of (but_last (next ∷ more)))) (omega arith)
+but_last-append (reply ∷ (next ∷ told)) after =
+    longer (reply_text reply ++ 10 ∷ []) (output_of (but_last ((next ∷ told) ++ after))) (output_of (next ∷ told)) (length (output_of (but_last after))) (but_last-append (next ∷ told) after)
+
+-- ---- what runs led to
+
+pub RunsOver-ran : (start end : ScriptState) (lines : List (List ℕ)) (told : List LineReply) → IsLawfulStanding start → ScriptRun start lines told end → RunsOver start lines end told
 RunsOver-ran start end lines told stands run =
     let goes = runs_lawfully start end lines told stands run in
     record {
-      replies = told;
       added = goes.added;
       run = run;
       base_stays = goes.base_stays;
       events_are = goes.events_are;
       headline = Headline-lawful (authority_under start.secrets) end.base end.events (subst (λ (k : Secrets). script.IsLawfulUnder k end) goes.secrets_stay goes.stands.lawful);
-      written_is = refl;
     }
 
 -- no line was answered

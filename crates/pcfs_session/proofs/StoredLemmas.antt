@@ -1,7 +1,9 @@
 -- A store while a script goes on.
 use Rattle.std.proofs.Common.{◌≡◌, ◌⊎◌, inl, inr, ℕ, zero, suc, ℤ, ◌≤◌, Bool, true, false, List, [], ◌∷◌, ◌++◌, length, length-append, append_assoc, append-nil, Option, Some, None, refl, sym, ap, subst, ◌∙◌, arith}
 use Rattle.std.specs.Prelude.{◌≢◌, not}
+use Rattle.pcfs_ports.specs.Disk.{IsPinned}
 use Rattle.pcfs_ports.specs.Faults.{HasRisen}
+use Rattle.journal_records.specs.declared.event.Event.{Event}
 use Rattle.access_history.specs.declared.request.StepRequest.{StepRequest}
 use Rattle.access_history.specs.declared.reply.StepReply.{StepReply}
 use Rattle.access_history.specs.Lawful.{IsLawful}
@@ -9,9 +11,9 @@ use Rattle.line_wire.specs.declared.reply.LineReply.{LineReply}
 use Rattle.line_wire.specs.declared.reply.LineReply.TheVariants as replies
 use Rattle.pcfs_store.specs.declared.reply.StoreReply.{StoreReply}
 use Rattle.pcfs_store.specs.declared.reply.StoreReply.TheVariants as stores
-use Rattle.pcfs_store.specs.Newest.{one_of}
-use Rattle.pcfs_store.specs.StoreView.{StoreView, first_disk, second_disk, authority_of_store}
-use Rattle.pcfs_store.specs.Ready.{IsReady, IsCurrent, StopsNow, SurvivesStopAt}
+use Rattle.pcfs_store.specs.Newest.{one_of, NewestBegins}
+use Rattle.pcfs_store.specs.StoreView.{StoreView, HasNothingAdded, first_disk, second_disk, body_of, authority_of_store}
+use Rattle.pcfs_store.specs.Ready.{IsReady, IsCurrent, IsAtRest, RestsSince, StopsNow, SurvivesStopAt}
 use Rattle.pcfs_store.specs.Steps.{Steps}
 use Rattle.pcfs_store.specs.Steps as steps
 use Rattle.line_forms.specs.declared.command.Command.TheVariants as commands
@@ -21,6 +23,7 @@ use Rattle.pcfs_store.specs.declared.reply.CheckpointReply.TheVariants as checkp
 use Rattle.pcfs_store.specs.Checkpoints.{IsFullForCheckpoint, with_checkpoint, place_after, SurvivesMetAt, MakesCheckpoint, Checkpoints}
 use Rattle.pcfs_store.specs.Checkpoints as makes
 use Rattle.pcfs_store.specs.Entries.{StoreEntry, happened, checkpointed}
+use Rattle.pcfs_store.proofs.SurvivalLemmas.{one_longer, nothing_both, rests_ready, rests_same}
 use Rattle.pcfs_store.proofs.CountLemmas.{NoneFailed-same, NoneFailed-on, NoneFailed-step, NoneFailed-checkpoint}
 use Rattle.pcfs_session.specs.Interpreter.{IsFollowed, IsToldOfCheckpoint}
 use Rattle.pcfs_session.specs.LineAnswer as line_answer
@@ -35,6 +38,9 @@ none_some x is = absurd cc
 
 some_same : {A : Type 0} (x y : A) → Some x ≡ Some y → x ≡ y
 some_same x y is = cc
+
+pub event_no_checkpoint : {P : Type 0} (event : Event) (pass : ℕ) → ◌≡◌ {A = Option StoreEntry} (Some (happened event)) (Some (checkpointed pass)) → P
+event_no_checkpoint event pass is = absurd cc
 
 -- a count that rose and then did not fall has risen
 pub HasRisen-earlier : (before mid after : ℕ) → before ≤ mid → HasRisen mid after → HasRisen before after
@@ -109,6 +115,8 @@ module _ {D : Type 0} (clock : D → ℕ) (left_since : D → ℕ → List ℕ �
     pub stays_ready : IsReady clock left_since image old → result ≢ stores.Stopped → IsReady clock left_since image new
     pub stays_current : IsCurrent clock left_since image old → result ≢ stores.Stopped → IsCurrent clock left_since image new
     pub met : IsReady clock left_since image old → result ≡ stores.Stopped → StopsNow clock left_since image new (SurvivesStopAt old.base old.events old.generation old.second_active new.met)
+    pub met_at_rest : IsAtRest clock left_since image old → result ≡ stores.Stopped → StopsNow clock left_since image new (NewestBegins old.generation old.second_active (body_of old))
+    pub makes_ready : IsCurrent clock left_since image old → length old.events < length new.events → (active other : List ℕ) → image old.active ≡ Some active → image old.other ≡ Some other → IsPinned clock left_since image old.other → IsReady clock left_since image new
     pub first_never_falls : faults (first_disk old) ≤ faults (first_disk new)
     pub second_never_falls : faults (second_disk old) ≤ faults (second_disk new)
 
@@ -117,6 +125,17 @@ module _ {D : Type 0} (clock : D → ℕ) (left_since : D → ℕ → List ℕ �
       Stepped old (record { pass = pass; clock = at; caller = caller; sees = sees }) request result new
   Stepped-shown old new pass at shown caller sees request result same stepped =
       subst (λ (z : ℤ). Stepped old (record { pass = pass; clock = z; caller = caller; sees = sees }) request result new) same stepped
+
+  -- a store at rest is so after a step, and ready if it kept an event
+  rests_since : (old new : StoreView D) (asker : ScriptContext) (request : StepRequest) (result : StoreReply) → result ≢ stores.Stopped → Stepped old asker request result new → Steps faults old asker.pass asker.clock request result new →
+      IsAtRest clock left_since image old → RestsSince clock left_since image old new
+  rests_since old _ asker request _ going s (steps.answered reply is answer) rest = rests_same clock left_since image old rest
+  rests_since old _ asker request _ going s (steps.kept reply event active is answer room stood) rest =
+      rests_ready clock left_since image (steps.with_event old event active) old (s.makes_ready rest.current (one_longer old.events event) rest.active_bytes rest.other_bytes rest.active_told rest.other_told rest.other_pinned)
+  rests_since old _ asker request _ going s (steps.full reply event is answer is_full) rest = rests_same clock left_since image old rest
+  rests_since old _ asker request _ going s (steps.failed reply event active is answer room risen) rest = absurd (going refl)
+  rests_since old _ asker request _ going s (steps.stopped earlier is) rest = absurd (going refl)
+  rests_since old _ asker request _ going s (steps.without_memory is) rest = rests_same clock left_since image old rest
 
   goes_running : (old new : StoreView D) (asker : ScriptContext) (request : StepRequest) (result : StoreReply) → result ≢ stores.Stopped → Stepped old asker request result new → StoreGoesOn clock left_since image faults old new None
   goes_running old new asker request result going s = record {
@@ -128,6 +147,10 @@ module _ {D : Type 0} (clock : D → ℕ) (left_since : D → ℕ → List ℕ �
     stop_for = running_for new.stop (still_runs faults old new asker.pass asker.clock request result going s.answer);
     ready = λ is none. s.stays_ready is going;
     halts = λ is event same. none_some event same;
+    at_rest = λ rest none. rests_since old new asker request result going s s.answer rest;
+    halts_mended = λ rest event same. none_some event same;
+    halts_checkpoint = λ rest pass same. none_some (checkpointed pass) same;
+    halts_event = λ rest event same. none_some (happened event) same;
     current = λ is none. s.stays_current is going;
     first_never_falls = s.first_never_falls;
     second_never_falls = s.second_never_falls;
@@ -174,6 +197,10 @@ module _ {D : Type 0} (clock : D → ℕ) (left_since : D → ℕ → List ℕ �
       ready = λ is_ready none. none_some (happened event) (sym none);
       halts = λ is_ready e same.
           subst (λ (x : StoreEntry). StopsNow clock left_since image (record old { active = active; stop = Some asker.pass; met = Some event }) (SurvivesMetAt old.base old.events old.generation old.second_active x)) (some_same (happened event) e same) (s.met is_ready refl);
+      at_rest = λ rest none. none_some (happened event) (sym none);
+      halts_mended = λ rest e same added. absurd (added (record { events_stay = refl; checkpoints_stay = refl }));
+      halts_checkpoint = λ rest pass same. event_no_checkpoint event pass same;
+      halts_event = λ rest e same. s.met_at_rest rest refl;
       current = λ is_current none. none_some (happened event) (sym none);
       first_never_falls = s.first_never_falls;
       second_never_falls = s.second_never_falls;
@@ -212,6 +239,10 @@ module _ {D : Type 0} (clock : D → ℕ) (left_since : D → ℕ → List ℕ �
     other_stays = λ none untried. refl;
     ready = λ is none. is;
     halts = λ is event same. none_some event same;
+    at_rest = λ rest none. rests_same clock left_since image s rest;
+    halts_mended = λ rest event same. none_some event same;
+    halts_checkpoint = λ rest pass same. none_some (checkpointed pass) same;
+    halts_event = λ rest event same. none_some (happened event) same;
     current = λ is none. is;
     first_never_falls = omega arith;
     second_never_falls = omega arith;
@@ -231,6 +262,11 @@ module _ {D : Type 0} (clock : D → ℕ) (left_since : D → ℕ → List ℕ �
     other_stays = λ none untried. absurd cc;
     ready = λ is none. s.stays_ready is (λ same. absurd cc);
     halts = λ is entry same. none_some entry same;
+    at_rest = λ rest none.
+        rests_ready clock left_since image (with_checkpoint old asker.pass active) old (s.makes_ready rest.current refl rest.active_bytes rest.other_bytes rest.active_told rest.other_told rest.active_pinned);
+    halts_mended = λ rest event same. none_some event same;
+    halts_checkpoint = λ rest pass same. none_some (checkpointed pass) same;
+    halts_event = λ rest event same. none_some (happened event) same;
     current = λ is none. s.stays_current is (λ same. absurd cc);
     first_never_falls = s.first_never_falls;
     second_never_falls = s.second_never_falls;
@@ -268,6 +304,10 @@ module _ {D : Type 0} (clock : D → ℕ) (left_since : D → ℕ → List ℕ �
           other_stays = λ none untried. absurd (untried asker.pass refl);
           ready = λ is_ready none. none_some (checkpointed asker.pass) (sym none);
           halts = λ is_ready e same. subst (λ (x : StoreEntry). StopsNow clock left_since image (record old { other = other; stop = Some asker.pass; met = None }) (SurvivesMetAt old.base old.events old.generation old.second_active x)) (some_same (checkpointed asker.pass) e same) (s.halts is_ready refl);
+          at_rest = λ rest none. none_some (checkpointed asker.pass) (sym none);
+          halts_mended = λ rest e same added. absurd (added (record { events_stay = refl; checkpoints_stay = refl }));
+          halts_checkpoint = λ rest pass same. s.halts_at_rest rest refl;
+          halts_event = λ rest event same. event_no_checkpoint event asker.pass (sym same);
           current = λ is_current none. none_some (checkpointed asker.pass) (sym none);
           first_never_falls = s.first_never_falls;
           second_never_falls = s.second_never_falls;
@@ -323,6 +363,11 @@ module _ {D : Type 0} (clock : D → ℕ) (left_since : D → ℕ → List ℕ �
       LeadsTo clock left_since image faults R old reply new → LeadsTo clock left_since image faults Q old reply new
   LeadsTo-also R Q old new reply says l = record { met = l.met; holds = says l.met l.holds; goes_on = l.goes_on }
 
+  -- something was added, so the store is ready, or nothing was
+  by_added : {P : Type 0} {old new : StoreView D} → IsReady clock left_since image new ⊎ HasNothingAdded old new → (IsReady clock left_since image new → P) → (HasNothingAdded old new → P) → P
+  by_added (inl is_ready) ready nothing = ready is_ready
+  by_added (inr none) ready nothing = nothing none
+
   -- from one moment to a later one, and to a later one still, while no disk fails before it
   pub StoreGoesOn-on : (old mid new : StoreView D) (met : Option StoreEntry) → StoreGoesOn clock left_since image faults old mid None → StoreGoesOn clock left_since image faults mid new met → StoreGoesOn clock left_since image faults old new met
   StoreGoesOn-on old mid new met one other = record {
@@ -334,6 +379,15 @@ module _ {D : Type 0} (clock : D → ℕ) (left_since : D → ℕ → List ℕ �
     other_stays = λ none untried. let neither = none_of_both one.checkpoints_go_on.0 other.checkpoints_go_on.0 none in other.other_stays neither.1 untried ∙ one.other_stays neither.0 (λ pass is. none_some (checkpointed pass) is);
     ready = λ is none. other.ready (one.ready is refl) none;
     halts = λ is event same. other.halts (one.ready is refl) event same;
+    at_rest = λ rest none.
+        let first = one.at_rest rest refl in
+        let second = other.at_rest first.0 none in
+        (second.0, by_added first.1 (λ is_ready. inl (other.ready is_ready none)) (λ nothing. by_added second.1 (λ is_ready. inl is_ready) (λ more. inr (nothing_both old mid new nothing more))));
+    halts_mended = λ rest event same added.
+        let first = one.at_rest rest refl in
+        by_added first.1 (λ is_ready. other.halts is_ready event same) (λ nothing. other.halts_mended first.0 event same (λ more. added (nothing_both old mid new nothing more)));
+    halts_checkpoint = λ rest pass same. other.halts_checkpoint (one.at_rest rest refl).0 pass same;
+    halts_event = λ rest event same. other.halts_event (one.at_rest rest refl).0 event same;
     current = λ is none. other.current (one.current is refl) none;
     first_never_falls = omega (arith, one.first_never_falls, other.first_never_falls);
     second_never_falls = omega (arith, one.second_never_falls, other.second_never_falls);

@@ -3,10 +3,12 @@ use Rattle.std.specs.Prelude.{◌≡◌, ◌⊎◌, ℕ, ◌+◌, ◌≤◌, len
 use Rattle.pcfs_ports.specs.Faults.{HasRisen}
 use mathlib.Core.List.{IsPrefix}
 use Rattle.line_wire.specs.declared.reply.LineReply.{LineReply}
-use Rattle.pcfs_store.specs.StoreView.{StoreView, first_disk, second_disk, NoneFailed}
-use Rattle.pcfs_store.specs.Ready.{IsReady, IsCurrent, StopsNow}
+use Rattle.pcfs_store.specs.StoreView.{StoreView, first_disk, second_disk, NoneFailed, HasNothingAdded, body_of}
+use Rattle.pcfs_store.specs.Ready.{IsReady, IsCurrent, IsAtRest, RestsSince, StopsNow, SurvivesCheckpoint}
+use Rattle.pcfs_store.specs.Newest.{NewestBegins}
 use Rattle.pcfs_store.specs.Checkpoints.{place_after, SurvivesMetAt}
-use Rattle.pcfs_store.specs.Entries.{StoreEntry, checkpointed}
+use Rattle.pcfs_store.specs.Entries.{StoreEntry, happened, checkpointed}
+use Rattle.journal_records.specs.declared.event.Event.{Event}
 use Rattle.pcfs_session.specs.InterpreterView.{InterpreterView, standing_of}
 use Rattle.pcfs_session.specs.ScriptEnds.{ScriptEnds}
 use Rattle.pcfs_session.specs.ScriptRun.{ScriptState}
@@ -31,7 +33,10 @@ module _ {D : Type 0} (clock : D → ℕ) (left_since : D → ℕ → List ℕ �
   -- is ready, and what a read gives stands for its history. If one has, a count rose; and of a
   -- store that was ready a crash leaves the history, or, if it was for an event, with it the event;
   -- in the area where it was, or, if it was for a checkpoint, perhaps in one of the next generation
-  -- on the other disk.
+  -- on the other disk. A store that lacked its closed gate is ready once something was added, and
+  -- then all this is so of it too; before that, if a checkpoint met the fault, but for the closed
+  -- gate; and if an event met it, the area of its history still begins the newest one, which is
+  -- where it was.
   pub record StoreGoesOn (old new : StoreView D) (met : Option StoreEntry) : Type 0 where
     pub stop_for : IsStopFor new.stop met
     pub opened_stays : new.opened ≡ old.opened
@@ -43,6 +48,20 @@ module _ {D : Type 0} (clock : D → ℕ) (left_since : D → ℕ → List ℕ �
     pub ready : IsReady clock left_since image old → met ≡ None → IsReady clock left_since image new
     pub halts : IsReady clock left_since image old → (entry : StoreEntry) → met ≡ Some entry →
         StopsNow clock left_since image new (SurvivesMetAt new.base new.events new.generation new.second_active entry)
+    pub at_rest : IsAtRest clock left_since image old → met ≡ None →
+        RestsSince clock left_since image old new
+    pub halts_mended : IsAtRest clock left_since image old → (entry : StoreEntry) →
+        met ≡ Some entry → (HasNothingAdded old new → ⊥) →
+        StopsNow clock left_since image new
+        (SurvivesMetAt new.base new.events new.generation new.second_active entry)
+    pub halts_checkpoint : IsAtRest clock left_since image old → (pass : ℕ) →
+        met ≡ Some (checkpointed pass) →
+        StopsNow clock left_since image new
+        (SurvivesCheckpoint new.base new.events new.generation new.second_active)
+    pub halts_event : IsAtRest clock left_since image old → (event : Event) →
+        met ≡ Some (happened event) →
+        StopsNow clock left_since image new
+        (NewestBegins new.generation new.second_active (body_of new))
     pub current : IsCurrent clock left_since image old → met ≡ None →
         IsCurrent clock left_since image new
     pub first_never_falls : faults (first_disk old) ≤ faults (first_disk new)
@@ -59,8 +78,10 @@ module _ {D : Type 0} (clock : D → ℕ) (left_since : D → ℕ → List ℕ �
     pub holds : R (standing_of old None) reply (standing_of new met)
     pub goes_on : StoreGoesOn old.store new.store met
 
-  -- the script in the input is answered by an interpreter and ends so, and its store goes on
-  pub record AnswersScript (old : InterpreterView D) (before : Streams) (how : ScriptEnd) (new : InterpreterView D) (after : Streams) : Type 0 where
+  -- the script in the input is answered by an interpreter and ends so, with at most so many bytes of
+  -- replies buffered, and its store goes on
+  pub record AnswersScript (buffered : ℕ) (old : InterpreterView D) (before : Streams)
+      (how : ScriptEnd) (new : InterpreterView D) (after : Streams) : Type 0 where
     pub met : Option StoreEntry
-    pub ends : ScriptEnds (standing_of old None) (standing_of new met) before after how
+    pub ends : ScriptEnds buffered (standing_of old None) (standing_of new met) before after how
     pub goes_on : StoreGoesOn old.store new.store met

@@ -1,6 +1,6 @@
 //! Lines that are answered, with their replies on their way.
 
-ghost use Rattle.std.specs.Prelude.{◌≡◌, ◌≢◌, ◌≤◌, ◌∷◌, ◌++◌, [], true, None, OnOk, IfErr, IsErrOf};
+ghost use Rattle.std.specs.Prelude.{◌≡◌, ◌≢◌, ◌≤◌, ◌-◌, ◌∷◌, ◌++◌, [], length, true, None, OnOk, IfErr, IsErrOf};
 ghost use Rattle.pcfs_ports.specs.Faults.{HasRisen, raise};
 ghost use Rattle.pcfs_ports.specs.Observable.{with_back, HoldsSome};
 ghost use Rattle.line_wire.specs.declared.reply.LineReply.TheVariants.{Stopped as StoppedReply};
@@ -41,9 +41,9 @@ fn stop<O: Sink>(collected: &mut Bytes, output: &mut O) -> Halt
 
 /// Answers a line, and collects its reply; replies are written once they have `enough` bytes.
 ///
-/// It halts if a disk failed, and then all replies are out, or if the reply could not be sent, and then some first part of
-/// the replies is. `Write` comes only if the output's count of faults rose, and `NoMemory` if there was no memory for the
-/// text of the reply: that a disk failed is told without memory, so then none did.
+/// It halts if a disk failed, and then all replies are out, or if the reply could not be sent. `Write` comes only if the
+/// output's count of faults rose, and then some first part of the replies is out, and `NoMemory` if there was no memory for
+/// the text of the reply, and then all those before it are: that a disk failed is told without memory, so then none did.
 pub fn answer_line<D: Disk, O: Sink>(
     alloc: Global,
     interpreter: &mut Interpreter<D>,
@@ -54,11 +54,13 @@ pub fn answer_line<D: Disk, O: Sink>(
 ) -> Result<(), Halt>
     requires lawful { IsLawfulStanding (standing_of interpreter.old None) }
     requires running { interpreter.old.store.stop ≡ None }
+    requires few { length collected.old ≤ enough - 1 }
     ensures ok { OnOk result (AreAnswered D.clock D.left_since D.image D.faults (line.now ∷ [])
         interpreter.old interpreter.new (O.held output.old) collected.old (O.held output.new)
         collected.new) }
-    ensures halts { IfErr result (λ halt. HaltsAt D.clock D.left_since D.image D.faults (line.now
-        ∷ []) interpreter.old interpreter.new (O.held output.old) collected.old halt
+    ensures few { OnOk result (length collected.new ≤ enough - 1) }
+    ensures halts { IfErr result (λ halt. HaltsAt D.clock D.left_since D.image D.faults (enough - 1)
+        (line.now ∷ []) interpreter.old interpreter.new (O.held output.old) collected.old halt
         (O.held output.new)) }
     ensures risen { IsErrOf result (Halt.Unsent SendFault.Write) →
         HasRisen (O.faults output.old) (O.faults output.new) }
@@ -94,12 +96,14 @@ pub fn answer_held<D: Disk, O: Sink>(
 ) -> Result<(), Halt>
     requires lawful { IsLawfulStanding (standing_of interpreter.old None) }
     requires running { interpreter.old.store.stop ≡ None }
+    requires few { length collected.old ≤ enough - 1 }
     ensures ok { OnOk result (AnswersHeld D.clock D.left_since D.image D.faults framer.old.left
         framer.new.left interpreter.old interpreter.new (O.held output.old) collected.old
         (O.held output.new) collected.new) }
+    ensures few { OnOk result (length collected.new ≤ enough - 1) }
     ensures halts { IfErr result (λ halt. HaltsWithin D.clock D.left_since D.image D.faults
-        framer.old.left interpreter.old interpreter.new (O.held output.old) collected.old halt
-        (O.held output.new)) }
+        (enough - 1) framer.old.left interpreter.old interpreter.new (O.held output.old)
+        collected.old halt (O.held output.new)) }
     ensures risen { IsErrOf result (Halt.Unsent SendFault.Write) →
         HasRisen (O.faults output.old) (O.faults output.new) }
     ensures never_falls { O.faults output.old ≤ O.faults output.new }
@@ -132,13 +136,14 @@ pub fn answer_out<D: Disk, O: Sink>(
 ) -> Result<(), Halt>
     requires lawful { IsLawfulStanding (standing_of interpreter.old None) }
     requires running { interpreter.old.store.stop ≡ None }
+    requires few { length collected.old ≤ enough - 1 }
     ensures ok { OnOk result (AnswersHeld D.clock D.left_since D.image D.faults framer.old.left
         framer.new.left interpreter.old interpreter.new (O.held output.old) collected.old
         (O.held output.new) collected.new) }
     ensures empty { OnOk result (collected.new ≡ []) }
     ensures halts { IfErr result (λ halt. HaltsWithin D.clock D.left_since D.image D.faults
-        framer.old.left interpreter.old interpreter.new (O.held output.old) collected.old halt
-        (O.held output.new)) }
+        (enough - 1) framer.old.left interpreter.old interpreter.new (O.held output.old)
+        collected.old halt (O.held output.new)) }
     ensures risen { IsErrOf result (Halt.Unsent SendFault.Write) →
         HasRisen (O.faults output.old) (O.faults output.new) }
     ensures never_falls { O.faults output.old ≤ O.faults output.new }

@@ -1,6 +1,6 @@
 //! Replies on their way out: they are collected, and written in large pieces.
 
-ghost use Rattle.std.specs.Prelude.{◌≡◌, ◌≤◌, ◌++◌, ◌∷◌, [], true, OnOk, OnErr, IsErrOf};
+ghost use Rattle.std.specs.Prelude.{◌≡◌, ◌≤◌, ◌-◌, ◌++◌, ◌∷◌, [], length, true, OnOk, OnErr, IsErrOf};
 ghost use Rattle.pcfs_ports.specs.Faults.{HasRisen, raise};
 ghost use Rattle.pcfs_ports.specs.Observable.{with_back, HoldsSome};
 ghost use Rattle.line_wire.specs.declared.reply.LineReply.TheVariants.{Stopped as StoppedReply};
@@ -56,6 +56,7 @@ fn flush_if_enough<O: Sink>(
     output: &mut O,
 ) -> Result<(), Failed>
     ensures ok { OnOk result (GoesOut (O.held output.old) collected.old (O.held output.new) collected.new) }
+    ensures few { OnOk result (length collected.new ≤ enough - 1) }
     ensures err { OnErr result (HoldsSome (O.held output.old) (O.held output.new) collected.old) }
     ensures risen { OnErr result (HasRisen (O.faults output.old) (O.faults output.new)) }
     ensures never_falls { O.faults output.old ≤ O.faults output.new }
@@ -72,6 +73,8 @@ fn flush_if_enough<O: Sink>(
 // Writes what was collected, after memory ran out.
 fn give_up<O: Sink>(collected: &mut Bytes, output: &mut O) -> SendFault
     ensures some { HoldsSome (O.held output.old) (O.held output.new) collected.old }
+    ensures out { (result ≡ SendFault.NoMemory) →
+        O.held output.new ≡ with_back (O.held output.old) collected.old }
     ensures steady { (result ≡ SendFault.NoMemory) →
         (O.faults output.new ≡ O.faults output.old) }
     ensures risen { (result ≡ SendFault.Write) →
@@ -86,8 +89,8 @@ fn give_up<O: Sink>(collected: &mut Bytes, output: &mut O) -> SendFault
     }
 }
 
-/// Collects the line of a reply, and writes what was collected once it has `enough` bytes. If memory runs out, what was
-/// collected before is written.
+/// Collects the line of a reply, and writes what was collected once it has `enough` bytes, so that fewer are left. If memory
+/// runs out, what was collected before is written.
 pub fn send<O: Sink>(
     alloc: Global,
     collected: &mut Bytes,
@@ -96,7 +99,10 @@ pub fn send<O: Sink>(
     output: &mut O,
 ) -> Result<(), SendFault>
     ensures ok { OnOk result (GoesOut (O.held output.old) (collected.old ++ (reply_text reply.now ++ 10 ∷ [])) (O.held output.new) collected.new) }
+    ensures few { OnOk result (length collected.new ≤ enough - 1) }
     ensures err { OnErr result (HoldsSome (O.held output.old) (O.held output.new) (collected.old ++ (reply_text reply.now ++ 10 ∷ []))) }
+    ensures unsent { IsErrOf result SendFault.NoMemory →
+        O.held output.new ≡ with_back (O.held output.old) collected.old }
     ensures risen { IsErrOf result SendFault.Write →
         HasRisen (O.faults output.old) (O.faults output.new) }
     ensures never_falls { O.faults output.old ≤ O.faults output.new }
@@ -134,7 +140,7 @@ pub fn send_stopped<O: Sink>(collected: &mut Bytes, output: &mut O) -> Result<()
     }
 }
 
-/// Collects the line of a reply, and writes all that was collected.
+/// Collects the line of a reply, and writes all that was collected. If memory runs out, what was collected before is written.
 pub fn send_all<O: Sink>(
     alloc: Global,
     collected: &mut Bytes,
@@ -143,6 +149,8 @@ pub fn send_all<O: Sink>(
 ) -> Result<(), SendFault>
     ensures ok { OnOk result (O.held output.new ≡ with_back (O.held output.old) (collected.old ++ (reply_text reply.now ++ 10 ∷ []))) }
     ensures err { OnErr result (HoldsSome (O.held output.old) (O.held output.new) (collected.old ++ (reply_text reply.now ++ 10 ∷ []))) }
+    ensures unsent { IsErrOf result SendFault.NoMemory →
+        O.held output.new ≡ with_back (O.held output.old) collected.old }
     ensures steady { OnOk result (O.faults output.new ≡ O.faults output.old) }
     ensures steady_unsent { IsErrOf result SendFault.NoMemory →
         (O.faults output.new ≡ O.faults output.old) }

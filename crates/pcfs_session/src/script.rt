@@ -1,6 +1,6 @@
 //! The run of a script: its input is taken in pieces, and each line is answered as it comes.
 
-ghost use Rattle.std.specs.Prelude.{◌≡◌, ◌≢◌, ◌<◌, ◌≤◌, [], ℕ, List, None, true, false, OnOk, IfErr, IsErrOf, length};
+ghost use Rattle.std.specs.Prelude.{◌≡◌, ◌≢◌, ◌<◌, ◌≤◌, ◌-◌, [], ℕ, List, None, true, false, OnOk, IfErr, IsErrOf, length};
 ghost use Rattle.std.specs.List.{AllByRecursion};
 ghost use Rattle.bl_syntax.specs.declared.limits.TheConstants.{LONGEST_LINE};
 ghost use Rattle.pcfs_ports.specs.Faults.{HasRisen, raise};
@@ -39,7 +39,8 @@ fn end_at_long_line<D: Disk, O: Sink>(
     requires nothing_waits { collected.old ≡ [] }
     ensures ends { (lines : List (List ℕ)) → AllByRecursion IsLine lines →
         framer.old.left ≡ ended lines →
-        LongEnds D.clock D.left_since D.image D.faults lines interpreter.old interpreter.new (O.held output.old) (O.held output.new) result }
+        LongEnds D.clock D.left_since D.image D.faults (enough - 1) lines interpreter.old
+        interpreter.new (O.held output.old) (O.held output.new) result }
     ensures risen { (result ≡ ScriptEnd.WriteFault) →
         HasRisen (O.faults output.old) (O.faults output.new) }
     ensures never_falls { O.faults output.old ≤ O.faults output.new }
@@ -79,8 +80,9 @@ fn answer_piece<D: Disk, O: Sink>(
     ensures few { OnOk result (length framer.new.left ≤ LONGEST_LINE) }
     ensures stays_so { OnOk result (framer.new.is_long ≡ false) }
     ensures empty { OnOk result (collected.new ≡ []) }
-    ensures ends { IfErr result (PieceEnds D.clock D.left_since D.image D.faults framer.old.left
-        piece.now interpreter.old interpreter.new (O.held output.old) (O.held output.new)) }
+    ensures ends { IfErr result (PieceEnds D.clock D.left_since D.image D.faults (enough - 1)
+        framer.old.left piece.now interpreter.old interpreter.new (O.held output.old)
+        (O.held output.new)) }
     ensures risen { IsErrOf result ScriptEnd.WriteFault →
         HasRisen (O.faults output.old) (O.faults output.new) }
     ensures never_falls { O.faults output.old ≤ O.faults output.new }
@@ -136,8 +138,8 @@ fn answer_last<D: Disk, O: Sink>(
     requires running { interpreter.old.store.stop ≡ None }
     requires one { HasNo 10 framer.now.left }
     requires nothing_waits { collected.old ≡ [] }
-    ensures ends { LastEnds D.clock D.left_since D.image D.faults framer.now.left interpreter.old
-        interpreter.new (O.held output.old) (O.held output.new) result }
+    ensures ends { LastEnds D.clock D.left_since D.image D.faults (enough - 1) framer.now.left
+        interpreter.old interpreter.new (O.held output.old) (O.held output.new) result }
     ensures risen { (result ≡ ScriptEnd.WriteFault) →
         HasRisen (O.faults output.old) (O.faults output.new) }
     ensures never_falls { O.faults output.old ≤ O.faults output.new }
@@ -166,7 +168,7 @@ fn read_pieces<D: Disk, I: Source, O: Sink>(
 ) -> ScriptEnd
     requires lawful { IsLawfulStanding (standing_of interpreter.old None) }
     requires running { interpreter.old.store.stop ≡ None }
-    ensures ends { AnswersScript D.clock D.left_since D.image D.faults interpreter.old
+    ensures ends { AnswersScript D.clock D.left_since D.image D.faults (enough - 1) interpreter.old
         (streams_of I.left I.faults O.held O.faults input.old output.old) result interpreter.new
         (streams_of I.left I.faults O.held O.faults input.new output.new) }
     ensures never_falls { O.faults output.old ≤ O.faults output.new }
@@ -212,8 +214,9 @@ fn read_pieces<D: Disk, I: Source, O: Sink>(
 
 /// Runs the script in the input over the store, as an operator's. The input is taken in pieces, and a line is answered once
 /// it has come. By the order of the code, and no clause, no more of the input is kept than a line and a piece, and replies
-/// are written once they have `enough` bytes, and before more is taken. At the end all are out, but after a fault of the
-/// output or of memory, when some first part is.
+/// are written once they have `enough` bytes, and before more is taken. At the end all are out; but after a fault of memory
+/// perhaps not the last, and after one of the output perhaps not the last and fewer than `enough` bytes before it: no line is
+/// answered after one whose reply could not be sent.
 ///
 /// Returns how the script ended, and the store.
 pub fn script_session<D: Disk, I: Source, O: Sink>(
@@ -225,7 +228,9 @@ pub fn script_session<D: Disk, I: Source, O: Sink>(
 ) -> (ScriptEnd, Store<D>)
     requires lawful { IsLawfulStanding (standing_over store None (first_asker script_pass)) }
     requires running { store.stop ≡ None }
-    ensures ends { (asker : ScriptContext) × AnswersScript D.clock D.left_since D.image D.faults (record { store = store; asker = first_asker script_pass })
+    ensures ends { (asker : ScriptContext) ×
+        AnswersScript D.clock D.left_since D.image D.faults (enough - 1)
+        (record { store = store; asker = first_asker script_pass })
         (streams_of I.left I.faults O.held O.faults input.old output.old) result.0
         (record { store = result.1; asker = asker })
         (streams_of I.left I.faults O.held O.faults input.new output.new) }

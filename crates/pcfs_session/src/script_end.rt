@@ -15,9 +15,9 @@ pub enum ScriptEnd {
     LineTooLong,
     /// The input failed.
     ReadFault,
-    /// The output failed, and may lack any of its end.
+    /// The output failed, and may lack the last reply and what was buffered before it.
     WriteFault,
-    /// Memory ran out.
+    /// Memory ran out. The last reply may be missing.
     NoMemory,
     /// 1,073,741,824 bytes were taken, and the input had not ended.
     InputTooLong,

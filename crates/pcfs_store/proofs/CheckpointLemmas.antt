@@ -21,10 +21,10 @@ use Rattle.pcfs_store.specs.Image.{IsImageOf}
 use Rattle.pcfs_store.specs.StoredHistory.{payloads_of, state_after, area_since}
 use Rattle.pcfs_store.specs.Newest.{one_of}
 use Rattle.pcfs_store.specs.StoreView.{StoreView, first_disk, second_disk, last_after, settled_of, head_of, image_since, image_of, body_of, state_of_store, AreInOrder, IsStore}
-use Rattle.pcfs_store.specs.Ready.{tie, IsBehind, IsReady, IsCurrent, StopsNow, SurvivesStopAt, Keeps, ready, halted}
+use Rattle.pcfs_store.specs.Ready.{tie, IsBehind, IsReady, IsCurrent, IsAtRest, StopsNow, SurvivesStopAt, SurvivesCheckpoint, Keeps, ready, halted}
 use Rattle.pcfs_store.specs.Checkpoints.{IsFullForCheckpoint, with_checkpoint, MakesCheckpoint, made, full, failed, stopped, without_memory, IsNewestCheckpoint, Checkpoints}
 use Rattle.pcfs_store.specs.Moving.{Overwrites}
-use Rattle.pcfs_store.proofs.SurvivalLemmas.{IsTellable, tellable_store, SurvivesThere, survives_there, newest_active, generation_since, at_some, ready_there_now}
+use Rattle.pcfs_store.proofs.SurvivalLemmas.{IsTellable, tellable_store, SurvivesThere, survives_there, stays_there, newest_active, generation_since, at_some, ready_there_now, rest_active, rest_other, rest_there_now}
 use Rattle.pcfs_store.proofs.FormatLemmas.{none_shut}
 use Rattle.pcfs_store.proofs.EntryLemmas.{area-length}
 
@@ -95,6 +95,7 @@ module _ {D : Type 0} (clock : D → ℕ) (left_since : D → ℕ → List ℕ �
     stays_current = λ current _. current;
     any_moment = λ is_ready x y left_x left_y. (ready_there_now clock left_since image old store is_ready x y left_x left_y).0;
     halts = λ is_ready _ x y left_x left_y. let there = ready_there_now clock left_since image old store is_ready x y left_x left_y in (there.0, inl there.1);
+    halts_at_rest = λ rest _. rest_there_now clock left_since image old store rest;
     makes_ready = λ current is. absurd (unmade is);
     newest = λ current is. absurd (unmade is);
     first_told = refl;
@@ -189,22 +190,39 @@ module _ {D : Type 0} (clock : D → ℕ) (left_since : D → ℕ → List ℕ �
     abbrev Next : List ℕ → List ℕ → Type 0
     Next = SurvivesThere old.base old.events (old.generation + 1) (not old.second_active)
 
+    abbrev LeftAtRest : List ℕ → List ℕ → Type 0
+    LeftAtRest = SurvivesCheckpoint old.base old.events old.generation old.second_active
+
+    -- a pair of which the other has the area of the next generation
+    next_pair : (a o : List ℕ) → StandsForBody (body_of old) a → Closed area o → Next (one_of a o old.second_active) (one_of o a old.second_active)
+    next_pair a o stands next =
+        subst (λ (x : List ℕ). Next x (one_of o a old.second_active)) (exchanged old.second_active o a)
+        (subst (λ (y : List ℕ). Next (one_of o a (not old.second_active)) y) (exchanged old.second_active a o)
+        (survives_there (not old.second_active) o a (old.generation + 1) written_image old.base old.events all next_tellable
+        (subst (λ (body : List ℕ). Closed body o) (sym next_whole) next) (older a stands)))
+
     -- a pair of which the other has the area of the next generation, or an area that is older, or none
     survives_pair : (a o : List ℕ) → Closed (body_of old) a → IsBehind old.second_active old.generation (generation_of o) ⊎ Closed area o →
         Left (one_of a o old.second_active) (one_of o a old.second_active)
     survives_pair a o closed (inl behind) =
         let there = survives_there old.second_active a o old.generation (image_of old) old.base old.events (settled_of old) (tellable_store old store) closed behind in
         (there.0, inl there.1)
-    survives_pair a o closed (inr next) =
-        let there : Next (one_of a o old.second_active) (one_of o a old.second_active) =
-        subst (λ (x : List ℕ). Next x (one_of o a old.second_active)) (exchanged old.second_active o a)
-        (subst (λ (y : List ℕ). Next (one_of o a (not old.second_active)) y) (exchanged old.second_active a o)
-        (survives_there (not old.second_active) o a (old.generation + 1) written_image old.base old.events all next_tellable
-        (subst (λ (body : List ℕ). Closed body o) (sym next_whole) next) (older a closed.stands))) in
-        (there.0, inr there.1)
+    survives_pair a o closed (inr next) = let there = next_pair a o closed.stands next in (there.0, inr there.1)
+
+    -- the same of an area that may lack its closed gate
+    rest_pair : (a o : List ℕ) → StandsForBody (body_of old) a → IsBehind old.second_active old.generation (generation_of o) ⊎ Closed area o →
+        LeftAtRest (one_of a o old.second_active) (one_of o a old.second_active)
+    rest_pair a o stands (inl behind) = stays_there old.second_active a o old.generation (image_of old) old.base old.events (settled_of old) (tellable_store old store) stands behind
+    rest_pair a o stands (inr next) = let there = next_pair a o stands next in (there.0.survives, inr there.1)
 
     goes_on : (is_ready : IsReady clock left_since image old) → LeavesOnly clock left_since old.other disk (IsOldOrShutOrNew is_ready.other_bytes area)
     goes_on is_ready = writes.any_moment is_ready.other_bytes is_ready.other_told is_ready.other_pinned
+
+    -- what the other disk has then: an area that is older, or none, or the new one
+    other_by : (before : List ℕ) → IsBehind old.second_active old.generation (generation_of before) → (o : List ℕ) → IsOldOrShutOrNew before area o → IsBehind old.second_active old.generation (generation_of o) ⊎ Closed area o
+    other_by before behind o (inl same) = inl (subst (λ (bytes : List ℕ). IsBehind old.second_active old.generation (generation_of bytes)) (sym same) behind)
+    other_by before behind o (inr (inl shut)) = inl (subst (IsBehind old.second_active old.generation) (sym (none_shut o shut)) tt)
+    other_by before behind o (inr (inr next)) = inr next
 
     -- a crash since then leaves the history
     leaves : IsReady clock left_since image old → (x y : List ℕ) → left_since (one_of old.active disk old.second_active) (clock (one_of old.active old.other old.second_active)) x →
@@ -212,12 +230,17 @@ module _ {D : Type 0} (clock : D → ℕ) (left_since : D → ℕ → List ℕ �
     leaves is_ready =
         left_other old.second_active old.active old.other disk Left (λ a o left_a left_o.
         survives_pair a o (subst (Closed (body_of old)) (some_same is_ready.rests.bytes a (sym is_ready.rests.told ∙ is_ready.rests.pinned a left_a)) is_ready.rests.closed)
-        (by o ((goes_on is_ready).each o left_o)))
-      where
-        by : (o : List ℕ) → IsOldOrShutOrNew is_ready.other_bytes area o → IsBehind old.second_active old.generation (generation_of o) ⊎ Closed area o
-        by o (inl same) = inl (subst (λ (bytes : List ℕ). IsBehind old.second_active old.generation (generation_of bytes)) (sym same) is_ready.behind)
-        by o (inr (inl shut)) = inl (subst (IsBehind old.second_active old.generation) (sym (none_shut o shut)) tt)
-        by o (inr (inr next)) = inr next
+        (other_by is_ready.other_bytes is_ready.behind o ((goes_on is_ready).each o left_o)))
+
+    -- a crash since then leaves it too if the area may lack its closed gate
+    goes_on_at_rest : (rest : IsAtRest clock left_since image old) → LeavesOnly clock left_since old.other disk (IsOldOrShutOrNew rest.other_bytes area)
+    goes_on_at_rest rest = writes.any_moment rest.other_bytes rest.other_told rest.other_pinned
+
+    leaves_at_rest : IsAtRest clock left_since image old → (x y : List ℕ) → left_since (one_of old.active disk old.second_active) (clock (one_of old.active old.other old.second_active)) x →
+        left_since (one_of disk old.active old.second_active) (clock (one_of old.other old.active old.second_active)) y → LeftAtRest x y
+    leaves_at_rest rest =
+        left_other old.second_active old.active old.other disk LeftAtRest (λ a o left_a left_o.
+        rest_pair a o (rest_active clock left_since image old rest a left_a) (other_by rest.other_bytes (rest_other clock left_since image old rest) o ((goes_on_at_rest rest).each o left_o)))
 
     -- ---- it was written
 
@@ -324,6 +347,7 @@ module _ {D : Type 0} (clock : D → ℕ) (left_since : D → ℕ → List ℕ �
             (subst (λ (d : D). left_since d (clock (first_disk old)) x) first_is left_x)
             (subst (λ (d : D). left_since d (clock (second_disk old)) y) second_is left_y)).0;
         halts = λ is_ready is. absurd (unlike is);
+        halts_at_rest = λ rest is. absurd (unlike is);
         makes_ready = λ current _ a o is_a is_o still. ready_by a o is_a (at_some (image old.active) (StandsForBody (body_of old)) a is_a current.active) still is_o;
         newest = λ current _ x y is_x is_y. next_newest current x y is_x is_y;
         first_told = ap (λ (d : D). is_some (image d)) first_is ∙ told_other old.second_active old.active old.other disk writes.told;
@@ -350,6 +374,7 @@ module _ {D : Type 0} (clock : D → ℕ) (left_since : D → ℕ → List ℕ �
       stays_current = λ current goes. absurd (goes refl);
       any_moment = λ is_ready x y left_x left_y. (leaves is_ready x y left_x left_y).0;
       halts = λ is_ready _. leaves_now is_ready;
+      halts_at_rest = λ rest _. rest_now rest;
       makes_ready = λ current is. absurd (unlike is);
       newest = λ current is. absurd (unlike is);
       first_told = told_other old.second_active old.active old.other disk writes.told;
@@ -361,12 +386,21 @@ module _ {D : Type 0} (clock : D → ℕ) (left_since : D → ℕ → List ℕ �
         unlike : Stopped ≡ Checkpointed → ⊥
         unlike e = cc
 
-        leaves_now : IsReady clock left_since image old → StopsNow clock left_since image (record old { other = disk; stop = Some pass; met = None }) Left
-        leaves_now is_ready x y left_x left_y =
-            let later : clock old.other ≤ clock disk = (goes_on is_ready).later in
-            leaves is_ready x y
+        -- what a crash left since then, a crash now leaves
+        now_by : (P : List ℕ → List ℕ → Type 0) → clock old.other ≤ clock disk →
+            ((x y : List ℕ) → left_since (one_of old.active disk old.second_active) (clock (one_of old.active old.other old.second_active)) x →
+            left_since (one_of disk old.active old.second_active) (clock (one_of old.other old.active old.second_active)) y → P x y) →
+            StopsNow clock left_since image (record old { other = disk; stop = Some pass; met = None }) P
+        now_by P later each x y left_x left_y =
+            each x y
             (earlier (one_of old.active disk old.second_active) (clock (one_of old.active old.other old.second_active)) (clock (one_of old.active disk old.second_active)) x (later_other old.second_active old.active old.other disk later) left_x)
             (earlier (one_of disk old.active old.second_active) (clock (one_of old.other old.active old.second_active)) (clock (one_of disk old.active old.second_active)) y (later_one old.second_active old.active old.other disk later) left_y)
+
+        leaves_now : IsReady clock left_since image old → StopsNow clock left_since image (record old { other = disk; stop = Some pass; met = None }) Left
+        leaves_now is_ready = now_by Left (goes_on is_ready).later (leaves is_ready)
+
+        rest_now : IsAtRest clock left_since image old → StopsNow clock left_since image (record old { other = disk; stop = Some pass; met = None }) LeftAtRest
+        rest_now rest = now_by LeftAtRest (goes_on_at_rest rest).later (leaves_at_rest rest)
 
         stays : Keeps clock left_since image old → Keeps clock left_since image (record old { other = disk; stop = Some pass; met = None })
         stays (ready is_ready) = halted pass refl (leaves_now is_ready)

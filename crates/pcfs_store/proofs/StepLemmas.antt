@@ -3,7 +3,7 @@ use Rattle.std.proofs.Common.{◌≡◌, ℕ, ◌+◌, ◌<◌, ◌≤◌, List,
 use Rattle.std.specs.Prelude.{Option, is_some, ℤ}
 use Rattle.pcfs_ports.specs.Faults.{HasRisen}
 use Rattle.pcfs_ports.specs.Disk.{LeavesOnly, IsPinned}
-use Rattle.journal_core.specs.Area.{area_limit, record_bytes, StandsForBody, generation_of, Closed}
+use Rattle.journal_core.specs.Area.{area_limit, record_bytes, Begins, StandsForBody, generation_of, Closed}
 use Rattle.journal_core.specs.AreaView.{AreaView}
 use Rattle.journal_core.specs.Rest.{Rests, IsWithOrWithout}
 use Rattle.journal_core.proofs.RecordLemmas.{record_length}
@@ -17,13 +17,13 @@ use Rattle.journal_records.specs.EventSpelling.{event_spelling, IsSpellableEvent
 use Rattle.pcfs_store.specs.declared.reply.StoreReply.{StoreReply}
 use Rattle.pcfs_store.specs.declared.reply.StoreReply.TheVariants.{Step, Stopped}
 use Rattle.pcfs_store.specs.StoredHistory.{area_since}
-use Rattle.pcfs_store.specs.Newest.{one_of, SurvivesWholeClosed}
+use Rattle.pcfs_store.specs.Newest.{one_of, NewestBegins, SurvivesWholeClosed}
 use Rattle.pcfs_store.specs.StoreView.{StoreView, settled_of, image_since, image_of, body_of, AnswersIn, IsStore}
-use Rattle.pcfs_store.specs.Ready.{IsBehind, IsReady, IsCurrent, StopsNow, SurvivesWithOrWithout, SurvivesStopAt, Keeps, ready, halted}
+use Rattle.pcfs_store.specs.Ready.{IsBehind, IsReady, IsCurrent, IsAtRest, StopsNow, SurvivesWithOrWithout, SurvivesStopAt, Keeps, ready, halted}
 use Rattle.pcfs_store.specs.Promises.{Promises}
 use Rattle.pcfs_store.specs.Steps.{IsFullFor, with_event, Steps, kept, failed, LeavesStep}
 use Rattle.pcfs_store.specs.Keeping.{Writes, HasWritten}
-use Rattle.pcfs_store.proofs.SurvivalLemmas.{IsTellable, tellable_store, tellable_push, survives_there, since_push, state_push, order_within, order_more, left_pairs, ready_survives_now, if_some}
+use Rattle.pcfs_store.proofs.SurvivalLemmas.{IsTellable, tellable_store, tellable_push, survives_there, begins_there, since_push, state_push, order_within, order_more, left_pairs, ready_survives_now, if_some}
 
 none_more : (events : List Event) → length events < length events → ⊥
 none_more events more = omega (arith, more)
@@ -48,6 +48,7 @@ module _ {D : Type 0} (clock : D → ℕ) (left_since : D → ℕ → List ℕ �
     makes_ready = λ _ more _ _ _ _ _. absurd (none_more old.events more);
     any_moment = λ is_ready x y left_x left_y. whole x y (ready_survives_now clock left_since image old store is_ready x y left_x left_y);
     met = λ is_ready is_stopped. absurd (runs is_ready.running is_stopped);
+    met_at_rest = λ rest is_stopped. absurd (runs rest.current.running is_stopped);
     first_told = refl;
     second_told = refl;
     first_never_falls = omega arith;
@@ -156,6 +157,23 @@ module _ {D : Type 0} (clock : D → ℕ) (left_since : D → ℕ → List ℕ �
         (λ a o left_a left_o. survives_pair a o (subst Older (some_same is_ready.other_bytes o (sym is_ready.other_told ∙ is_ready.other_pinned o left_o)) is_ready.behind) ((goes_on is_ready).each a left_a))
         x y left_x left_y
 
+    -- what a crash leaves of an area that may lack its closed gate begins with that of the history
+    abbrev Begun : List ℕ → List ℕ → Type 0
+    Begun = NewestBegins old.generation old.second_active (body_of old)
+
+    keeps_front : (rest : IsAtRest clock left_since image old) → LeavesOnly clock left_since old.active after.disk (Begins (body_of old))
+    keeps_front rest =
+        writes.front (body_of old) rest.active_bytes (sym store.used_is) rest.active_told
+        (at_told (image old.active) (StandsForBody (body_of old)) rest.active_bytes rest.active_told rest.current.active).front rest.active_pinned
+
+    begun : IsAtRest clock left_since image old → (x y : List ℕ) → left_since (one_of after.disk old.other old.second_active) (clock (one_of old.active old.other old.second_active)) x →
+        left_since (one_of old.other after.disk old.second_active) (clock (one_of old.other old.active old.second_active)) y → Begun x y
+    begun rest x y left_x left_y =
+        left_pairs clock left_since old.second_active old.active after.disk old.other Begun
+        (λ a o left_a left_o. begins_there old.second_active a o old.generation (image_of old) old.base old.events (settled_of old) (tellable_store old store) ((keeps_front rest).each a left_a)
+        (at_told (image old.other) Older o (rest.other_pinned o left_o) rest.current.other))
+        x y left_x left_y
+
     -- with or without the event that the answer keeps, it is what a step may leave
     step_leaves : (pass : ℕ) (at : ℤ) (request : StepRequest) (reply : StepReply) → AnswersIn old pass at request reply (Some event) →
         (x y : List ℕ) → SurvivesWithOrWithout old.base old.events event x y → LeavesStep old pass at request x y
@@ -220,6 +238,7 @@ module _ {D : Type 0} (clock : D → ℕ) (left_since : D → ℕ → List ℕ �
         makes_ready = λ current _ active other told other_told pinned. ready_from current active other told other_told pinned;
         any_moment = λ is_ready x y left_x left_y. leave x y (leaves is_ready x y left_x left_y).0;
         met = λ is_ready is_stopped. absurd (unlike is_stopped);
+        met_at_rest = λ rest is_stopped. absurd (unlike is_stopped);
         first_told = told_first old.second_active after.disk old.active old.other writes.told;
         second_told = told_second old.second_active after.disk old.active old.other writes.told;
         first_never_falls = falls_first old.second_active after.disk old.active old.other writes.never_falls;
@@ -252,19 +271,29 @@ module _ {D : Type 0} (clock : D → ℕ) (left_since : D → ℕ → List ℕ �
       makes_ready = λ _ more _ _ _ _ _. absurd (none_more old.events more);
       any_moment = λ is_ready x y left_x left_y. leave x y (leaves is_ready x y left_x left_y).0;
       met = λ is_ready _. leaves_now is_ready;
+      met_at_rest = λ rest _. begun_now rest;
       first_told = told_first old.second_active after.disk old.active old.other writes.told;
       second_told = told_second old.second_active after.disk old.active old.other writes.told;
       first_never_falls = falls_first old.second_active after.disk old.active old.other writes.never_falls;
       second_never_falls = falls_second old.second_active after.disk old.active old.other writes.never_falls;
     }
       where
-        leaves_now : IsReady clock left_since image old →
-            StopsNow clock left_since image (record old { active = after.disk; stop = Some pass; met = Some event }) (SurvivesStopAt old.base old.events old.generation old.second_active (Some event))
-        leaves_now is_ready x y left_x left_y =
-            let later : clock old.active ≤ clock after.disk = (goes_on is_ready).later in
-            leaves is_ready x y
+        -- what a crash left since then, a crash now leaves
+        now_by : (P : List ℕ → List ℕ → Type 0) → clock old.active ≤ clock after.disk →
+            ((x y : List ℕ) → left_since (one_of after.disk old.other old.second_active) (clock (one_of old.active old.other old.second_active)) x →
+            left_since (one_of old.other after.disk old.second_active) (clock (one_of old.other old.active old.second_active)) y → P x y) →
+            StopsNow clock left_since image (record old { active = after.disk; stop = Some pass; met = Some event }) P
+        now_by P later each x y left_x left_y =
+            each x y
             (earlier (one_of after.disk old.other old.second_active) (clock (one_of old.active old.other old.second_active)) (clock (one_of after.disk old.other old.second_active)) x (later_first old.second_active after.disk old.active old.other later) left_x)
             (earlier (one_of old.other after.disk old.second_active) (clock (one_of old.other old.active old.second_active)) (clock (one_of old.other after.disk old.second_active)) y (later_second old.second_active after.disk old.active old.other later) left_y)
+
+        leaves_now : IsReady clock left_since image old →
+            StopsNow clock left_since image (record old { active = after.disk; stop = Some pass; met = Some event }) (SurvivesStopAt old.base old.events old.generation old.second_active (Some event))
+        leaves_now is_ready = now_by (SurvivesStopAt old.base old.events old.generation old.second_active (Some event)) (goes_on is_ready).later (leaves is_ready)
+
+        begun_now : IsAtRest clock left_since image old → StopsNow clock left_since image (record old { active = after.disk; stop = Some pass; met = Some event }) Begun
+        begun_now rest = now_by Begun (keeps_front rest).later (begun rest)
 
         stays : Keeps clock left_since image old → Keeps clock left_since image (record old { active = after.disk; stop = Some pass; met = Some event })
         stays (ready is_ready) = halted pass refl (leaves_now is_ready)

@@ -1,5 +1,5 @@
 -- Bytes that stand for a history, and what survives of a store.
-use Rattle.std.proofs.Common.{◌≡◌, ℕ, zero, suc, ◌+◌, ◌<◌, ◌≤◌, List, [], ◌∷◌, ◌++◌, length, take, drop, get_or, map, Some, None, IfSome, Bool, true, false, refl, sym, ◌∙◌, ap, subst, arith, append_assoc, length-append}
+use Rattle.std.proofs.Common.{◌≡◌, ℕ, zero, suc, ◌+◌, ◌<◌, ◌≤◌, List, [], ◌∷◌, ◌++◌, length, take, drop, get_or, map, Some, None, IfSome, Bool, true, false, refl, sym, ◌∙◌, ap, subst, inl, inr, arith, append_assoc, length-append}
 use Rattle.std.specs.Prelude.{Option, nat_lt, ◌==◌, if◌then◌else◌}
 use Rattle.std.specs.Option.{option_map}
 use Rattle.std.specs.Int.{w64, from_be_bytes}
@@ -19,9 +19,9 @@ use Rattle.access_history.specs.Replay.{replay}
 use Rattle.pcfs_store.specs.declared.checkpoints.Checkpoint.{Checkpoint}
 use Rattle.pcfs_store.specs.Image.{IsImageOf}
 use Rattle.pcfs_store.specs.StoredHistory.{payloads_of, AreSpellable, state_after, area_since, StandsFor, Resumes}
-use Rattle.pcfs_store.specs.Newest.{newer, one_of, newest, IsNewestAt, SurvivesWhole, SurvivesWholeClosed}
-use Rattle.pcfs_store.specs.StoreView.{StoreView, first_disk, second_disk, last_after, settled_of, head_of, records_of, image_of, body_of, AreInOrder, IsStore}
-use Rattle.pcfs_store.specs.Ready.{IsBehind, IsReady, IsCurrent, StopsNow}
+use Rattle.pcfs_store.specs.Newest.{newer, one_of, newest, IsNewestAt, NewestBegins, SurvivesWhole, SurvivesWholeClosed}
+use Rattle.pcfs_store.specs.StoreView.{StoreView, HasNothingAdded, first_disk, second_disk, last_after, settled_of, head_of, records_of, image_of, body_of, AreInOrder, IsStore}
+use Rattle.pcfs_store.specs.Ready.{IsBehind, IsReady, IsCurrent, IsAtRest, RestsSince, StopsNow, SurvivesCheckpoint}
 
 -- ---- generations
 
@@ -238,7 +238,38 @@ survives_there second active other generation image base events settled told clo
   newest_at second active other generation (generation_since generation image base events settled active told closed.stands) behind,
 )
 
+-- the same of bytes that may lack their closed gate
+pub stays_there : (second : Bool) (active other : List ℕ) (generation : ℕ) (image : List ℕ) (base : BaseView) (events : List Event) (settled : ℕ) → IsTellable generation image base events settled →
+    StandsForBody (area_since generation image events settled) active → IsBehind second generation (generation_of other) →
+    SurvivesCheckpoint base events generation second (one_of active other second) (one_of other active second)
+stays_there second active other generation image base events settled told stands behind = (
+  survives_beside second active other generation image base events settled told stands behind,
+  inl (newest_at second active other generation (generation_since generation image base events settled active told stands) behind),
+)
+
+-- bytes that begin with the area of a history count beside others that are older
+begins_in : (second : Bool) (active other body : List ℕ) → Begins body active → Begins body (one_of (one_of active other second) (one_of other active second) second)
+begins_in false active other body begins = begins
+begins_in true active other body begins = begins
+
+pub begins_there : (second : Bool) (active other : List ℕ) (generation : ℕ) (image : List ℕ) (base : BaseView) (events : List Event) (settled : ℕ) → IsTellable generation image base events settled →
+    Begins (area_since generation image events settled) active → IsBehind second generation (generation_of other) →
+    NewestBegins generation second (area_since generation image events settled) (one_of active other second) (one_of other active second)
+begins_there second active other generation image base events settled told begins behind = record {
+  newest_at = newest_at second active other generation (generation_begins active generation image (payloads_of (drop settled events)) told.generated told.fits begins) behind;
+  begins = begins_in second active other (area_since generation image events settled) begins;
+}
+
 -- ---- stores
+
+pub one_longer : (events : List Event) (event : Event) → length events < length (events ++ event ∷ [])
+one_longer events event = let long = length-append events (event ∷ []) in omega (arith, long)
+
+pub nothing_same : {D : Type 0} (s : StoreView D) → HasNothingAdded s s
+nothing_same s = record { events_stay = refl; checkpoints_stay = refl }
+
+pub nothing_both : {D : Type 0} (old mid new : StoreView D) → HasNothingAdded old mid → HasNothingAdded mid new → HasNothingAdded old new
+nothing_both old mid new one other = record { events_stay = other.events_stay ∙ one.events_stay; checkpoints_stay = other.checkpoints_stay ∙ one.checkpoints_stay }
 
 pub at_some : (told : Option (List ℕ)) (P : List ℕ → Type 0) (bytes : List ℕ) → told ≡ Some bytes → IfSome told P → P bytes
 at_some told P bytes is holds = let Q : Option (List ℕ) → Type 0 = λ o. IfSome o P in subst Q is holds
@@ -286,6 +317,38 @@ module _ {D : Type 0} where
         (λ a o left_a left_o. survives_there s.second_active a o s.generation (image_of s) s.base s.events (settled_of s) (tellable_store s store)
         (subst (Closed (body_of s)) (some_same ready.rests.bytes a (sym ready.rests.told ∙ ready.rests.pinned a left_a)) ready.rests.closed)
         (subst (λ (bytes : List ℕ). IsBehind s.second_active s.generation (generation_of bytes)) (some_same ready.other_bytes o (sym ready.other_told ∙ ready.other_pinned o left_o)) ready.behind))
+        x y left_x left_y
+
+    -- a store that is ready is at rest
+    pub ready_at_rest : IsReady clock left_since image s → IsAtRest clock left_since image s
+    ready_at_rest ready = record {
+      current = ready_current ready;
+      active_bytes = ready.rests.bytes;
+      active_told = ready.rests.told;
+      active_pinned = ready.rests.pinned;
+      other_bytes = ready.other_bytes;
+      other_told = ready.other_told;
+      other_pinned = ready.other_pinned;
+    }
+
+    pub rests_ready : (old : StoreView D) → IsReady clock left_since image s → RestsSince clock left_since image old s
+    rests_ready old ready = (ready_at_rest ready, inl ready)
+
+    pub rests_same : IsAtRest clock left_since image s → RestsSince clock left_since image s s
+    rests_same rest = (rest, inr (nothing_same s))
+
+    -- what a crash now leaves of the disks of a store at rest
+    pub rest_active : (rest : IsAtRest clock left_since image s) → (a : List ℕ) → left_since s.active (clock s.active) a → StandsForBody (body_of s) a
+    rest_active rest a left = at_some (image s.active) (StandsForBody (body_of s)) a (rest.active_pinned a left) rest.current.active
+
+    pub rest_other : (rest : IsAtRest clock left_since image s) → IsBehind s.second_active s.generation (generation_of rest.other_bytes)
+    rest_other rest = at_some (image s.other) (λ bytes. IsBehind s.second_active s.generation (generation_of bytes)) rest.other_bytes rest.other_told rest.current.other
+
+    pub rest_there_now : IsStore s → IsAtRest clock left_since image s → StopsNow clock left_since image s (SurvivesCheckpoint s.base s.events s.generation s.second_active)
+    rest_there_now store rest x y left_x left_y =
+        left_pairs clock left_since s.second_active s.active s.active s.other (SurvivesCheckpoint s.base s.events s.generation s.second_active)
+        (λ a o left_a left_o. stays_there s.second_active a o s.generation (image_of s) s.base s.events (settled_of s) (tellable_store s store) (rest_active rest a left_a)
+        (at_some (image s.other) (λ bytes. IsBehind s.second_active s.generation (generation_of bytes)) o (rest.other_pinned o left_o) rest.current.other))
         x y left_x left_y
 
     pub ready_survives_now : IsStore s → IsReady clock left_since image s → StopsNow clock left_since image s (SurvivesWholeClosed s.base s.events)

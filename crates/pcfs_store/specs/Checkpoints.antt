@@ -12,7 +12,7 @@ use Rattle.pcfs_store.specs.declared.reply.CheckpointReply.{CheckpointReply}
 use Rattle.pcfs_store.specs.declared.reply.CheckpointReply.TheVariants.{Checkpointed, Full, Stopped, NoMemory}
 use Rattle.pcfs_store.specs.Newest.{newest, SurvivesWholeClosed, IsNewestAt, IsNewestAtOrNext}
 use Rattle.pcfs_store.specs.StoreView.{StoreView, first_disk, second_disk, state_of_store}
-use Rattle.pcfs_store.specs.Ready.{SurvivesWithOrWithout, SurvivesStopAt, IsReady, IsCurrent, Keeps, StopsLeave, StopsNow}
+use Rattle.pcfs_store.specs.Ready.{SurvivesWithOrWithout, SurvivesStopAt, SurvivesCheckpoint, IsReady, IsCurrent, IsAtRest, Keeps, StopsLeave, StopsNow}
 
 -- the image of the state does not fit with a closed gate after it, or there is no next generation
 abbrev pub IsFullForCheckpoint : {D : Type 0} → StoreView D → Type 0
@@ -100,6 +100,9 @@ module _ {D : Type 0} (clock : D → ℕ) (left_since : D → ℕ → List ℕ �
         StopsLeave clock left_since image old new (SurvivesWholeClosed old.base old.events)
     pub halts : IsReady clock left_since image old → result ≡ Stopped →
         StopsNow clock left_since image new (SurvivesStopAt old.base old.events old.generation old.second_active None)
+    pub halts_at_rest : IsAtRest clock left_since image old → result ≡ Stopped →
+        StopsNow clock left_since image new
+        (SurvivesCheckpoint old.base old.events old.generation old.second_active)
     pub newest : IsCurrent clock left_since image old → result ≡ Checkpointed →
         (first second : List ℕ) → image (first_disk new) ≡ Some first →
         image (second_disk new) ≡ Some second → IsNewestCheckpoint old first second

@@ -1,10 +1,10 @@
 -- What becomes of an event that is to be kept (this project's own).
 use Rattle.std.specs.Prelude.{◌≡◌, ℕ, ◌+◌, ◌<◌, ◌≤◌, List, [], ◌∷◌, ◌++◌, length, Option, Some, None, Result, Ok, Err, is_some}
 use Rattle.pcfs_ports.specs.Faults.{HasRisen}
-use Rattle.pcfs_ports.specs.Disk.{LeavesOnly}
+use Rattle.pcfs_ports.specs.Disk.{IsPinned, LeavesOnly}
 use Rattle.journal_core.specs.declared.area.AreaFault.{AreaFault}
 use Rattle.journal_core.specs.declared.area.AreaFault.TheVariants.{Disk as DiskFailed, AreaFull, NoMemory}
-use Rattle.journal_core.specs.Area.{area_limit, record_bytes, StandsForBody}
+use Rattle.journal_core.specs.Area.{area_limit, record_bytes, Begins, StandsForBody}
 use Rattle.journal_core.specs.AreaView.{AreaView}
 use Rattle.journal_core.specs.Rest.{Rests, IsWithOrWithout}
 use Rattle.journal_records.specs.declared.event.Event.{Event}
@@ -34,6 +34,10 @@ module _ {D : Type 0} (clock : D → ℕ) (left_since : D → ℕ → List ℕ �
     pub any_moment : (body : List ℕ) → length body ≡ old.end →
         Rests clock left_since image old.disk body →
         LeavesOnly clock left_since old.disk new.disk (IsWithOrWithout body (event_spelling event))
+    -- also of an area that lacked its closed gate
+    pub front : (body bytes : List ℕ) → length body ≡ old.end → image old.disk ≡ Some bytes →
+        Begins body bytes → IsPinned clock left_since image old.disk →
+        LeavesOnly clock left_since old.disk new.disk (Begins body)
     pub told : is_some (image new.disk) ≡ is_some (image old.disk)
     pub never_falls : faults old.disk ≤ faults new.disk
 

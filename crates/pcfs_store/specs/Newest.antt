@@ -1,7 +1,7 @@
 -- Which of two areas counts, and what its bytes have to say. This project's own.
 use Rattle.std.specs.Prelude.{◌≡◌, ◌⊎◌, ◌+◌, ℕ, List, Option, Some, None, Bool, true, false, nat_lt, not, length, ◌<◌}
 use Rattle.std.specs.Option.{option_map}
-use Rattle.journal_core.specs.Area.{area_bytes, generation_of}
+use Rattle.journal_core.specs.Area.{area_bytes, generation_of, Begins}
 use Rattle.journal_records.specs.declared.event.Event.{Event}
 use Rattle.access_history.specs.Base.{BaseView}
 use Rattle.pcfs_store.specs.StoredHistory.{payloads_of, StandsFor, Resumes}
@@ -33,6 +33,12 @@ pub record IsNewestAt (generation : ℕ) (second : Bool) (x y : List ℕ) : Type
 abbrev pub IsNewestAtOrNext : ℕ → Bool → List ℕ → List ℕ → Type 0
 IsNewestAtOrNext generation second x y = IsNewestAt generation second x y ⊎
     IsNewestAt (generation + 1) (not second) x y
+
+-- The newest area of these two disks' bytes is there, has this generation, and begins with this
+-- body; what follows is left open.
+pub record NewestBegins (generation : ℕ) (second : Bool) (body x y : List ℕ) : Type 0 where
+  pub newest_at : IsNewestAt generation second x y
+  pub begins : Begins body (one_of x y second)
 
 -- The newest area of these two disks' bytes stands for a history that resumes the first `kept` of
 -- the events.

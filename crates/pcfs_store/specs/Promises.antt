@@ -2,8 +2,9 @@
 -- event. This project's own.
 use Rattle.std.specs.Prelude.{◌≡◌, ◌≢◌, ◌<◌, ◌≤◌, ℕ, List, length, is_some, Option, Some}
 use Rattle.pcfs_ports.specs.Disk.{IsPinned}
-use Rattle.pcfs_store.specs.StoreView.{StoreView, first_disk, second_disk}
-use Rattle.pcfs_store.specs.Ready.{IsReady, IsCurrent, Keeps, StopsLeave, StopsNow, SurvivesStopAt}
+use Rattle.pcfs_store.specs.StoreView.{StoreView, first_disk, second_disk, body_of}
+use Rattle.pcfs_store.specs.Newest.{NewestBegins}
+use Rattle.pcfs_store.specs.Ready.{IsReady, IsCurrent, IsAtRest, Keeps, StopsLeave, StopsNow, SurvivesStopAt}
 
 module _ {D : Type 0} (clock : D → ℕ) (left_since : D → ℕ → List ℕ → Type 0) (image : D → Option (List ℕ)) (faults : D → ℕ) where
   -- `Answer` says what is answered and what becomes of the store, `Left` what a crash within the call
@@ -26,6 +27,11 @@ module _ {D : Type 0} (clock : D → ℕ) (left_since : D → ℕ → List ℕ �
         StopsLeave clock left_since image old new Left
     pub met : IsReady clock left_since image old → result ≡ halt →
         StopsNow clock left_since image new (SurvivesStopAt old.base old.events old.generation old.second_active new.met)
+    -- of a store that lacks its closed gate, if nothing is pending, a fault leaves an area that
+    -- begins with that of the history
+    pub met_at_rest : IsAtRest clock left_since image old → result ≡ halt →
+        StopsNow clock left_since image new
+        (NewestBegins old.generation old.second_active (body_of old))
     pub first_told : is_some (image (first_disk new)) ≡ is_some (image (first_disk old))
     pub second_told : is_some (image (second_disk new)) ≡ is_some (image (second_disk old))
     pub first_never_falls : faults (first_disk old) ≤ faults (first_disk new)

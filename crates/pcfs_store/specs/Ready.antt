@@ -5,8 +5,8 @@ use Rattle.journal_core.specs.Area.{StandsForBody, generation_of}
 use Rattle.journal_core.specs.Rest.{Rests}
 use Rattle.journal_records.specs.declared.event.Event.{Event}
 use Rattle.access_history.specs.Base.{BaseView}
-use Rattle.pcfs_store.specs.Newest.{SurvivesWholeClosed, IsNewestAt, IsNewestAtOrNext}
-use Rattle.pcfs_store.specs.StoreView.{StoreView, first_disk, second_disk, body_of}
+use Rattle.pcfs_store.specs.Newest.{SurvivesWhole, SurvivesWholeClosed, IsNewestAt, IsNewestAtOrNext}
+use Rattle.pcfs_store.specs.StoreView.{StoreView, HasNothingAdded, first_disk, second_disk, body_of}
 
 -- what a generation that is equal lacks to count: the first area counts then
 abbrev pub tie : Bool → ℕ
@@ -40,6 +40,12 @@ abbrev pub SurvivesStopAt : BaseView → List Event → ℕ → Bool → Option 
 SurvivesStopAt base events generation second met x y = SurvivesStop base events met x y ×
     IsNewestStop generation second met x y
 
+-- what a crash leaves if a checkpoint met the fault, of an area that may lack its closed gate: the
+-- history, in that area or in the next one
+abbrev pub SurvivesCheckpoint : BaseView → List Event → ℕ → Bool → List ℕ → List ℕ → Type 0
+SurvivesCheckpoint base events generation second x y = SurvivesWhole base events x y ×
+    IsNewestAtOrNext generation second x y
+
 -- Below, `clock d` is the present moment of a disk d, `left_since d t bytes` says that a crash at
 -- some moment since t may have left these bytes, and `image d` is what a read gives, if d tells it.
 module _ {D : Type 0} (clock : D → ℕ) (left_since : D → ℕ → List ℕ → Type 0) (image : D → Option (List ℕ)) where
@@ -59,6 +65,22 @@ module _ {D : Type 0} (clock : D → ℕ) (left_since : D → ℕ → List ℕ �
     pub running : s.stop ≡ None
     pub active : IfSome (image s.active) (StandsForBody (body_of s))
     pub other : IfSome (image s.other) (λ bytes. IsBehind s.second_active s.generation (generation_of bytes))
+
+  -- The store is current, with the closed gate of its area or without it; both disks tell their
+  -- bytes, and nothing is pending. So it is when it was opened.
+  pub record IsAtRest (s : StoreView D) : Type 0 where
+    pub current : IsCurrent s
+    pub active_bytes : List ℕ
+    pub active_told : image s.active ≡ Some active_bytes
+    pub active_pinned : IsPinned clock left_since image s.active
+    pub other_bytes : List ℕ
+    pub other_told : image s.other ≡ Some other_bytes
+    pub other_pinned : IsPinned clock left_since image s.other
+
+  -- from one moment of a store at rest to a later one: it is at rest, and ready if something was
+  -- added
+  abbrev pub RestsSince : StoreView D → StoreView D → Type 0
+  RestsSince old new = IsAtRest new × (IsReady new ⊎ HasNothingAdded old new)
 
   -- A crash at any moment of the first disk and at any of the second, from the old store to the new
   -- one, leaves only pairs with P.

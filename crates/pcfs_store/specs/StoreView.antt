@@ -51,6 +51,11 @@ pub record NoneFailed {D : Type 0} (faults : D → ℕ) (old new : StoreView D) 
   pub first : faults (first_disk new) ≡ faults (first_disk old)
   pub second : faults (second_disk new) ≡ faults (second_disk old)
 
+-- no event was kept from one moment of the store to a later one, and no checkpoint made
+pub record HasNothingAdded {D : Type 0} (old new : StoreView D) : Type 0 where
+  pub events_stay : new.events ≡ old.events
+  pub checkpoints_stay : new.checkpoints ≡ old.checkpoints
+
 abbrev pub authority_of_store : {D : Type 0} → StoreView D → Authority
 authority_of_store s = authority_with s.key s.ring
 

@@ -57,12 +57,12 @@ impl<D: Disk> Store<D> {
     ghost use Rattle.pcfs_ports.specs.Disk.{IsPinned};
     ghost use Rattle.bl_syntax.specs.TimeOrder.{IsMoment};
     ghost use Rattle.access_history.specs.WellFormed.{IsWellFormed};
-    ghost use Rattle.pcfs_store.specs.StoreView.{IsStore, first_disk, second_disk, state_of_store};
-    ghost use Rattle.pcfs_store.specs.Ready.{IsReady, IsCurrent, Keeps, StopsLeave, StopsNow, SurvivesStopAt};
+    ghost use Rattle.pcfs_store.specs.StoreView.{IsStore, first_disk, second_disk, body_of, state_of_store};
+    ghost use Rattle.pcfs_store.specs.Ready.{IsReady, IsCurrent, Keeps, IsAtRest, StopsLeave, StopsNow, SurvivesStopAt, SurvivesCheckpoint};
     ghost use Rattle.pcfs_store.specs.Steps.{Steps, LeavesStep};
     ghost use Rattle.pcfs_store.specs.Admitting.{Admits, LeavesAdmitting, Admitting};
     ghost use Rattle.pcfs_store.specs.Checkpoints.{MakesCheckpoint, IsNewestCheckpoint, Checkpoints};
-    ghost use Rattle.pcfs_store.specs.Newest.{SurvivesWholeClosed};
+    ghost use Rattle.pcfs_store.specs.Newest.{SurvivesWholeClosed, NewestBegins};
 
     /// A store over what was read of two disks. The area is the one that counts, the second exactly if `second_active`; it
     /// has that generation, this image, which is one of the gate's base, and the records of its events. It takes no memory.
@@ -179,6 +179,13 @@ impl<D: Disk> Store<D> {
             StopsNow D.clock D.left_since D.image self.new
             (SurvivesStopAt self.old.base self.old.events self.old.generation self.old.second_active self.new.met) }
 
+        // If the area lacked its closed gate and nothing was pending, its history still begins an area of
+        // the same generation on the same disk; what follows it there is left open.
+        ensures met_at_rest { IsAtRest D.clock D.left_since D.image self.old →
+            result ≡ StoreReply.Stopped →
+            StopsNow D.clock D.left_since D.image self.new
+            (NewestBegins self.old.generation self.old.second_active (body_of self.old)) }
+
         ensures first_told { is_some (D.image (first_disk self.new)) ≡ is_some (D.image (first_disk self.old)) }
         ensures second_told { is_some (D.image (second_disk self.new)) ≡ is_some (D.image (second_disk self.old)) }
         ensures first_never_falls { D.faults (first_disk self.old) ≤ D.faults (first_disk self.new) }
@@ -237,6 +244,13 @@ impl<D: Disk> Store<D> {
         ensures met { IsReady D.clock D.left_since D.image self.old → result ≡ Admitted.Stopped →
             StopsNow D.clock D.left_since D.image self.new
             (SurvivesStopAt self.old.base self.old.events self.old.generation self.old.second_active self.new.met) }
+
+        // If the area lacked its closed gate and nothing was pending, its history still begins an area of
+        // the same generation on the same disk; what follows it there is left open.
+        ensures met_at_rest { IsAtRest D.clock D.left_since D.image self.old →
+            result ≡ Admitted.Stopped →
+            StopsNow D.clock D.left_since D.image self.new
+            (NewestBegins self.old.generation self.old.second_active (body_of self.old)) }
 
         ensures first_told { is_some (D.image (first_disk self.new)) ≡ is_some (D.image (first_disk self.old)) }
         ensures second_told { is_some (D.image (second_disk self.new)) ≡ is_some (D.image (second_disk self.old)) }
@@ -302,6 +316,12 @@ impl<D: Disk> Store<D> {
             result ≡ CheckpointReply.Stopped →
             StopsNow D.clock D.left_since D.image self.new
             (SurvivesStopAt self.old.base self.old.events self.old.generation self.old.second_active None) }
+
+        // It is so too if the area lacked its closed gate and nothing was pending.
+        ensures halts_at_rest { IsAtRest D.clock D.left_since D.image self.old →
+            result ≡ CheckpointReply.Stopped →
+            StopsNow D.clock D.left_since D.image self.new
+            (SurvivesCheckpoint self.old.base self.old.events self.old.generation self.old.second_active) }
 
         // What a read gives then is the area of the next generation, with the image of the state.
         ensures newest { IsCurrent D.clock D.left_since D.image self.old →

@@ -3,6 +3,8 @@ use Rattle.std.proofs.Common.{◌≡◌, ◌⊎◌, inl, inr, ◌+◌, ◌≤◌
 use Rattle.std.specs.Prelude.{if◌then◌else◌, IfSome}
 use Rattle.access_history.specs.Replay.{replay}
 use Rattle.line_text.specs.Lines.{lines_of}
+use Rattle.line_wire.specs.declared.reply.LineReply.{LineReply}
+use Rattle.line_wire.specs.ReplyText.{output_of}
 use Rattle.pcfs_ports.specs.Observable.{with_back}
 use Rattle.pcfs_secrets.specs.declared.secrets.Secrets.{Secrets}
 use Rattle.pcfs_session.specs.InterpreterView.{InterpreterView, standing_of}
@@ -68,35 +70,48 @@ done_tells InputTooLong held faults status held_after faults_after broken is (in
 done_tells Stopped held faults status held_after faults_after broken is tells = absurd (not_zero status 5 is tells.0 (omega arith))
 
 -- the whole input was run
-done_writes : (start end : ScriptState) (before after : Streams) (how : ScriptEnd) (whole script : List ℕ) → how ≡ Done → before.left ≡ Some script → ScriptWrites start end before after how whole → RunsOver start (lines_of script) end whole × (end.met ≡ None)
-done_writes start end before after _ _ script is left (ends.done bytes written reads short runs met) =
+done_writes : (start end : ScriptState) (before after : Streams) (how : ScriptEnd) (replies : List LineReply) (script : List ℕ) → how ≡ Done → before.left ≡ Some script → ScriptWrites start end before after how replies → RunsOver start (lines_of script) end replies × (end.met ≡ None)
+done_writes start end before after _ _ script is left (ends.done bytes replies reads short runs met) =
     let same : script ≡ bytes = subst (λ (o : Option (List ℕ)). IfSome o (λ l. l ≡ bytes)) left reads.all in
-    (subst (λ (b : List ℕ). RunsOver start (lines_of b) end written) (sym same) runs, met)
-done_writes start end before after _ _ script is left (ends.line_too_long lines written cut runs met) = absurd cc
-done_writes start end before after _ _ script is left (ends.read_fault lines written risen taken runs met) = absurd cc
-done_writes start end before after _ _ script is left (ends.input_too_long lines written takes taken runs met) = absurd cc
-done_writes start end before after _ _ script is left (ends.stopped written met way is_met) = absurd cc
+    (subst (λ (b : List ℕ). RunsOver start (lines_of b) end replies) (sym same) runs, met)
+done_writes start end before after _ _ script is left (ends.line_too_long lines replies cut runs met) = absurd cc
+done_writes start end before after _ _ script is left (ends.read_fault lines replies risen taken runs met) = absurd cc
+done_writes start end before after _ _ script is left (ends.input_too_long lines replies takes taken runs met) = absurd cc
+done_writes start end before after _ _ script is left (ends.stopped replies met way is_met) = absurd cc
 
-done_ends : (start end : ScriptState) (before after : Streams) (how : ScriptEnd) (script held : List ℕ) → how ≡ Done → before.left ≡ Some script → before.held ≡ Some [] → after.held ≡ Some held → ScriptEnds start end before after how →
-    RunsOver start (lines_of script) end held × (end.met ≡ None)
-done_ends start end before after _ script held is left first last (ends.written how whole writes held_is) =
-    let both = done_writes start end before after how whole script is left writes in
-    let same : whole ≡ held = same_some whole held (sym (held_is ∙ ap (λ (o : Option (List ℕ)). with_back o whole) first) ∙ last) in
-    (subst (RunsOver start (lines_of script) end) same both.0, both.1)
-done_ends start end before after _ script held is left first last (ends.cut_short whole risen way some) = absurd cc
-done_ends start end before after _ script held is left first last (ends.cut_at_long_line whole risen writes some) = absurd cc
-done_ends start end before after _ script held is left first last (ends.out_of_memory whole way met some) = absurd cc
-done_ends start end before after _ script held is left first last (ends.out_of_memory_at_long_line whole writes some) = absurd cc
+-- and its replies are what the output holds
+record IsWholeRun (start end : ScriptState) (script held : List ℕ) : Type 0 where
+  replies : List LineReply
+  runs : RunsOver start (lines_of script) end replies
+  running : end.met ≡ None
+  held_is : held ≡ output_of replies
+
+done_ends : (buffered : ℕ) (start end : ScriptState) (before after : Streams) (how : ScriptEnd) (script held : List ℕ) → how ≡ Done → before.left ≡ Some script → before.held ≡ Some [] → after.held ≡ Some held → ScriptEnds buffered start end before after how →
+    IsWholeRun start end script held
+done_ends buffered start end before after _ script held is left first last (ends.written how replies writes held_is) =
+    let both = done_writes start end before after how replies script is left writes in
+    let same : output_of replies ≡ held = same_some (output_of replies) held (sym (held_is ∙ ap (λ (o : Option (List ℕ)). with_back o (output_of replies)) first) ∙ last) in
+    record { replies = replies; runs = both.0; running = both.1; held_is = sym same }
+done_ends buffered start end before after _ script held is left first last (ends.cut_short replies risen way some) = absurd cc
+done_ends buffered start end before after _ script held is left first last (ends.cut_at_long_line replies risen writes some) = absurd cc
+done_ends buffered start end before after _ script held is left first last (ends.out_of_memory replies way met some) = absurd cc
+done_ends buffered start end before after _ script held is left first last (ends.out_of_memory_at_long_line replies writes some) = absurd cc
 
 module _ {D : Type 0} (clock : D → ℕ) (left_since : D → ℕ → List ℕ → Type 0) (image : D → Option (List ℕ)) (faults : D → ℕ) where
   -- the script in an input was run to its end, if the status is 0
-  pub IsRunThrough-done : (old new : InterpreterView D) (before after : Streams) (broken : Broken) (script held told : List ℕ) (status events : ℕ) → AnswersInput clock left_since image faults old before status new after broken → status ≡ 0 → before.left ≡ Some script → before.held ≡ Some [] →
+  pub IsRunThrough-done : (buffered : ℕ) (old new : InterpreterView D) (before after : Streams) (broken : Broken) (script held told : List ℕ) (status events : ℕ) → AnswersInput clock left_since image faults buffered old before status new after broken → status ≡ 0 → before.left ≡ Some script → before.held ≡ Some [] →
       after.held ≡ Some held → events ≡ (replay new.store.base new.store.events).count → told ≡ summary_text (lines_of held) events → IsRunThrough (standing_of old None) script told
-  IsRunThrough-done old new before after broken script held told status events answers is left first last events_is told_is =
+  IsRunThrough-done buffered old new before after broken script held told status events answers is left first last events_is told_is =
       let a = answers.ends in
       let t = done_tells a.how a.held a.write_faults status after.held after.write_faults broken.output is a.tells in
-      let r = done_ends (standing_of old None) (standing_of new answers.met) before (record after { held = a.held; write_faults = a.write_faults }) a.how script held t.0 left first (sym t.1 ∙ last) a.ends in
-      record { end = standing_of new answers.met; written = held; runs = r.0; running = r.1; told_is = told_is ∙ ap (summary_text (lines_of held)) events_is }
+      let r = done_ends buffered (standing_of old None) (standing_of new answers.met) before (record after { held = a.held; write_faults = a.write_faults }) a.how script held t.0 left first (sym t.1 ∙ last) a.ends in
+      record {
+        end = standing_of new answers.met;
+        replies = r.replies;
+        runs = r.runs;
+        running = r.running;
+        told_is = told_is ∙ ap (summary_text (lines_of held)) events_is ∙ ap (λ (b : List ℕ). summary_text (lines_of b) (replay new.store.base new.store.events).count) r.held_is;
+      }
 
 -- the generated script was run, from before the first event
 pub IsLoaded-run : (rounds seed : ℕ) (secrets : Secrets) (start : ScriptState) (script told : List ℕ) → secrets ≡ load_secrets → start ≡ fresh_start secrets → script ≡ script_text rounds seed → IsRunThrough start script told → IsLoaded rounds seed told

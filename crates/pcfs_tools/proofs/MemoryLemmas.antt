@@ -1,5 +1,5 @@
 -- A script over a store in memory.
-use Rattle.std.proofs.Common.{◌≡◌, ◌⊎◌, inl, inr, ℕ, List, [], ap, sym, subst, ◌∙◌, None}
+use Rattle.std.proofs.Common.{◌≡◌, ◌⊎◌, inl, inr, ◌-◌, ℕ, List, [], ap, sym, subst, ◌∙◌, None}
 use Rattle.journal_records.specs.declared.event.Event.{Event}
 use Rattle.access_history.specs.Replay.{fresh}
 use Rattle.policy_statement.specs.Ring.{KeyView}
@@ -15,6 +15,7 @@ use Rattle.pcfs_tools.specs.Broken.{Broken}
 use Rattle.pcfs_tools.specs.Memory.{MemoryEnds}
 use Rattle.pcfs_tools.specs.Memory as memory
 use Rattle.pcfs_tools.specs.ScriptStatus.{ScriptStatus}
+use Rattle.pcfs_tools.specs.declared.memory.TheConstants.{ENOUGH}
 
 abbrev pub secrets_of : List ℕ → List KeyView → Secrets
 secrets_of key ring = record { seal_key = key; ring = ring }
@@ -30,10 +31,10 @@ fresh_over secrets s new =
     ∙ ap (λ (n : ℕ). record (standing_over s None (first_asker script_pass)) { secrets = secrets; base = fresh; events = []; checkpoints = []; generation = n }) new.generation_is
     ∙ ap (λ (n : ℕ). record (standing_over s None (first_asker script_pass)) { secrets = secrets; base = fresh; events = []; checkpoints = []; generation = 1; used = n }) new.used_is
 
-pub MemoryEnds-ran : (secrets : Secrets) (before after : Streams) (broken : Broken) (start end : ScriptState) (status result : ℕ) → start ≡ fresh_start secrets → ScriptStatus start end before after broken status →
+pub MemoryEnds-ran : (secrets : Secrets) (before after : Streams) (broken : Broken) (start end : ScriptState) (status result : ℕ) → start ≡ fresh_start secrets → ScriptStatus (ENOUGH - 1) start end before after broken status →
     ((status ≡ 5) × (result ≡ 9)) ⊎ ((status ≡ 5 → ⊥) × (result ≡ status)) → MemoryEnds secrets before after broken result
 MemoryEnds-ran secrets before after broken start end status result same ends (inl is) =
     subst (MemoryEnds secrets before after broken) (sym is.1)
-    (memory.disk_failed end (subst (λ (n : ℕ). ScriptStatus (fresh_start secrets) end before after broken n) is.0 (subst (λ (s : ScriptState). ScriptStatus s end before after broken status) same ends)))
+    (memory.disk_failed end (subst (λ (n : ℕ). ScriptStatus (ENOUGH - 1) (fresh_start secrets) end before after broken n) is.0 (subst (λ (s : ScriptState). ScriptStatus (ENOUGH - 1) s end before after broken status) same ends)))
 MemoryEnds-ran secrets before after broken start end status result same ends (inr is) =
-    subst (MemoryEnds secrets before after broken) (sym is.1) (memory.ended status end is.0 (subst (λ (s : ScriptState). ScriptStatus s end before after broken status) same ends))
+    subst (MemoryEnds secrets before after broken) (sym is.1) (memory.ended status end is.0 (subst (λ (s : ScriptState). ScriptStatus (ENOUGH - 1) s end before after broken status) same ends))

@@ -5,6 +5,8 @@ use Rattle.std.specs.Fmt.{decimal}
 use Rattle.std.specs.Str.{bytes_eq}
 use Rattle.line_text.specs.Lines.{lines_of}
 use Rattle.line_words.specs.Cutting.{first_cut}
+use Rattle.line_wire.specs.declared.reply.LineReply.{LineReply}
+use Rattle.line_wire.specs.ReplyText.{output_of}
 use Rattle.generated_script.specs.Script.{script_text}
 use Rattle.policy_statement.specs.Ring.{keyed}
 use Rattle.pcfs_secrets.specs.declared.secrets.Secrets.{Secrets}
@@ -49,10 +51,10 @@ summary_text replies events = summary_of (length replies) (count_of (codes "ok")
 -- the last event
 pub record IsRunThrough (start : ScriptState) (script told : List ℕ) : Type 0 where
   pub end : ScriptState
-  pub written : List ℕ
-  pub runs : RunsOver start (lines_of script) end written
+  pub replies : List LineReply
+  pub runs : RunsOver start (lines_of script) end replies
   pub running : end.met ≡ None
-  pub told_is : told ≡ summary_text (lines_of written) (state_of_standing end).count
+  pub told_is : told ≡ summary_text (lines_of (output_of replies)) (state_of_standing end).count
 
 -- what is told of a large run: the script of so many rounds and that seed was run to its end, from
 -- before the first event

@@ -30,15 +30,17 @@ TellsEnd NoMemory held faults result held_after faults_after broken = IsSilent 9
 TellsEnd InputTooLong held faults result held_after faults_after broken = Wrote 13 (codes "toolong") held faults result held_after faults_after broken
 TellsEnd Stopped held faults result held_after faults_after broken = IsSilent 5 held faults result held_after faults_after
 
--- A script ended, when the output held these bytes and had had so many faults, and after that its
--- last line was written. Unless it ended by a fault of the input, no call of that failed, and
--- unless by one of the output, none of that before the last line; and the call that failed was the
--- last one of that stream.
-pub record ScriptStatus (start end : ScriptState) (before after : Streams) (broken : Broken) (status : ℕ) : Type 0 where
+-- A script ended, with at most so many bytes of replies buffered, when the output held these bytes
+-- and had had so many faults, and after that its last line was written. Unless it ended by a fault
+-- of the input, no call of that failed, and unless by one of the output, none of that before the
+-- last line; and the call that failed was the last one of that stream.
+pub record ScriptStatus (buffered : ℕ) (start end : ScriptState) (before after : Streams)
+    (broken : Broken) (status : ℕ) : Type 0 where
   pub how : ScriptEnd
   pub held : Option (List ℕ)
   pub write_faults : ℕ
-  pub ends : ScriptEnds start end before (record after { held = held; write_faults = write_faults }) how
+  pub ends : ScriptEnds buffered start end before
+      (record after { held = held; write_faults = write_faults }) how
   pub never_falls : before.write_faults ≤ write_faults
   pub nothing_failed : NothingFailedBefore before how (record after { held = held; write_faults = write_faults })
   pub read_failed : how ≡ ReadFault → FailedLast before.read_faults after.read_faults broken.input
@@ -49,7 +51,9 @@ pub record ScriptStatus (start end : ScriptState) (before after : Streams) (brok
 module _ {D : Type 0} (clock : D → ℕ) (left_since : D → ℕ → List ℕ → Type 0) (image : D → Option (List ℕ)) (faults : D → ℕ) where
   -- the script in the input is answered by an interpreter and ends with this status, and its store
   -- goes on
-  pub record AnswersInput (old : InterpreterView D) (before : Streams) (status : ℕ) (new : InterpreterView D) (after : Streams) (broken : Broken) : Type 0 where
+  pub record AnswersInput (buffered : ℕ) (old : InterpreterView D) (before : Streams) (status : ℕ)
+      (new : InterpreterView D) (after : Streams) (broken : Broken) : Type 0 where
     pub met : Option StoreEntry
-    pub ends : ScriptStatus (standing_of old None) (standing_of new met) before after broken status
+    pub ends : ScriptStatus buffered (standing_of old None) (standing_of new met) before after
+        broken status
     pub goes_on : StoreGoesOn clock left_since image faults old.store new.store met

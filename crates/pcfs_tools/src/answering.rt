@@ -1,6 +1,6 @@
 //! A script over a store, and the status to end with.
 
-ghost use Rattle.std.specs.Prelude.{◌≡◌, None};
+ghost use Rattle.std.specs.Prelude.{◌≡◌, ◌-◌, None};
 ghost use Rattle.pcfs_session.specs.ScriptContext.{ScriptContext, first_asker};
 ghost use Rattle.pcfs_session.specs.InterpreterView.{standing_over};
 ghost use Rattle.pcfs_session.specs.ScriptRun.{IsLawfulStanding, script_pass};
@@ -63,7 +63,8 @@ fn write_end<O: Sink>(output: &mut O, end: ScriptEnd) -> u8
 
 /// Runs the script in the input over the store, and returns the status to end with, and the store. By the order of the code
 /// replies are written once they have `enough` bytes, and before more of the input is taken. Nothing is read after a read
-/// that failed, and nothing written after a write that failed.
+/// that failed, and nothing written after a write that failed; no line is answered after one whose reply could not be sent,
+/// and fewer than `enough` bytes of those before it are missing then, and none if memory ran out.
 pub fn run_over<D: Disk, I: Source, O: Sink>(
     alloc: Global,
     store: Store<D>,
@@ -73,7 +74,9 @@ pub fn run_over<D: Disk, I: Source, O: Sink>(
 ) -> (u8, Store<D>)
     requires lawful { IsLawfulStanding (standing_over store None (first_asker script_pass)) }
     requires running { store.stop ≡ None }
-    ensures { (asker : ScriptContext) × AnswersInput D.clock D.left_since D.image D.faults (record { store = store; asker = first_asker script_pass })
+    ensures { (asker : ScriptContext) ×
+        AnswersInput D.clock D.left_since D.image D.faults (enough - 1)
+        (record { store = store; asker = first_asker script_pass })
         (streams_of I.left I.faults O.held O.faults input.old output.old) result.0
         (record { store = result.1; asker = asker })
         (streams_of I.left I.faults O.held O.faults input.new output.new)

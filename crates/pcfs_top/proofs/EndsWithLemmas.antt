@@ -17,15 +17,15 @@ use Rattle.pcfs_store.specs.Formats.{IsNewStore, IsNoneOrFresh, PairsLeft}
 use Rattle.pcfs_store.specs.Image.{fresh_image}
 use Rattle.pcfs_store.specs.StoredHistory.{area_since, payloads_of, state_after}
 use Rattle.pcfs_store.specs.Entries.{StoreEntry}
-use Rattle.pcfs_store.specs.Newest.{newer, newest, one_of, IsNewestAtOrNext}
+use Rattle.pcfs_store.specs.Newest.{newer, newest, one_of, IsNewestAtOrNext, NewestBegins}
 use Rattle.pcfs_store.specs.StoreView.{StoreView, first_disk, second_disk, NoneFailed, IsStore, body_of, head_of, image_since, image_of, last_after, records_of, settled_of, state_of_store}
-use Rattle.pcfs_store.specs.Ready.{IsReady, IsCurrent, IsBehind}
+use Rattle.pcfs_store.specs.Ready.{IsReady, IsCurrent, IsAtRest, IsBehind, SurvivesCheckpoint}
 use Rattle.pcfs_store.specs.declared.format.FormatFault.{FormatFault}
 use Rattle.pcfs_store.specs.declared.format.FormatFault.TheVariants as formats
 use Rattle.pcfs_store.specs.declared.checkpoints.Checkpoint.{Checkpoint}
 use Rattle.pcfs_store.specs.declared.reply.CheckpointReply.{CheckpointReply}
 use Rattle.pcfs_store.specs.declared.reply.CheckpointReply.TheVariants as checkpoints
-use Rattle.pcfs_store.specs.Checkpoints.{Checkpoints, IsFullForCheckpoint, IsNewestCheckpoint, IsNewestMet, MakesCheckpoint, place_after}
+use Rattle.pcfs_store.specs.Checkpoints.{Checkpoints, IsFullForCheckpoint, IsNewestCheckpoint, IsNewestMet, SurvivesMetAt, MakesCheckpoint, place_after}
 use Rattle.pcfs_store.specs.Checkpoints as makes
 use Rattle.pcfs_store.proofs.CountLemmas.{NoneFailed-checkpoint}
 use Rattle.pcfs_store.proofs.SurvivalLemmas.{at_some, told_pairs, tellable_store, generation_since, newest_active, ready_current, current_stands}
@@ -379,6 +379,24 @@ module _ {D : Type 0} (clock : D → ℕ) (left_since : D → ℕ → List ℕ �
   pinned_active false active other one two = one
   pinned_active true active other one two = two
 
+  pinned_other : (second : Bool) (active other : D) → IsPinned clock left_since image (one_of active other second) → IsPinned clock left_since image (one_of other active second) → IsPinned clock left_since image other
+  pinned_other false active other one two = two
+  pinned_other true active other one two = one
+
+  -- a store that was opened is at rest, with the closed gate of its area or without it
+  pub opened_at_rest : (secrets : Secrets) (a b : D) (s : StoreView D) → opening.IsOpened clock left_since image faults a b secrets.seal_key secrets.ring s → (x y : List ℕ) → image a ≡ Some x → image b ≡ Some y → IsAtRest clock left_since image s
+  opened_at_rest secrets a b s opened x y is_x is_y =
+      let told = told_at s.second_active s.active s.other x y (opened.first_read.same ∙ is_x) (opened.second_read.same ∙ is_y) in
+      record {
+        current = opened.current x y is_x is_y;
+        active_bytes = one_of x y s.second_active;
+        active_told = told.0;
+        active_pinned = pinned_active s.second_active s.active s.other opened.first_read.pinned opened.second_read.pinned;
+        other_bytes = one_of y x s.second_active;
+        other_told = told.1;
+        other_pinned = pinned_other s.second_active s.active s.other opened.first_read.pinned opened.second_read.pinned;
+      }
+
   risen_other : (second : Bool) (active other new : D) → HasRisen (faults other) (faults new) →
       HasRisen (faults (one_of active other second)) (faults (one_of active new second)) ⊎ HasRisen (faults (one_of other active second)) (faults (one_of new active second))
   risen_other false active other new risen = inr risen
@@ -471,12 +489,18 @@ module _ {D : Type 0} (clock : D → ℕ) (left_since : D → ℕ → List ℕ �
     ends before after broken broken' result checkpoints.Stopped made input tells =
         told_as words secrets (rests_of a b (first_disk s') (second_disk s')) (record { streams = before; broken = broken; disks = disks_of a b }) (record { streams = after; broken = broken'; disks = disks_of (first_disk s') (second_disk s') }) 5 (codes "stopped") result
         (run.not_checkpointed s.generation s.opened (standing_over s None (first_asker script_pass)) is is_start (stopped_fits s s' pass opened.running made.answer) (risen_since secrets a b s s' opened (stopped_risen s s' pass opened.running made.answer)) (stays_by (stopped_stays s s' pass opened.running made.answer))
-        (λ x y is_x is_y closed x' y' is_x' is_y'.
-        let halts = made.halts (opened.ready x y is_x is_y closed) refl x' y' (may_stay (first_disk s') x' is_x') (may_stay (second_disk s') y' is_y') in
-        let now = counts_now s store (opened.current x y is_x is_y) x y (opened.first_read.same ∙ is_x) (opened.second_read.same ∙ is_y) in (
-          halts.0,
-          λ second counts. subst (λ (w : Bool). IsNewestAtOrNext s.generation w x' y') (same_place s.second_active second (sym now ∙ counts)) halts.1,
-        ))) input tells
+        (record {
+          survives = λ x y is_x is_y closed x' y' is_x' is_y'.
+              let halts = made.halts (opened.ready x y is_x is_y closed) refl x' y' (may_stay (first_disk s') x' is_x') (may_stay (second_disk s') y' is_y') in
+              let now = counts_now s store (opened.current x y is_x is_y) x y (opened.first_read.same ∙ is_x) (opened.second_read.same ∙ is_y) in (
+                halts.0,
+                λ second counts. subst (λ (w : Bool). IsNewestAtOrNext s.generation w x' y') (same_place s.second_active second (sym now ∙ counts)) halts.1,
+              );
+          at_rest = λ x y is_x is_y second counts x' y' is_x' is_y'.
+              let now = counts_now s store (opened.current x y is_x is_y) x y (opened.first_read.same ∙ is_x) (opened.second_read.same ∙ is_y) in
+              subst (λ (w : Bool). SurvivesCheckpoint s.base s.events s.generation w x' y') (same_place s.second_active second (sym now ∙ counts))
+              (made.halts_at_rest (opened_at_rest secrets a b s opened x y is_x is_y) refl x' y' (may_stay (first_disk s') x' is_x') (may_stay (second_disk s') y' is_y'));
+        })) input tells
     ends before after broken broken' result checkpoints.NoMemory made input tells =
         untold_as words secrets (rests_of a b (first_disk s') (second_disk s')) (record { streams = before; broken = broken; disks = disks_of a b }) (record { streams = after; broken = broken'; disks = disks_of (first_disk s') (second_disk s') }) result
         (run.over_store (of_checkpoint is) (kept_by (unmade_same s s' pass made.answer))) input tells
@@ -517,6 +541,20 @@ module _ {D : Type 0} (clock : D → ℕ) (left_since : D → ℕ → List ℕ �
               let now = counts_now s store (opened.current x y is_x is_y) x y (opened.first_read.same ∙ is_x) (opened.second_read.same ∙ is_y) in
               subst (λ (w : Bool). IsNewestMet s'.generation w entry x' y') (place_moved added s'.checkpoints s.second_active second s'.second_active all (same_place s.second_active second (sym now ∙ counts)) goes.place_is)
               (goes.halts (opened.ready x y is_x is_y closed) entry same x' y' (may_stay (first_disk s') x' is_x') (may_stay (second_disk s') y' is_y')).1;
+          mended = λ entry same more x y is_x is_y second counts x' y' is_x' is_y'.
+              let now = counts_now s store (opened.current x y is_x is_y) x y (opened.first_read.same ∙ is_x) (opened.second_read.same ∙ is_y) in
+              subst (λ (w : Bool). SurvivesMetAt s'.base s'.events s'.generation w entry x' y') (place_moved added s'.checkpoints s.second_active second s'.second_active all (same_place s.second_active second (sym now ∙ counts)) goes.place_is)
+              (goes.halts_mended (opened_at_rest secrets a b s opened x y is_x is_y) entry same (λ nothing. more nothing.events_stay (nothing.checkpoints_stay ∙ opened.unsettled)) x' y' (may_stay (first_disk s') x' is_x') (may_stay (second_disk s') y' is_y'));
+          unclosed = λ pass same x y is_x is_y second counts x' y' is_x' is_y'.
+              let now = counts_now s store (opened.current x y is_x is_y) x y (opened.first_read.same ∙ is_x) (opened.second_read.same ∙ is_y) in
+              subst (λ (w : Bool). SurvivesCheckpoint s'.base s'.events s'.generation w x' y') (place_moved added s'.checkpoints s.second_active second s'.second_active all (same_place s.second_active second (sym now ∙ counts)) goes.place_is)
+              (goes.halts_checkpoint (opened_at_rest secrets a b s opened x y is_x is_y) pass same x' y' (may_stay (first_disk s') x' is_x') (may_stay (second_disk s') y' is_y'));
+          begins = λ event same x y is_x is_y second counts x' y' is_x' is_y'.
+              let now = counts_now s store (opened.current x y is_x is_y) x y (opened.first_read.same ∙ is_x) (opened.second_read.same ∙ is_y) in
+              let there = place_moved added s'.checkpoints s.second_active second s'.second_active all (same_place s.second_active second (sym now ∙ counts)) goes.place_is in
+              subst (λ (found : List ℕ). NewestBegins s'.generation (place_after (length s'.checkpoints) second) (area_bytes s'.generation (image_since found (head_of s') s'.checkpoints) (payloads_of (records_of s'))) x' y') goes.opened_stays
+              (subst (λ (w : Bool). NewestBegins s'.generation w (body_of s') x' y') there
+              (goes.halts_event (opened_at_rest secrets a b s opened x y is_x is_y) event same x' y' (may_stay (first_disk s') x' is_x') (may_stay (second_disk s') y' is_y')));
           other_stays = λ none untried x y is_x is_y second counts.
               let now = counts_now s store (opened.current x y is_x is_y) x y (opened.first_read.same ∙ is_x) (opened.second_read.same ∙ is_y) in
               subst (λ (w : Bool). one_of (image (second_disk s')) (image (first_disk s')) w ≡ one_of (image b) (image a) w) (same_place s.second_active second (sym now ∙ counts))
@@ -525,7 +563,7 @@ module _ {D : Type 0} (clock : D → ℕ) (left_since : D → ℕ → List ℕ �
 
   module _ (words : List (String Global)) (secrets : Secrets) (a b : D) (is : AsksFor words Stored) where
     pub EndsWith-stored : (may_stay : (d : D) (bytes : List ℕ) → image d ≡ Some bytes → left_since d (clock d) bytes) (before after : Streams) (broken broken' : Broken) (result : ℕ) (s s' : StoreView D) (asker : ScriptContext) (a' b' : D) → IsStore s → IsStore s' →
-        opening.IsOpened clock left_since image faults a b secrets.seal_key secrets.ring s → AnswersInput clock left_since image faults (record { store = s; asker = first_asker script_pass }) before result (record { store = s'; asker = asker }) after broken' →
+        opening.IsOpened clock left_since image faults a b secrets.seal_key secrets.ring s → AnswersInput clock left_since image faults 0 (record { store = s; asker = first_asker script_pass }) before result (record { store = s'; asker = asker }) after broken' →
         a' ≡ first_disk s' → b' ≡ second_disk s' → EndsWith secrets words (rests_of a b a' b') (record { streams = before; broken = broken; disks = disks_of a b }) (record { streams = after; broken = broken'; disks = disks_of a' b' }) result
     EndsWith-stored may_stay before after broken broken' result s s' asker a' b' store store' opened answers a_is b_is =
         subst (λ (x : D). EndsWith secrets words (rests_of a b x b') (record { streams = before; broken = broken; disks = disks_of a b }) (record { streams = after; broken = broken'; disks = disks_of x b' }) result) (sym a_is)

@@ -14,9 +14,10 @@ use Rattle.checkpoint_image.specs.ImageSpelling.{image_spelling}
 use Rattle.pcfs_store.specs.Image.{fresh_image}
 use Rattle.pcfs_store.specs.StoredHistory.{payloads_of, state_after, StandsFor}
 use Rattle.pcfs_store.specs.Formats.{IsNoneOrFresh}
-use Rattle.pcfs_store.specs.Newest.{SurvivesWholeClosed, IsNewestAtOrNext, newer, newest, one_of}
-use Rattle.pcfs_store.specs.Checkpoints.{place_after, SurvivesMet, IsNewestMet}
-use Rattle.pcfs_store.specs.Entries.{StoreEntry, checkpointed as checkpoint_mark}
+use Rattle.pcfs_store.specs.Newest.{SurvivesWholeClosed, IsNewestAtOrNext, NewestBegins, newer, newest, one_of}
+use Rattle.pcfs_store.specs.Ready.{SurvivesCheckpoint}
+use Rattle.pcfs_store.specs.Checkpoints.{place_after, SurvivesMet, IsNewestMet, SurvivesMetAt}
+use Rattle.pcfs_store.specs.Entries.{StoreEntry, happened as event_mark, checkpointed as checkpoint_mark}
 use Rattle.pcfs_store.specs.StoreView.{last_after, image_since}
 use Rattle.pcfs_store.specs.declared.format.FormatFault.{FormatFault}
 use Rattle.pcfs_store.specs.declared.format.FormatFault.TheVariants as formats
@@ -109,8 +110,12 @@ image_in opened s = image_since opened (head_in s) s.checkpoints
 -- if the opened area had its closed gate, the newest one that comes back stands for the history at
 -- the end, or, if an event met the fault, for it with this event; it has that generation, and is on
 -- the disk on which the checkpoints put it; or, if a checkpoint met the fault, perhaps the next one,
--- on the other disk. The area that did not count is as it was, if no checkpoint was made, and none
--- met the fault.
+-- on the other disk. All this is so too if the opened area lacked its closed gate and an event was
+-- kept or a checkpoint made before the fault; if neither was and a checkpoint met it, but for the
+-- closed gate; and if neither was and an event met it, the newest area has that generation, is on
+-- that disk, and begins with the image and the records of the history, and what follows is left
+-- open. The area that did not count is as it was, if no checkpoint was made, and none met the
+-- fault.
 pub record Returns (rests : Rests) (generation : ℕ) (image : List ℕ) (before after : Disks) (start end : ScriptState) : Type 0 where
   pub grown : end.generation ≡ generation + length end.checkpoints
   pub whole : IfTold before (λ x y. end.met ≡ None → IfTold after (IsNewestOf end.generation (head_in end) (records_in end)))
@@ -129,6 +134,19 @@ pub record Returns (rests : Rests) (generation : ℕ) (image : List ℕ) (before
       IsNewestClosed generation image start.events x y → (second : Bool) →
       newer (generation_of x) (generation_of y) ≡ Some second →
       IfTold after (IsNewestMet end.generation (place_after (length end.checkpoints) second) met))
+  pub mended : (met : StoreEntry) → end.met ≡ Some met →
+      (end.events ≡ start.events → end.checkpoints ≡ [] → ⊥) → IfTold before (λ x y.
+      (second : Bool) → newer (generation_of x) (generation_of y) ≡ Some second → IfTold after
+      (SurvivesMetAt end.base end.events end.generation
+      (place_after (length end.checkpoints) second) met))
+  pub unclosed : (pass : ℕ) → end.met ≡ Some (checkpoint_mark pass) → IfTold before (λ x y.
+      (second : Bool) → newer (generation_of x) (generation_of y) ≡ Some second → IfTold after
+      (SurvivesCheckpoint end.base end.events end.generation
+      (place_after (length end.checkpoints) second)))
+  pub begins : (event : Event) → end.met ≡ Some (event_mark event) → IfTold before (λ x y.
+      (second : Bool) → newer (generation_of x) (generation_of y) ≡ Some second → IfTold after
+      (NewestBegins end.generation (place_after (length end.checkpoints) second)
+      (area_bytes end.generation (image_in image end) (payloads_of (records_in end)))))
   pub other_stays : end.checkpoints ≡ [] → ((pass : ℕ) → end.met ≡ Some (checkpoint_mark pass) → ⊥)
       → IfTold before (λ x y. (second : Bool) → newer (generation_of x) (generation_of y)
       ≡ Some second → one_of after.b after.a second ≡ one_of before.b before.a second)
@@ -155,6 +173,17 @@ abbrev pub NewestStays : Disks → Disks → Type 0
 NewestStays before after = IfTold before (λ x y. (second : Bool) →
     newer (generation_of x) (generation_of y) ≡ Some second → one_of after.a after.b second
     ≡ one_of before.a before.b second)
+
+-- What is left where a checkpoint met the fault of a disk: the history, in the area that was opened
+-- or in one of the next generation on the other disk; over a closed area it has its closed gate.
+pub record IsLeftUnmade (generation : ℕ) (image : List ℕ) (base : BaseView) (events : List Event) (before after : Disks) : Type 0 where
+  pub survives : IfTold before (λ x y. IsNewestClosed generation image events x y →
+      IfTold after (λ u v. SurvivesWholeClosed base events u v × ((second : Bool) →
+      newer (generation_of x) (generation_of y) ≡ Some second →
+      IsNewestAtOrNext generation second u v)))
+  pub at_rest : IfTold before (λ x y. (second : Bool) →
+      newer (generation_of x) (generation_of y) ≡ Some second →
+      IfTold after (SurvivesCheckpoint base events generation second))
 
 -- What is left where the making of a store met the fault of a disk: if an area was open, all bytes
 -- are as they were; if none was, none is, or the new one. The second disk is as it was.
@@ -201,9 +230,7 @@ pub data HasCause (secrets : Secrets) (words : List (String Global)) (rests : Re
       AsksFor words Checkpoint → IsOpened secrets generation image before start →
       (HasNoNextArea generation (state_of_start start) → ⊥) → HasDiskFailed before after →
       NewestStays before after →
-      IfTold before (λ x y. IsNewestClosed generation image start.events x y → IfTold after (λ u v.
-      SurvivesWholeClosed start.base start.events u v × ((second : Bool) →
-      newer (generation_of x) (generation_of y) ≡ Some second → IsNewestAtOrNext generation second u v))) →
+      IsLeftUnmade generation image start.base start.events before after →
       HasCause secrets words rests before after 5 (codes "stopped")
   audited : (pieces : Option ℕ) (generation : ℕ) (image : List ℕ) (start : ScriptState) (report : Report) →
       AsksFor words (Audit pieces) → IsOpened secrets generation image before start →
@@ -249,11 +276,12 @@ pub data IsUndone (words : List (String Global)) (before after : Disks) : Type 0
 
 -- The status that a run ends with, and its cause. A script in memory ends as its lines say, and
 -- leaves the disks alone; its own disks are in memory, and fail only if memory runs out. A script
--- over the areas begins where they stand, and so do messages that are taken by their store. An
--- export writes the messages of the events in the areas, or that they are gone, and leaves the
--- bytes of the disks as they are. An inquiry ends as its lines say, and leaves the disks alone. Any
--- other run writes its line, or the output failed, at its last call, and holds some first part of
--- it; an audit, the lines of its report. Memory may run out before that, and then nothing changes.
+-- over the areas begins where they stand, and so do messages that are taken by their store; none of
+-- its replies is buffered while the next line is answered. An export writes the messages of the
+-- events in the areas, or that they are gone, and leaves the bytes of the disks as they are. An
+-- inquiry ends as its lines say, and leaves the disks alone. Any other run writes its line, or the
+-- output failed, at its last call, and holds some first part of it; an audit, the lines of its
+-- report. Memory may run out before that, and then nothing changes.
 -- At an end by a fault of the output one call of it failed, and it was the last, and at each other
 -- end none; so it is with an input that is read, and of one that is not read no call failed. Of the
 -- disks none failed, but at an end at which `stopped` was to be written last: it was at 5, and may
@@ -266,7 +294,7 @@ pub data EndsWith (secrets : Secrets) (words : List (String Global)) (rests : Re
       AsksFor words Stored →
       IsOpened secrets generation image before.disks start →
       Returns rests generation image before.disks after.disks start end →
-      ScriptStatus start end before.streams after.streams after.broken status →
+      ScriptStatus 0 start end before.streams after.streams after.broken status →
       EndsWith secrets words rests before after status
   followed : (status generation : ℕ) (image : List ℕ) (start end : ScriptState) →
       AsksFor words Follow → IsOpened secrets generation image before.disks start →

@@ -481,6 +481,9 @@ pub fn run_asked<R: Threads + Wait + Sync, I: Source, O: Sink, D: Disk>(
 /// replies of a script to the lines before, and the lines for the messages before, come before that line, and at 12 and 18
 /// what `rootsign` wrote of the lines before.
 ///
+/// At 7 and 9 the output of a script over the areas has the replies to all lines that were done, but perhaps that to the
+/// last, and so has that of one in memory at 9; at 7 it may lack 65,535 bytes before that one too.
+///
 /// Nothing is written after a write that failed, and nothing is read after a read that failed. No call of a disk failed,
 /// unless `stopped` is the last line or reply, or was to be at 7.
 pub fn run_alone<R: Threads + Wait + Sync, I: Source, O: Sink, D: Disk>(

@@ -3,6 +3,7 @@ use Rattle.std.proofs.Common.{◌≡◌, ◌∙◌, ◌⊎◌, inl, inr, ⊎_eli
 use Rattle.std.specs.Prelude.{ℤ, ◌≢◌, not, is_some}
 use Rattle.std.proofs.lemmas.Bool.{cases_lt}
 use mathlib.Core.List.{IsPrefix}
+use Rattle.pcfs_ports.specs.Disk.{IsPinned}
 use Rattle.pcfs_ports.specs.Faults.{HasRisen}
 use Rattle.bl_syntax.specs.TimeOrder.{IsMoment}
 use Rattle.access_history.specs.Answer.{Answers}
@@ -19,9 +20,9 @@ use Rattle.access_history.specs.declared.request.StepRequest.{StepRequest}
 use Rattle.access_history.specs.declared.reply.StepReply.{StepReply}
 use Rattle.pcfs_store.specs.declared.reply.StoreReply.{StoreReply}
 use Rattle.pcfs_store.specs.declared.reply.StoreReply.TheVariants as stores
-use Rattle.pcfs_store.specs.Newest.{one_of}
-use Rattle.pcfs_store.specs.StoreView.{StoreView, authority_of_store, first_disk, second_disk}
-use Rattle.pcfs_store.specs.Ready.{IsReady, IsCurrent, StopsNow, SurvivesStopAt}
+use Rattle.pcfs_store.specs.Newest.{one_of, NewestBegins}
+use Rattle.pcfs_store.specs.StoreView.{StoreView, HasNothingAdded, authority_of_store, first_disk, second_disk, body_of}
+use Rattle.pcfs_store.specs.Ready.{IsReady, IsCurrent, IsAtRest, RestsSince, StopsNow, SurvivesStopAt}
 use Rattle.pcfs_store.specs.declared.checkpoints.Checkpoint.{Checkpoint}
 use Rattle.pcfs_store.specs.declared.reply.CheckpointReply.{CheckpointReply}
 use Rattle.pcfs_store.specs.declared.reply.CheckpointReply.TheVariants as checkpoint_replies
@@ -30,6 +31,7 @@ use Rattle.pcfs_store.specs.Checkpoints as makes
 use Rattle.pcfs_store.specs.Steps.{Steps}
 use Rattle.pcfs_store.specs.Steps as steps
 use Rattle.pcfs_store.proofs.CountLemmas.{NoneFailed-same, NoneFailed-on, NoneFailed-step, NoneFailed-checkpoint}
+use Rattle.pcfs_store.proofs.SurvivalLemmas.{one_longer, rests_ready, rests_same}
 use Rattle.shared_store.specs.GoesOn.{HasGoneOn}
 
 pub none_some : {P : Type 0} (stop : Option ℕ) (pass : ℕ) → stop ≡ None → stop ≡ Some pass → P
@@ -84,6 +86,10 @@ module _ {D : Type 0} (clock : D → ℕ) (left_since : D → ℕ → List ℕ �
     ready = λ is none. is;
     current = λ is none. is;
     halts = λ is pass some. none_some s.stop pass running some;
+    at_rest = λ rest none. rests_same clock left_since image s rest;
+    halts_mended = λ rest pass some. none_some s.stop pass running some;
+    halts_checkpoint = λ rest pass some. none_some s.stop pass running some;
+    halts_event = λ rest pass event some. none_some s.stop pass running some;
     follows = λ pass event some. none_some s.stop pass running some;
     none_failed = λ none. NoneFailed-same faults s;
     failed = λ pass some. none_some s.stop pass running some;
@@ -99,6 +105,8 @@ module _ {D : Type 0} (clock : D → ℕ) (left_since : D → ℕ → List ℕ �
     pub stays_ready : IsReady clock left_since image old → result ≢ stores.Stopped → IsReady clock left_since image new
     pub stays_current : IsCurrent clock left_since image old → result ≢ stores.Stopped → IsCurrent clock left_since image new
     pub met : IsReady clock left_since image old → result ≡ stores.Stopped → StopsNow clock left_since image new (SurvivesStopAt old.base old.events old.generation old.second_active new.met)
+    pub met_at_rest : IsAtRest clock left_since image old → result ≡ stores.Stopped → StopsNow clock left_since image new (NewestBegins old.generation old.second_active (body_of old))
+    pub makes_ready : IsCurrent clock left_since image old → length old.events < length new.events → (active other : List ℕ) → image old.active ≡ Some active → image old.other ≡ Some other → IsPinned clock left_since image old.other → IsReady clock left_since image new
     pub first_told : is_some (image (first_disk new)) ≡ is_some (image (first_disk old))
     pub second_told : is_some (image (second_disk new)) ≡ is_some (image (second_disk old))
     pub first_never_falls : faults (first_disk old) ≤ faults (first_disk new)
@@ -115,13 +123,16 @@ module _ {D : Type 0} (clock : D → ℕ) (left_since : D → ℕ → List ℕ �
   untouched opening old running (inl same) = same
   untouched opening old running (inr failed) = none_some old.stop failed.0 running failed.1
 
+  no_event : {P : Type 0} (event : Event) → ◌≡◌ {A = Option Event} (Some event) None → P
+  no_event event is = absurd cc
+
   module _ (opening : StoreView D) where
     -- the store did not change but in its active disk and its events, and is not stopped
     running_on : (old new : StoreView D) (pass : ℕ) (moment : ℤ) (request : StepRequest) (result : StoreReply) → HasGoneOn clock left_since image faults opening old → Stepped old pass moment request result new → old.stop ≡ None → new.stop ≡ None →
         result ≢ stores.Stopped → new.key ≡ old.key → new.ring ≡ old.ring → new.base ≡ old.base → new.opened ≡ old.opened → IsPrefix opening.events new.events →
         (IsLawful (authority_of_store opening) opening.base opening.events → IsLawful (authority_of_store new) new.base new.events) → new.checkpoints ≡ old.checkpoints → new.generation ≡ old.generation → new.second_active ≡ old.second_active → new.other ≡ old.other →
-        HasGoneOn clock left_since image faults opening new
-    running_on old new pass moment request result g s was is going key ring base opened events lawful checkpoints generation place other = record {
+        (IsAtRest clock left_since image opening → RestsSince clock left_since image opening new) → HasGoneOn clock left_since image faults opening new
+    running_on old new pass moment request result g s was is going key ring base opened events lawful checkpoints generation place other rests = record {
       began = g.began;
       key_stays = key ∙ g.key_stays;
       ring_stays = ring ∙ g.ring_stays;
@@ -136,6 +147,10 @@ module _ {D : Type 0} (clock : D → ℕ) (left_since : D → ℕ → List ℕ �
       ready = λ first none. s.stays_ready (g.ready first was) going;
       current = λ first none. s.stays_current (g.current first was) going;
       halts = λ first pass some. none_some new.stop pass is some;
+      at_rest = λ rest none. rests rest;
+      halts_mended = λ rest pass some. none_some new.stop pass is some;
+      halts_checkpoint = λ rest pass some. none_some new.stop pass is some;
+      halts_event = λ rest pass event some. none_some new.stop pass is some;
       follows = λ pass event some. none_some new.stop pass is some;
       none_failed = λ none. NoneFailed-on faults opening old new (g.none_failed was) (NoneFailed-step faults old new pass moment request result s.answer is);
       failed = λ pass some. none_some new.stop pass is some;
@@ -148,12 +163,14 @@ module _ {D : Type 0} (clock : D → ℕ) (left_since : D → ℕ → List ℕ �
     by_step : (old new : StoreView D) (pass : ℕ) (moment : ℤ) (request : StepRequest) (result : StoreReply) → IsMoment moment → IsWellFormed request → HasGoneOn clock left_since image faults opening old → Steps faults old pass moment request result new → Stepped old pass moment request result new →
         HasGoneOn clock left_since image faults opening new
     by_step old _ pass moment request _ at formed g (steps.answered reply running goes) s =
-        running_on old old pass moment request (stores.Step reply) g s running running (λ is. cc) refl refl refl refl g.events_go_on g.lawful refl refl refl refl
+        running_on old old pass moment request (stores.Step reply) g s running running (λ is. cc) refl refl refl refl g.events_go_on g.lawful refl refl refl refl (λ rest. g.at_rest rest running)
     by_step old _ pass moment request _ at formed g (steps.kept reply event active running goes room stood) s =
         running_on old (steps.with_event old event active) pass moment request (stores.Step reply) g s running running (λ is. cc) refl refl refl refl (events_stay opening.events old.events g.events_go_on event)
         (λ first. lawful_more (authority_of_store old) old.base old.events pass moment request reply event at formed (λ many. room (inr many)) goes (g.lawful first)) refl refl refl refl
+        (λ rest. let before = (g.at_rest rest running).0 in
+        rests_ready clock left_since image (steps.with_event old event active) opening (s.makes_ready before.current (one_longer old.events event) before.active_bytes before.other_bytes before.active_told before.other_told before.other_pinned))
     by_step old _ pass moment request _ at formed g (steps.full reply event running goes is_full) s =
-        running_on old old pass moment request stores.Full g s running running (λ is. cc) refl refl refl refl g.events_go_on g.lawful refl refl refl refl
+        running_on old old pass moment request stores.Full g s running running (λ is. cc) refl refl refl refl g.events_go_on g.lawful refl refl refl refl (λ rest. g.at_rest rest running)
     by_step old _ pass moment request _ at formed g (steps.failed reply event active running goes room risen) s = record {
       began = g.began;
       key_stays = g.key_stays;
@@ -169,6 +186,13 @@ module _ {D : Type 0} (clock : D → ℕ) (left_since : D → ℕ → List ℕ �
       ready = λ first none. none_some (Some pass) pass none refl;
       current = λ first none. none_some (Some pass) pass none refl;
       halts = λ first other some. s.met (g.ready first running) refl;
+      at_rest = λ rest none. none_some (Some pass) pass none refl;
+      halts_mended = λ rest other some added. ⊎_elim
+          (λ (is_ready : IsReady clock left_since image old). s.met is_ready refl)
+          (λ (nothing : HasNothingAdded opening old). absurd (added (record { events_stay = nothing.events_stay; checkpoints_stay = nothing.checkpoints_stay })))
+          (g.at_rest rest running).1;
+      halts_checkpoint = λ rest other some none. no_event event none;
+      halts_event = λ rest other found some same. s.met_at_rest (g.at_rest rest running).0 refl;
       follows = λ other found some same lawful.
           subst (λ (e : Event). IsLawful (authority_of_store old) old.base (old.events ++ e ∷ [])) (some_event event found same)
           (lawful_more (authority_of_store old) old.base old.events pass moment request reply event at formed (λ many. room (inr many)) goes lawful);
@@ -229,6 +253,11 @@ module _ {D : Type 0} (clock : D → ℕ) (left_since : D → ℕ → List ℕ �
     ready = λ first none. s.stays_ready (g.ready first running) (λ is. cc);
     current = λ first none. s.stays_current (g.current first running) (λ is. cc);
     halts = λ first other some. none_some old.stop other running some;
+    at_rest = λ rest none. let before = (g.at_rest rest running).0 in
+        rests_ready clock left_since image (makes.with_checkpoint old pass active) opening (s.makes_ready before.current refl before.active_bytes before.other_bytes before.active_told before.other_told before.active_pinned);
+    halts_mended = λ rest other some. none_some old.stop other running some;
+    halts_checkpoint = λ rest other some. none_some old.stop other running some;
+    halts_event = λ rest other event some. none_some old.stop other running some;
     follows = λ other event some. none_some old.stop other running some;
     none_failed = λ none. NoneFailed-on faults opening old (makes.with_checkpoint old pass active) (g.none_failed running)
         (NoneFailed-checkpoint faults old (makes.with_checkpoint old pass active) pass checkpoint_replies.Checkpointed (makes.made active running fits stood) running);
@@ -254,6 +283,13 @@ module _ {D : Type 0} (clock : D → ℕ) (left_since : D → ℕ → List ℕ �
     ready = λ first none. none_some (Some pass) pass none refl;
     current = λ first none. none_some (Some pass) pass none refl;
     halts = λ first stopper some. s.halts (g.ready first running) refl;
+    at_rest = λ rest none. none_some (Some pass) pass none refl;
+    halts_mended = λ rest stopper some added. ⊎_elim
+        (λ (is_ready : IsReady clock left_since image old). s.halts is_ready refl)
+        (λ (nothing : HasNothingAdded opening old). absurd (added (record { events_stay = nothing.events_stay; checkpoints_stay = nothing.checkpoints_stay })))
+        (g.at_rest rest running).1;
+    halts_checkpoint = λ rest stopper some none. s.halts_at_rest (g.at_rest rest running).0 refl;
+    halts_event = λ rest stopper event some same. let none : ◌≡◌ {A = Option Event} None (Some event) = same in absurd cc;
     follows = λ stopper event some same. let none : ◌≡◌ {A = Option Event} None (Some event) = same in absurd cc;
     none_failed = λ none. none_some (Some pass) pass none refl;
     failed = λ stopper some. ⊎_elim

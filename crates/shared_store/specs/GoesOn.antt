@@ -4,9 +4,10 @@ use mathlib.Core.List.{IsPrefix}
 use Rattle.pcfs_ports.specs.Faults.{HasRisen}
 use Rattle.journal_records.specs.declared.event.Event.{Event}
 use Rattle.access_history.specs.Lawful.{IsLawful}
-use Rattle.pcfs_store.specs.StoreView.{StoreView, authority_of_store, first_disk, second_disk, NoneFailed}
+use Rattle.pcfs_store.specs.StoreView.{StoreView, authority_of_store, first_disk, second_disk, NoneFailed, HasNothingAdded, body_of}
+use Rattle.pcfs_store.specs.Newest.{NewestBegins}
 use Rattle.pcfs_store.specs.Checkpoints.{place_after}
-use Rattle.pcfs_store.specs.Ready.{IsReady, IsCurrent, StopsNow, SurvivesStopAt}
+use Rattle.pcfs_store.specs.Ready.{IsReady, IsCurrent, IsAtRest, RestsSince, StopsNow, SurvivesStopAt, SurvivesCheckpoint}
 
 -- of a disk of the store a count has risen since it was opened
 abbrev pub HasCountRisen : {D : Type 0} → (D → ℕ) → StoreView D → StoreView D → Type 0
@@ -27,7 +28,10 @@ module _ {D : Type 0} (clock : D → ℕ) (left_since : D → ℕ → List ℕ �
   -- its history. If it is, a count rose above the one at the opening; and of a store that was ready
   -- a crash leaves the history, or, if it failed in a step, with it the event that the step was
   -- keeping, which may follow; in the area where it was, or, if it failed in a checkpoint, perhaps
-  -- in one of the next generation on the other disk.
+  -- in one of the next generation on the other disk. A store that lacked its closed gate is ready
+  -- once something was added, and then all this is so of it too; before that, if a checkpoint met
+  -- the fault, but for the closed gate; and if a step met it, the area of its history still begins
+  -- the newest one, which is where it was.
   pub record HasGoneOn (opening now : StoreView D) : Type 0 where
     pub began : opening.stop ≡ None
     pub key_stays : now.key ≡ opening.key
@@ -49,6 +53,20 @@ module _ {D : Type 0} (clock : D → ℕ) (left_since : D → ℕ → List ℕ �
         IsCurrent clock left_since image now
     pub halts : IsReady clock left_since image opening → (pass : ℕ) → now.stop ≡ Some pass →
         StopsNow clock left_since image now (SurvivesStopAt now.base now.events now.generation now.second_active now.met)
+    pub at_rest : IsAtRest clock left_since image opening → now.stop ≡ None →
+        RestsSince clock left_since image opening now
+    pub halts_mended : IsAtRest clock left_since image opening → (pass : ℕ) →
+        now.stop ≡ Some pass → (HasNothingAdded opening now → ⊥) →
+        StopsNow clock left_since image now
+        (SurvivesStopAt now.base now.events now.generation now.second_active now.met)
+    pub halts_checkpoint : IsAtRest clock left_since image opening → (pass : ℕ) →
+        now.stop ≡ Some pass → now.met ≡ None →
+        StopsNow clock left_since image now
+        (SurvivesCheckpoint now.base now.events now.generation now.second_active)
+    pub halts_event : IsAtRest clock left_since image opening → (pass : ℕ) (event : Event) →
+        now.stop ≡ Some pass → now.met ≡ Some event →
+        StopsNow clock left_since image now
+        (NewestBegins now.generation now.second_active (body_of now))
     pub follows : (pass : ℕ) (event : Event) → now.stop ≡ Some pass → now.met ≡ Some event →
         IsLawful (authority_of_store now) now.base now.events →
         IsLawful (authority_of_store now) now.base (now.events ++ event ∷ [])

@@ -19,7 +19,8 @@ use Rattle.bl_tokens.specs.declared.tokens.Token.TheVariants as tokens
 use Rattle.bl_tokens.specs.declared.tokens.Lexeme.{Lexeme}
 use Rattle.bl_tokens.specs.Classes.{is_in}
 use Rattle.bl_tokens.specs.Numerals.{is_numeral, numeral_below}
-use Rattle.bl_tokens.specs.Dates.{has_date_front, has_time_of_day, date_second_at, day_second_at, is_moment}
+use Rattle.bl_syntax.specs.Reading.{is_moment}
+use Rattle.bl_tokens.specs.Dates.{has_date_front, has_time_of_day, date_second_at, day_second_at}
 use Rattle.bl_tokens.specs.Words.{keyword, sort_named, constant_named, constant_or_name, sort_or_other, keyword_or_other, name_token}
 use Rattle.bl_tokens.specs.Tokens.{sized_lexeme, bad_lexeme, second_token, short_value, token_at_both, digits_of, integer_lexeme, negative_lexeme, time_lexeme, minus_lexeme, plus_lexeme, file_lexeme, parameter_lexeme, text_lexeme, has_first_byte, short_sign, sign_lexeme, other_lexeme, first_lexeme, word_lexeme, variable_lexeme, token_from}
 

@@ -1,6 +1,6 @@
 use Rattle.std.proofs.Common.{◌≡◌, ◌+◌, ◌-◌, ◌++◌, ℕ, List, ap, ◌∙◌, arith, length, take, drop}
-use Rattle.std.specs.List.{concat}
 use Rattle.std.proofs.lemmas.List.{length-take, take-append-le}
+use Rattle.file_blocks.specs.Blocks.{joined}
 use Rattle.file_blocks.proofs.ContentsLemmas.{read_more}
 use Rattle.file_blocks.proofs.spans.append.Goals as goal
 
@@ -9,7 +9,7 @@ pieces-preserved c =
     let before : List ℕ = c.args.out.now in
     let out : List ℕ = c.pieces.out in
     let part : List ℕ = c.piece-part.result.now in
-    let all : List ℕ = concat c.args.blocks.now in
+    let all : List ℕ = joined c.args.blocks.now c.args.tail.now in
     let n : ℕ = length part in
     let kept = c.pieces.invariant.kept in
     let e : c.extend.new.self ≡ out ++ part = c.in_default.ensures.ok in

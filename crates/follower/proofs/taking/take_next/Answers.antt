@@ -18,6 +18,7 @@ returns-in-Ok g c =
       makes_ready = c.admit.ensures.makes_ready;
       any_moment = c.admit.ensures.any_moment;
       met = c.admit.ensures.met;
+      met_at_rest = c.admit.ensures.met_at_rest;
       first_told = c.admit.ensures.first_told;
       second_told = c.admit.ensures.second_told;
       first_never_falls = c.admit.ensures.first_never_falls;

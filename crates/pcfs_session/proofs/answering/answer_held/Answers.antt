@@ -10,6 +10,7 @@ use Rattle.pcfs_session.proofs.answering.answer_held.Goals as goal
 pub loop-line-init : goal.loop-line-init
 loop-line-init g c = record {
   so_far = IsAnswering-start g.D.Disk.clock g.D.Disk.left_since g.D.Disk.image g.D.Disk.faults _ _ _ _ c.requires.running;
+  few = c.requires.few;
   long_stays = refl;
   steady = refl;
   never_falls = omega arith;
@@ -23,7 +24,7 @@ answer_line-requires-clause-running g c = runs_on g.D.Disk.clock g.D.Disk.left_s
 
 pub returns-in-Err-clause-halts : goal.returns-in-Err-clause-halts
 returns-in-Err-clause-halts g c =
-    HaltsWithin-at g.D.Disk.clock g.D.Disk.left_since g.D.Disk.image g.D.Disk.faults _ _ _ _ _ _ _ _ c.in-Some.ensures.line.0 _ _ _ c.in-Err.halt c.loop-line.invariant.so_far c.in-Some.ensures.line.1 c.in-Some.ensures.few c.in-Err.ensures.halts
+    HaltsWithin-at g.D.Disk.clock g.D.Disk.left_since g.D.Disk.image g.D.Disk.faults _ _ _ _ _ _ _ _ _ c.in-Some.ensures.line.0 _ _ _ c.in-Err.halt c.loop-line.invariant.so_far c.in-Some.ensures.line.1 c.in-Some.ensures.few c.in-Err.ensures.halts
 
 pub loop-line-smaller : goal.loop-line-smaller
 loop-line-smaller g c = fewer_left _ _ _ _ c.in-Some.ensures.line.1 (c.take_line.ensures.taken _ _ c.in-Some.ensures.line.1)
@@ -34,6 +35,7 @@ loop-line-preserved g c =
     record {
       so_far =
           IsAnswering-taken g.D.Disk.clock g.D.Disk.left_since g.D.Disk.image g.D.Disk.faults _ _ _ _ _ _ _ _ _ c.in-Some.ensures.line.0 _ _ _ _ c.loop-line.invariant.so_far c.in-Some.ensures.line.1 c.in-Some.ensures.few next c.in-Ok.ensures.ok;
+      few = c.in-Ok.ensures.few;
       long_stays = ap (λ (f : FramerState). f.is_long) next ∙ c.loop-line.invariant.long_stays;
       steady = c.in-Ok.ensures.steady ∙ c.loop-line.invariant.steady;
       never_falls = omega (arith, c.in-Ok.ensures.never_falls);

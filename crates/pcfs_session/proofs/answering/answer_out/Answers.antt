@@ -8,7 +8,7 @@ pub returns-in-Ok-flush-clause-ok : goal.returns-in-Ok-flush-clause-ok
 returns-in-Ok-flush-clause-ok g c = AnswersHeld-out g.D.Disk.clock g.D.Disk.left_since g.D.Disk.image g.D.Disk.faults _ _ _ _ _ _ _ _ _ _ c.in-Ok.ensures.ok c.in-Ok-flush.ensures.ok c.in-Ok-flush.ensures.empty
 
 pub returns-in-Err-flush-clause-halts : goal.returns-in-Err-flush-clause-halts
-returns-in-Err-flush-clause-halts g c = HaltsWithin-unsent g.D.Disk.clock g.D.Disk.left_since g.D.Disk.image g.D.Disk.faults _ _ _ _ _ _ _ _ _ _ c.in-Ok.ensures.ok c.in-Err-flush.ensures.err
+returns-in-Err-flush-clause-halts g c = HaltsWithin-unsent g.D.Disk.clock g.D.Disk.left_since g.D.Disk.image g.D.Disk.faults _ _ _ _ _ _ _ _ _ _ c.in-Ok.ensures.ok c.in-Ok.ensures.few c.in-Err-flush.ensures.err
 
 pub returns-in-Ok-flush-clause-steady : goal.returns-in-Ok-flush-clause-steady
 returns-in-Ok-flush-clause-steady g c = c.in-Ok-flush.ensures.steady ∙ c.in-Ok.ensures.steady

@@ -7,13 +7,13 @@ use Rattle.pcfs_session.proofs.TakenLemmas.{none_left}
 use Rattle.pcfs_session.proofs.script.answer_last.Goals as goal
 
 pub returns-in-None-clause-ends : goal.returns-in-None-clause-ends
-returns-in-None-clause-ends g c = LastEnds-none g.D.Disk.clock g.D.Disk.left_since g.D.Disk.image g.D.Disk.faults _ _ _ _ _ _ (none_left _ c.requires.one c.in-None.ensures.none) c.requires.running c.requires.nothing_waits c.finish.ensures.ends
+returns-in-None-clause-ends g c = LastEnds-none g.D.Disk.clock g.D.Disk.left_since g.D.Disk.image g.D.Disk.faults _ _ _ _ _ _ _ (none_left _ c.requires.one c.in-None.ensures.none) c.requires.running c.requires.nothing_waits c.finish.ensures.ends
 
 pub returns-in-Ok-clause-ends : goal.returns-in-Ok-clause-ends
-returns-in-Ok-clause-ends g c = LastEnds-line g.D.Disk.clock g.D.Disk.left_since g.D.Disk.image g.D.Disk.faults _ _ _ _ _ _ _ _ _ _ c.in-Some.ensures.some.0 c.in-Some.ensures.some.1 c.in-Some.ensures.some.2 c.in-Some.ensures.few c.requires.nothing_waits c.in-Ok.ensures.ok c.finish-in-Ok.ensures.ends
+returns-in-Ok-clause-ends g c = LastEnds-line g.D.Disk.clock g.D.Disk.left_since g.D.Disk.image g.D.Disk.faults _ _ _ _ _ _ _ _ _ _ _ c.in-Some.ensures.some.0 c.in-Some.ensures.some.1 c.in-Some.ensures.some.2 c.in-Some.ensures.few c.requires.nothing_waits c.in-Ok.ensures.ok c.in-Ok.ensures.few c.finish-in-Ok.ensures.ends
 
 pub returns-in-Err-clause-ends : goal.returns-in-Err-clause-ends
-returns-in-Err-clause-ends g c = LastEnds-halted g.D.Disk.clock g.D.Disk.left_since g.D.Disk.image g.D.Disk.faults _ _ _ _ _ _ _ _ _ c.halted_end.ensures c.in-Some.ensures.some.0 c.in-Some.ensures.some.1 c.in-Some.ensures.some.2 c.in-Some.ensures.few c.requires.nothing_waits c.in-Err.ensures.halts
+returns-in-Err-clause-ends g c = LastEnds-halted g.D.Disk.clock g.D.Disk.left_since g.D.Disk.image g.D.Disk.faults _ _ _ _ _ _ _ _ _ _ c.halted_end.ensures c.in-Some.ensures.some.0 c.in-Some.ensures.some.1 c.in-Some.ensures.some.2 c.in-Some.ensures.few c.requires.nothing_waits c.in-Err.ensures.halts
 
 pub returns-in-Err-clause-risen : goal.returns-in-Err-clause-risen
 returns-in-Err-clause-risen g c is = c.in-Err.ensures.risen (ap Err (halted_write _ _ c.halted_end.ensures is))

@@ -7,7 +7,7 @@ use Rattle.pcfs_session.proofs.ScriptEndsLemmas.{AnswersPiece-held, few_held, Pi
 use Rattle.pcfs_session.proofs.script.answer_piece.Goals as goal
 
 pub returns-in-Err-TooLong-clause-ends : goal.returns-in-Err-TooLong-clause-ends
-returns-in-Err-TooLong-clause-ends g c = PieceEnds-long g.D.Disk.clock g.D.Disk.left_since g.D.Disk.image g.D.Disk.faults _ _ _ _ _ _ _ _ _ c.in-Err-TooLong.field-0-is c.requires.not_long c.in-Err-TooLong.ensures c.end_at_long_line.ensures.ends
+returns-in-Err-TooLong-clause-ends g c = PieceEnds-long g.D.Disk.clock g.D.Disk.left_since g.D.Disk.image g.D.Disk.faults _ _ _ _ _ _ _ _ _ _ c.in-Err-TooLong.field-0-is c.requires.not_long c.in-Err-TooLong.ensures c.end_at_long_line.ensures.ends
 
 pub returns-in-Err-TooLong-clause-risen : goal.returns-in-Err-TooLong-clause-risen
 returns-in-Err-TooLong-clause-risen g c is =
@@ -15,7 +15,7 @@ returns-in-Err-TooLong-clause-risen g c is =
     c.end_at_long_line.ensures.risen same
 
 pub returns-in-Err-NoMemory-clause-ends : goal.returns-in-Err-NoMemory-clause-ends
-returns-in-Err-NoMemory-clause-ends g c = PieceEnds-refused g.D.Disk.clock g.D.Disk.left_since g.D.Disk.image g.D.Disk.faults _ _ _ _ _ c.requires.running refl
+returns-in-Err-NoMemory-clause-ends g c = PieceEnds-refused g.D.Disk.clock g.D.Disk.left_since g.D.Disk.image g.D.Disk.faults _ _ _ _ _ _ c.requires.running refl
 
 pub returns-in-Ok-answer_out-clause-ok : goal.returns-in-Ok-answer_out-clause-ok
 returns-in-Ok-answer_out-clause-ok g c = AnswersPiece-held g.D.Disk.clock g.D.Disk.left_since g.D.Disk.image g.D.Disk.faults _ _ _ _ _ _ _ _ _ _ c.in-Ok.ensures c.requires.nothing_waits c.in-Ok-answer_out.ensures.empty c.in-Ok-answer_out.ensures.ok
@@ -27,7 +27,7 @@ pub returns-in-Ok-answer_out-clause-stays_so : goal.returns-in-Ok-answer_out-cla
 returns-in-Ok-answer_out-clause-stays_so g c = c.in-Ok-answer_out.ensures.long_stays ∙ ap (λ (f : FramerState). f.is_long) c.in-Ok.ensures.after_is
 
 pub returns-in-Err-clause-ends : goal.returns-in-Err-clause-ends
-returns-in-Err-clause-ends g c = PieceEnds-halted g.D.Disk.clock g.D.Disk.left_since g.D.Disk.image g.D.Disk.faults _ _ _ _ _ _ _ _ _ _ c.halted_end.ensures c.requires.nothing_waits (ap (λ (f : FramerState). f.left) c.in-Ok.ensures.after_is) c.in-Err.ensures.halts
+returns-in-Err-clause-ends g c = PieceEnds-halted g.D.Disk.clock g.D.Disk.left_since g.D.Disk.image g.D.Disk.faults _ _ _ _ _ _ _ _ _ _ _ c.halted_end.ensures c.requires.nothing_waits (ap (λ (f : FramerState). f.left) c.in-Ok.ensures.after_is) c.in-Err.ensures.halts
 
 pub returns-in-Err-clause-risen : goal.returns-in-Err-clause-risen
 returns-in-Err-clause-risen g c is =

@@ -7,16 +7,16 @@ use Rattle.pcfs_session.proofs.StoredLemmas.{HasRisen-earlier}
 use Rattle.pcfs_session.proofs.script.end_at_long_line.Goals as goal
 
 pub returns-in-Err-clause-ends : goal.returns-in-Err-clause-ends
-returns-in-Err-clause-ends g c lines whole same = LongEnds-halted g.D.Disk.clock g.D.Disk.left_since g.D.Disk.image g.D.Disk.faults lines _ _ _ _ _ _ _ _ c.halted_end.ensures c.requires.nothing_waits same c.in-Err.ensures.halts
+returns-in-Err-clause-ends g c lines whole same = LongEnds-halted g.D.Disk.clock g.D.Disk.left_since g.D.Disk.image g.D.Disk.faults _ lines _ _ _ _ _ _ _ _ c.halted_end.ensures c.requires.nothing_waits same c.in-Err.ensures.halts
 
 pub returns-in-Err-clause-risen : goal.returns-in-Err-clause-risen
 returns-in-Err-clause-risen g c is = c.in-Err.ensures.risen (ap Err (halted_write _ _ c.halted_end.ensures is))
 
 pub returns-in-Ok-send_all-clause-ends : goal.returns-in-Ok-send_all-clause-ends
-returns-in-Ok-send_all-clause-ends g c lines whole same = LongEnds-told g.D.Disk.clock g.D.Disk.left_since g.D.Disk.image g.D.Disk.faults lines _ _ _ _ _ _ _ _ _ c.requires.nothing_waits whole same c.in-Ok.ensures.ok c.in-Ok-send_all.ensures.ok
+returns-in-Ok-send_all-clause-ends g c lines whole same = LongEnds-told g.D.Disk.clock g.D.Disk.left_since g.D.Disk.image g.D.Disk.faults _ lines _ _ _ _ _ _ _ _ _ c.requires.nothing_waits whole same c.in-Ok.ensures.ok c.in-Ok-send_all.ensures.ok
 
 pub returns-in-Err-send_all-clause-ends : goal.returns-in-Err-send_all-clause-ends
-returns-in-Err-send_all-clause-ends g c lines whole same = LongEnds-untold g.D.Disk.clock g.D.Disk.left_since g.D.Disk.image g.D.Disk.faults lines _ _ _ _ _ _ _ _ _ _ _ c.unsent_end.ensures c.requires.nothing_waits whole same c.in-Ok.ensures.ok c.in-Err-send_all.ensures.err
+returns-in-Err-send_all-clause-ends g c lines whole same = LongEnds-untold g.D.Disk.clock g.D.Disk.left_since g.D.Disk.image g.D.Disk.faults _ lines _ _ _ _ _ _ _ _ _ _ _ c.unsent_end.ensures c.requires.nothing_waits whole same c.in-Ok.ensures.ok c.in-Ok.ensures.few c.in-Err-send_all.ensures.err (λ is. c.in-Err-send_all.ensures.unsent (ap Err is))
 
 pub returns-in-Err-send_all-clause-risen : goal.returns-in-Err-send_all-clause-risen
 returns-in-Err-send_all-clause-risen g c is = HasRisen-earlier _ _ _ c.in-Ok.ensures.never_falls (c.in-Err-send_all.ensures.risen (ap Err (unsent_write _ _ c.unsent_end.ensures is)))

@@ -22,11 +22,11 @@ loop-taken-init g c = record {
 }
 
 pub returns-in-Err-clause-ends : goal.returns-in-Err-clause-ends
-returns-in-Err-clause-ends g c = AnswersScript-unbegun g.D.Disk.clock g.D.Disk.left_since g.D.Disk.image g.D.Disk.faults _ _ _ c.requires.lawful c.requires.running refl refl
+returns-in-Err-clause-ends g c = AnswersScript-unbegun g.D.Disk.clock g.D.Disk.left_since g.D.Disk.image g.D.Disk.faults _ _ _ _ c.requires.lawful c.requires.running refl refl
 
 pub returns-in-Err-read_piece-clause-ends : goal.returns-in-Err-read_piece-clause-ends
 returns-in-Err-read_piece-clause-ends g c =
-    AnswersScript-read_fault g.D.Disk.clock g.D.Disk.left_since g.D.Disk.image g.D.Disk.faults _ _ c.requires.lawful _ _ _ _ _ c.loop-taken.invariant.reading c.in-Err-read_piece.ensures.err
+    AnswersScript-read_fault g.D.Disk.clock g.D.Disk.left_since g.D.Disk.image g.D.Disk.faults _ _ _ c.requires.lawful _ _ _ _ _ c.loop-taken.invariant.reading c.in-Err-read_piece.ensures.err
     (HasRisen-earlier _ _ _ c.loop-taken.invariant.read_never_falls c.in-Err-read_piece.ensures.risen)
 
 pub answer_last-requires-clause-lawful : goal.answer_last-requires-clause-lawful
@@ -40,7 +40,7 @@ answer_last-requires-clause-one g c = c.loop-taken.invariant.reading.is_open.one
 
 pub returns-then-count-eq0-clause-ends : goal.returns-then-count-eq0-clause-ends
 returns-then-count-eq0-clause-ends g c =
-    AnswersScript-last g.D.Disk.clock g.D.Disk.left_since g.D.Disk.image g.D.Disk.faults _ _ c.requires.lawful _ _ _ _ [] _ _ _ c.loop-taken.invariant.reading _
+    AnswersScript-last g.D.Disk.clock g.D.Disk.left_since g.D.Disk.image g.D.Disk.faults _ _ _ c.requires.lawful _ _ _ _ [] _ _ _ c.loop-taken.invariant.reading _
     (nothing_taken _ _ _ _ c.if-count-eq0.true c.in-Ok-read_piece.ensures.taken) (c.in-Ok-read_piece.ensures.end c.if-count-eq0.true)
     (λ is. HasRisen-earlier _ _ _ c.loop-taken.invariant.write_never_falls (c.answer_last.ensures.risen is)) c.answer_last.ensures.ends
 
@@ -55,7 +55,7 @@ returns-in-Err-answer_piece-clause-ends g c =
     let fits : length c.read_piece.new.piece ≤ c.loop-taken.piece.len = omega (arith, c.loop-taken.piece.ok.0, c.deref_mut.ensures.len, c.read_piece.auto.piece) in
     let shown = IsShown-front c.in-Ok-read_piece.count c.loop-taken.piece.len c.read_piece.new.piece c.loop-taken.piece.items c.deref.result.now c.deref.ensures.value c.in-Ok-read_piece.ensures.bound fits in
     let small : length (take c.in-Ok-read_piece.count c.deref.result.now) ≤ 65536 = omega (arith, shown.len, c.in-Ok-read_piece.ensures.bound, fits, c.loop-taken.piece.ok.0, c.loop-taken.invariant.room) in
-    AnswersScript-piece g.D.Disk.clock g.D.Disk.left_since g.D.Disk.image g.D.Disk.faults _ _ c.requires.lawful _ _ _ _ _ _ _ _ c.loop-taken.invariant.reading _ (taken_shown _ _ _ _ _ shown c.in-Ok-read_piece.ensures.taken) small
+    AnswersScript-piece g.D.Disk.clock g.D.Disk.left_since g.D.Disk.image g.D.Disk.faults _ _ _ c.requires.lawful _ _ _ _ _ _ _ _ c.loop-taken.invariant.reading _ (taken_shown _ _ _ _ _ shown c.in-Ok-read_piece.ensures.taken) small
     (λ is. HasRisen-earlier _ _ _ c.loop-taken.invariant.write_never_falls (c.in-Err-answer_piece.ensures.risen (ap Err is))) c.in-Err-answer_piece.ensures.ends
 
 pub loop-taken-preserved : goal.loop-taken-preserved
@@ -78,7 +78,7 @@ loop-taken-preserved g c =
 pub returns-clause-ends : goal.returns-clause-ends
 returns-clause-ends g c =
     let all : c.loop-taken.taken ≡ 1073741824 = omega arith in
-    AnswersScript-too_long g.D.Disk.clock g.D.Disk.left_since g.D.Disk.image g.D.Disk.faults _ _ c.requires.lawful _ _ _ _ c.loop-taken.invariant.reading all
+    AnswersScript-too_long g.D.Disk.clock g.D.Disk.left_since g.D.Disk.image g.D.Disk.faults _ _ _ c.requires.lawful _ _ _ _ c.loop-taken.invariant.reading all
 
 pub returns-in-Err-clause-steady : goal.returns-in-Err-clause-steady
 returns-in-Err-clause-steady g c = record { input = refl; output = refl }

@@ -13,4 +13,4 @@ returns g c told empty done told_is =
     let base = c.history.ensures.base ∙ ap (λ (v : GateView). v.base) c.gate.ensures in
     let events = c.history.ensures.events ∙ ap (λ (v : GateView). v.events) c.gate.ensures in
     let count = c.count.ensures ∙ ap₂ (λ (b : BaseView) (es : List Event). (replay b es).count) base events in
-    IsRunThrough-done _ _ _ _ _ _ _ _ _ c.args.script _ told _ c.count.result c.run_over-status.ensures.1 done (ap (λ (s : MemorySourceView). Some s.left) c.new-input.ensures) (ap Some empty) refl count told_is
+    IsRunThrough-done _ _ _ _ _ _ _ _ _ _ c.args.script _ told _ c.count.result c.run_over-status.ensures.1 done (ap (λ (s : MemorySourceView). Some s.left) c.new-input.ensures) (ap Some empty) refl count told_is

@@ -14,4 +14,4 @@ pub returns-in-Ok : goal.returns-in-Ok
 returns-in-Ok g c = MemoryEnds-ran c.args.secrets.now _ _ _ _ _ _ _ (fresh_over c.args.secrets.now _ c.in-Ok.ensures) c.run_over-status.ensures.1.ends c.memory_status.ensures
 
 pub returns-in-Err : goal.returns-in-Err
-returns-in-Err g c = memory.ended 9 _ (λ e. absurd cc) (ScriptStatus-unbegun c.args.secrets.now _ _ _ refl refl refl refl)
+returns-in-Err g c = memory.ended 9 _ (λ e. absurd cc) (ScriptStatus-unbegun _ c.args.secrets.now _ _ _ refl refl refl refl)

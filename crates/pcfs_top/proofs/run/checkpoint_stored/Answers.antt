@@ -31,6 +31,7 @@ returns-in-Ok-open_store g c words left read_faults read_broken asks =
       makes_ready = e.makes_ready;
       any_moment = e.any_moment;
       halts = e.halts;
+      halts_at_rest = e.halts_at_rest;
       newest = e.newest;
       first_told = e.first_told;
       second_told = e.second_told;

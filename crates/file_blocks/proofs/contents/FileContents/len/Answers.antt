@@ -5,5 +5,5 @@ use Rattle.file_blocks.proofs.contents.FileContents.len.Goals as goal
 
 pub returns : goal.returns
 returns c =
-    sym (length-contents c.self.inside.blocks.items c.self.inside.len c.self.invariant)
+    sym (length-contents c.self.inside.blocks c.self.inside.len c.self.invariant)
     ∙ ap (λ (v : ContentsView). length v.bytes) c.self.view_is

@@ -1,10 +1,10 @@
 use Rattle.std.proofs.Common.{◌⊎◌, ℕ, ◌+◌, [], ◌∷◌, ◌++◌, ap, subst, ◌∙◌}
 use Rattle.std.specs.Option.{option_map}
 use Rattle.pcfs_ports.specs.Disk.{written, Torn}
-use Rattle.journal_core.specs.Area.{Closed, record_bytes}
+use Rattle.journal_core.specs.Area.{Begins, Closed, record_bytes}
 use Rattle.journal_core.specs.Rest.{IsWithOrWithout}
 use Rattle.journal_core.proofs.RestsLemmas.{weaker_leaves, told_leaves}
-use Rattle.journal_core.proofs.AreaLemmas.{append_says, append_writes, told_same, closed_written}
+use Rattle.journal_core.proofs.AreaLemmas.{append_says, append_keeps, append_writes, told_same, closed_written}
 use Rattle.journal_core.proofs.area.Area.append.Goals as goal
 
 pub returns-in_err-write_then_open-clause-any_moment : goal.returns-in_err-write_then_open-clause-any_moment
@@ -16,6 +16,16 @@ returns-in_err-write_then_open-clause-any_moment g c = rw (← c.self.view_is) (
     (IsWithOrWithout body c.args.framed.now)
     (λ left torn. append_says body rest.bytes c.args.framed.now frame left end counted c.bytes-frame.ensures rest.closed torn)
     (c.write_then_open.ensures.any_moment rest.bytes rest.told rest.pinned))
+
+pub returns-in_err-write_then_open-clause-front : goal.returns-in_err-write_then_open-clause-front
+returns-in_err-write_then_open-clause-front g c = rw (← c.self.view_is) (λ body bytes counted told begins pinned.
+    let end = c.self.inside.end in
+    let frame = c.bytes-frame.result.now in
+    weaker_leaves g.D.Disk.clock g.D.Disk.left_since c.self.inside.disk c.write_then_open.new.disk
+    (λ left. Torn (end + 1) frame bytes left ⊎ Torn end (1 ∷ []) (written (end + 1) frame bytes) left)
+    (Begins body)
+    (λ left torn. append_keeps body bytes frame left end counted begins torn)
+    (c.write_then_open.ensures.any_moment bytes told pinned))
 
 pub returns-in_err-write_then_open-clause-found : goal.returns-in_err-write_then_open-clause-found
 returns-in_err-write_then_open-clause-found g c = rw (← c.self.view_is) (λ failed body bytes counted rest told.
@@ -38,6 +48,16 @@ returns-clause-any_moment g c = rw (← c.self.view_is) (λ body counted rest.
     (IsWithOrWithout body c.args.framed.now)
     (λ left torn. append_says body rest.bytes c.args.framed.now frame left end counted c.bytes-frame.ensures rest.closed torn)
     (c.write_then_open.ensures.any_moment rest.bytes rest.told rest.pinned))
+
+pub returns-clause-front : goal.returns-clause-front
+returns-clause-front g c = rw (← c.self.view_is) (λ body bytes counted told begins pinned.
+    let end = c.self.inside.end in
+    let frame = c.bytes-frame.result.now in
+    weaker_leaves g.D.Disk.clock g.D.Disk.left_since c.self.inside.disk c.write_then_open.new.disk
+    (λ left. Torn (end + 1) frame bytes left ⊎ Torn end (1 ∷ []) (written (end + 1) frame bytes) left)
+    (Begins body)
+    (λ left torn. append_keeps body bytes frame left end counted begins torn)
+    (c.write_then_open.ensures.any_moment bytes told pinned))
 
 pub returns-clause-image : goal.returns-clause-image
 returns-clause-image g c = rw (← c.self.view_is) (

@@ -54,6 +54,12 @@ returns-then-is_some-clause-met g c =
     c.args.self.now c.self.view_is c.args.pass (to_z w64 (of_z w64 c.args.clock)) c.args.clock (to_z-of_z w64 c.args.clock c.ranges.clock) c.args.request
     (sym c.is_some.ensures ∙ c.if-is_some.true)).met
 
+pub returns-then-is_some-clause-met_at_rest : goal.returns-then-is_some-clause-met_at_rest
+returns-then-is_some-clause-met_at_rest g c =
+    (stopped_end g.D.Disk.clock g.D.Disk.left_since g.D.Disk.image g.D.Disk.faults c.self.inside.active c.self.inside.other c.self.inside.second_active c.self.inside.generation c.self.inside.opened.value c.self.inside.gate c.self.inside.checkpoints.items c.self.inside.stop c.self.invariant
+    c.args.self.now c.self.view_is c.args.pass (to_z w64 (of_z w64 c.args.clock)) c.args.clock (to_z-of_z w64 c.args.clock c.ranges.clock) c.args.request
+    (sym c.is_some.ensures ∙ c.if-is_some.true)).met_at_rest
+
 pub returns-then-is_some-clause-first_told : goal.returns-then-is_some-clause-first_told
 returns-then-is_some-clause-first_told g c =
     (stopped_end g.D.Disk.clock g.D.Disk.left_since g.D.Disk.image g.D.Disk.faults c.self.inside.active c.self.inside.other c.self.inside.second_active c.self.inside.generation c.self.inside.opened.value c.self.inside.gate c.self.inside.checkpoints.items c.self.inside.stop c.self.invariant
@@ -119,6 +125,12 @@ returns-in-Answer-clause-met g c =
     (answered_end g.D.Disk.clock g.D.Disk.left_since g.D.Disk.image g.D.Disk.faults c.self.inside.active c.self.inside.other c.self.inside.second_active c.self.inside.generation c.self.inside.opened.value c.self.inside.gate c.self.inside.checkpoints.items c.self.inside.stop c.self.invariant
     c.args.self.now c.self.view_is c.args.pass (to_z w64 (of_z w64 c.args.clock)) c.args.clock (to_z-of_z w64 c.args.clock c.ranges.clock) c.args.request
     (sym c.is_some.ensures ∙ c.if-is_some.false) c.decide.new.self c.decide.ensures.key c.decide.ensures.ring c.decide.ensures.base c.decide.ensures.events c.in-Answer.reply c.in-Answer.ensures.answer.0 c.in-Answer.ensures.answer.1).met
+
+pub returns-in-Answer-clause-met_at_rest : goal.returns-in-Answer-clause-met_at_rest
+returns-in-Answer-clause-met_at_rest g c =
+    (answered_end g.D.Disk.clock g.D.Disk.left_since g.D.Disk.image g.D.Disk.faults c.self.inside.active c.self.inside.other c.self.inside.second_active c.self.inside.generation c.self.inside.opened.value c.self.inside.gate c.self.inside.checkpoints.items c.self.inside.stop c.self.invariant
+    c.args.self.now c.self.view_is c.args.pass (to_z w64 (of_z w64 c.args.clock)) c.args.clock (to_z-of_z w64 c.args.clock c.ranges.clock) c.args.request
+    (sym c.is_some.ensures ∙ c.if-is_some.false) c.decide.new.self c.decide.ensures.key c.decide.ensures.ring c.decide.ensures.base c.decide.ensures.events c.in-Answer.reply c.in-Answer.ensures.answer.0 c.in-Answer.ensures.answer.1).met_at_rest
 
 pub returns-in-Answer-clause-first_told : goal.returns-in-Answer-clause-first_told
 returns-in-Answer-clause-first_told g c =
@@ -192,6 +204,13 @@ returns-in-Ok-clause-met g c =
     c.args.self.now c.self.view_is c.args.pass (to_z w64 (of_z w64 c.args.clock)) c.args.clock (to_z-of_z w64 c.args.clock c.ranges.clock) c.args.request
     (sym c.is_some.ensures ∙ c.if-is_some.false) c.decide.new.self c.decide.ensures.key c.decide.ensures.ring c.decide.ensures.base c.decide.ensures.events
     c.in-Keep.reply c.in-Keep.ensures.answer c.keep_pending.new.area c.keep_pending.new.gate c.in-Ok.ensures).met
+
+pub returns-in-Ok-clause-met_at_rest : goal.returns-in-Ok-clause-met_at_rest
+returns-in-Ok-clause-met_at_rest g c =
+    (kept_end g.D.Disk.clock g.D.Disk.left_since g.D.Disk.image g.D.Disk.faults c.self.inside.active c.self.inside.other c.self.inside.second_active c.self.inside.generation c.self.inside.opened.value c.self.inside.gate c.self.inside.checkpoints.items c.self.inside.stop c.self.invariant
+    c.args.self.now c.self.view_is c.args.pass (to_z w64 (of_z w64 c.args.clock)) c.args.clock (to_z-of_z w64 c.args.clock c.ranges.clock) c.args.request
+    (sym c.is_some.ensures ∙ c.if-is_some.false) c.decide.new.self c.decide.ensures.key c.decide.ensures.ring c.decide.ensures.base c.decide.ensures.events
+    c.in-Keep.reply c.in-Keep.ensures.answer c.keep_pending.new.area c.keep_pending.new.gate c.in-Ok.ensures).met_at_rest
 
 pub returns-in-Ok-clause-first_told : goal.returns-in-Ok-clause-first_told
 returns-in-Ok-clause-first_told g c =
@@ -270,6 +289,13 @@ returns-in-Err-AreaFull-clause-met g c =
     (sym c.is_some.ensures ∙ c.if-is_some.false) c.decide.new.self c.decide.ensures.key c.decide.ensures.ring c.decide.ensures.base c.decide.ensures.events
     c.in-Keep.reply c.in-Keep.ensures.answer c.keep_pending.new.area c.keep_pending.new.gate c.in-Err-AreaFull.field-0 c.in-Err-AreaFull.field-0-is c.in-Err-AreaFull.ensures).met
 
+pub returns-in-Err-AreaFull-clause-met_at_rest : goal.returns-in-Err-AreaFull-clause-met_at_rest
+returns-in-Err-AreaFull-clause-met_at_rest g c =
+    (full_end g.D.Disk.clock g.D.Disk.left_since g.D.Disk.image g.D.Disk.faults c.self.inside.active c.self.inside.other c.self.inside.second_active c.self.inside.generation c.self.inside.opened.value c.self.inside.gate c.self.inside.checkpoints.items c.self.inside.stop c.self.invariant
+    c.args.self.now c.self.view_is c.args.pass (to_z w64 (of_z w64 c.args.clock)) c.args.clock (to_z-of_z w64 c.args.clock c.ranges.clock) c.args.request
+    (sym c.is_some.ensures ∙ c.if-is_some.false) c.decide.new.self c.decide.ensures.key c.decide.ensures.ring c.decide.ensures.base c.decide.ensures.events
+    c.in-Keep.reply c.in-Keep.ensures.answer c.keep_pending.new.area c.keep_pending.new.gate c.in-Err-AreaFull.field-0 c.in-Err-AreaFull.field-0-is c.in-Err-AreaFull.ensures).met_at_rest
+
 pub returns-in-Err-AreaFull-clause-first_told : goal.returns-in-Err-AreaFull-clause-first_told
 returns-in-Err-AreaFull-clause-first_told g c =
     (full_end g.D.Disk.clock g.D.Disk.left_since g.D.Disk.image g.D.Disk.faults c.self.inside.active c.self.inside.other c.self.inside.second_active c.self.inside.generation c.self.inside.opened.value c.self.inside.gate c.self.inside.checkpoints.items c.self.inside.stop c.self.invariant
@@ -346,6 +372,13 @@ returns-in-Err-NoMemory-clause-met g c =
     c.args.self.now c.self.view_is c.args.pass (to_z w64 (of_z w64 c.args.clock)) c.args.clock (to_z-of_z w64 c.args.clock c.ranges.clock) c.args.request
     (sym c.is_some.ensures ∙ c.if-is_some.false) c.decide.new.self c.decide.ensures.key c.decide.ensures.ring c.decide.ensures.base c.decide.ensures.events
     c.in-Keep.reply c.in-Keep.ensures.answer c.keep_pending.new.area c.keep_pending.new.gate c.in-Err-NoMemory.field-0 c.in-Err-NoMemory.field-0-is c.in-Err-NoMemory.ensures).met
+
+pub returns-in-Err-NoMemory-clause-met_at_rest : goal.returns-in-Err-NoMemory-clause-met_at_rest
+returns-in-Err-NoMemory-clause-met_at_rest g c =
+    (unrecorded_end g.D.Disk.clock g.D.Disk.left_since g.D.Disk.image g.D.Disk.faults c.self.inside.active c.self.inside.other c.self.inside.second_active c.self.inside.generation c.self.inside.opened.value c.self.inside.gate c.self.inside.checkpoints.items c.self.inside.stop c.self.invariant
+    c.args.self.now c.self.view_is c.args.pass (to_z w64 (of_z w64 c.args.clock)) c.args.clock (to_z-of_z w64 c.args.clock c.ranges.clock) c.args.request
+    (sym c.is_some.ensures ∙ c.if-is_some.false) c.decide.new.self c.decide.ensures.key c.decide.ensures.ring c.decide.ensures.base c.decide.ensures.events
+    c.in-Keep.reply c.in-Keep.ensures.answer c.keep_pending.new.area c.keep_pending.new.gate c.in-Err-NoMemory.field-0 c.in-Err-NoMemory.field-0-is c.in-Err-NoMemory.ensures).met_at_rest
 
 pub returns-in-Err-NoMemory-clause-first_told : goal.returns-in-Err-NoMemory-clause-first_told
 returns-in-Err-NoMemory-clause-first_told g c =
@@ -424,6 +457,13 @@ returns-in-Keep-clause-met g c =
     (sym c.is_some.ensures ∙ c.if-is_some.false) c.decide.new.self c.decide.ensures.key c.decide.ensures.ring c.decide.ensures.base c.decide.ensures.events
     c.in-Keep.reply c.in-Keep.ensures.answer c.keep_pending.new.area c.keep_pending.new.gate (λ disk t u b le left. g.met.D.Disk.since_earlier disk t u b le left) c.in-Err-Disk.field-0 c.in-Err-Disk.field-0-is c.in-Err-Disk.ensures).met
 
+pub returns-in-Keep-clause-met_at_rest : goal.returns-in-Keep-clause-met_at_rest
+returns-in-Keep-clause-met_at_rest g c =
+    (failed_end g.D.Disk.clock g.D.Disk.left_since g.D.Disk.image g.D.Disk.faults c.self.inside.active c.self.inside.other c.self.inside.second_active c.self.inside.generation c.self.inside.opened.value c.self.inside.gate c.self.inside.checkpoints.items c.self.inside.stop c.self.invariant
+    c.args.self.now c.self.view_is c.args.pass (to_z w64 (of_z w64 c.args.clock)) c.args.clock (to_z-of_z w64 c.args.clock c.ranges.clock) c.args.request
+    (sym c.is_some.ensures ∙ c.if-is_some.false) c.decide.new.self c.decide.ensures.key c.decide.ensures.ring c.decide.ensures.base c.decide.ensures.events
+    c.in-Keep.reply c.in-Keep.ensures.answer c.keep_pending.new.area c.keep_pending.new.gate (λ disk t u b le left. g.met.D.Disk.since_earlier disk t u b le left) c.in-Err-Disk.field-0 c.in-Err-Disk.field-0-is c.in-Err-Disk.ensures).met_at_rest
+
 pub returns-in-Keep-clause-first_told : goal.returns-in-Keep-clause-first_told
 returns-in-Keep-clause-first_told g c =
     (failed_end g.D.Disk.clock g.D.Disk.left_since g.D.Disk.image g.D.Disk.faults c.self.inside.active c.self.inside.other c.self.inside.second_active c.self.inside.generation c.self.inside.opened.value c.self.inside.gate c.self.inside.checkpoints.items c.self.inside.stop c.self.invariant
@@ -493,6 +533,12 @@ returns-clause-met g c =
     (undecided_end g.D.Disk.clock g.D.Disk.left_since g.D.Disk.image g.D.Disk.faults c.self.inside.active c.self.inside.other c.self.inside.second_active c.self.inside.generation c.self.inside.opened.value c.self.inside.gate c.self.inside.checkpoints.items c.self.inside.stop c.self.invariant
     c.args.self.now c.self.view_is c.args.pass (to_z w64 (of_z w64 c.args.clock)) c.args.clock (to_z-of_z w64 c.args.clock c.ranges.clock) c.args.request
     (sym c.is_some.ensures ∙ c.if-is_some.false) c.decide.new.self c.decide.ensures.key c.decide.ensures.ring c.decide.ensures.base c.decide.ensures.events c.in-NoMemory.ensures.answer).met
+
+pub returns-clause-met_at_rest : goal.returns-clause-met_at_rest
+returns-clause-met_at_rest g c =
+    (undecided_end g.D.Disk.clock g.D.Disk.left_since g.D.Disk.image g.D.Disk.faults c.self.inside.active c.self.inside.other c.self.inside.second_active c.self.inside.generation c.self.inside.opened.value c.self.inside.gate c.self.inside.checkpoints.items c.self.inside.stop c.self.invariant
+    c.args.self.now c.self.view_is c.args.pass (to_z w64 (of_z w64 c.args.clock)) c.args.clock (to_z-of_z w64 c.args.clock c.ranges.clock) c.args.request
+    (sym c.is_some.ensures ∙ c.if-is_some.false) c.decide.new.self c.decide.ensures.key c.decide.ensures.ring c.decide.ensures.base c.decide.ensures.events c.in-NoMemory.ensures.answer).met_at_rest
 
 pub returns-clause-first_told : goal.returns-clause-first_told
 returns-clause-first_told g c =

@@ -18,6 +18,7 @@ invariant_of-self g c =
       makes_ready = c.checkpoint-reply.ensures.makes_ready;
       any_moment = c.checkpoint-reply.ensures.any_moment;
       halts = c.checkpoint-reply.ensures.halts;
+      halts_at_rest = c.checkpoint-reply.ensures.halts_at_rest;
       newest = c.checkpoint-reply.ensures.newest;
       first_told = c.checkpoint-reply.ensures.first_told;
       second_told = c.checkpoint-reply.ensures.second_told;
