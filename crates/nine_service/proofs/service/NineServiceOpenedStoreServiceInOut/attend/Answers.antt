@@ -44,4 +44,5 @@ returns-clause-belongs g c =
 
 pub returns-clause-served : goal.returns-clause-served
 returns-clause-served g c =
+    rw (c.new.ensures.input, c.new.ensures.output)
     (c.serve_nine.result, c.serve_nine.ensures.ends, c.serve_nine.ensures.nothing_failed, c.serve_nine.ensures.read_failed, c.serve_nine.ensures.write_failed)

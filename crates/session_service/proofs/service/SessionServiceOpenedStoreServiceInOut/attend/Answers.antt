@@ -44,4 +44,8 @@ returns-clause-belongs g c =
 
 pub returns-clause-session : goal.returns-clause-session
 returns-clause-session g c =
+    rw (c.new.ensures.input, c.new.ensures.output)
     (c.serve_session.result, c.serve_session.ensures.ends, c.serve_session.ensures.steady, c.serve_session.ensures.read_failed, c.serve_session.ensures.write_failed)
+
+pub returns-clause-greets_first : goal.returns-clause-greets_first
+returns-clause-greets_first g c = rw (c.new.ensures.input, c.new.ensures.output) c.serve_session.ensures.greets_first
