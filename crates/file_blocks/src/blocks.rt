@@ -1,4 +1,4 @@
-//! The memory of a file: whole blocks, and a tail after them that is as long as it needs to be.
+//! The memory of a file: whole blocks, and a tail after them that is no longer than one.
 
 ghost use Rattle.std.specs.Prelude.{◌≡◌, [], ◌+◌, ◌-◌, ◌*◌, ◌^◌, ◌<◌, ◌≤◌, ◌++◌, length, min, take, drop, OnOk, OnErr, IfOk};
 ghost use Rattle.file_blocks.specs.Blocks.{over, zeros, blocks_for, joined, AreBlocks, IsFilledUp};

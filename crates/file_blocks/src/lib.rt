@@ -1,7 +1,7 @@
 //! The contents of one file, in blocks on the heap.
 //!
 //! Contracts see the bytes, and the room: how long the contents may become without taking memory. A write and a read
-//! touch the blocks that they cover, and growing copies at most the last one, which is as long as it needs to be.
+//! touch the blocks that they cover, and growing copies at most the last one, which may be shorter than the others.
 #![tactic(auto)]
 
 mod block;

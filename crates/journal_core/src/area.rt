@@ -218,7 +218,8 @@ impl<D: Disk> Area<D> {
             Rests D.clock D.left_since D.image self.old.disk body →
             LeavesOnly D.clock D.left_since self.old.disk self.new.disk (IsWithOrWithout body framed.now) }
 
-        // Also if the closed gate was cut off before, what a crash at any moment leaves begins with the records of before.
+        // Also if the closed gate was cut off before, and nothing is pending, what a crash at any moment leaves begins with
+        // the records of before.
         ensures front { (body bytes : List ℕ) → length body ≡ self.old.end →
             D.image self.old.disk ≡ Some bytes → Begins body bytes →
             IsPinned D.clock D.left_since D.image self.old.disk →

@@ -12,8 +12,8 @@ use Rattle.session_service.specs.Conversation.{ConnectionTells, IsConnectionOf, 
 -- its output as they were when it was accepted, if the listener told them, to an input and an output
 -- of their types, at the end, that tell what a connection that ended so leaves. So at Done the output
 -- holds what it held, and then these replies, and these messages are all of the input; where the
--- output failed or memory ran out, it holds a first part of them, and more of the input may have been
--- read than was answered. If an input or an output does not tell its bytes, nothing is said of these.
+-- output failed or memory ran out, some of the last may be missing, and more of the input may have
+-- been read than was answered. If an input or an output does not tell its bytes, nothing is said of these.
 pub record IsNineConversation {I O : Type 0} (tells : ConnectionTells I O) (queue : Option (List (I × O)))
     (number : ℕ) (messages : List MessageView) (replies : List ReplyView) : Type 0 where
   pub input : I

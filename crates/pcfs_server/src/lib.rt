@@ -5,7 +5,7 @@
 //! token that the service admitted was attended at most once and has left; and it was attended with the connection of its
 //! number, as that was accepted: what the service expects of the connection of that number holds of it, as far as the
 //! listener tells its connections. A service has the connection's input and output for itself, and gives them back in an
-//! `EndedConnection`, which nobody can read or write: nothing is written to an output after the service attended it.
+//! `EndedConnection`, which gives neither out, so that nothing is written to an output after the service attended it.
 #![tactic(auto)]
 
 mod end;

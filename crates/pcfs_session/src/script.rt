@@ -215,8 +215,8 @@ fn read_pieces<D: Disk, I: Source, O: Sink>(
 /// Runs the script in the input over the store, as an operator's. The input is taken in pieces, and a line is answered once
 /// it has come. By the order of the code, and no clause, no more of the input is kept than a line and a piece, and replies
 /// are written once they have `enough` bytes, and before more is taken. At the end all are out; but after a fault of memory
-/// perhaps not the last, and after one of the output perhaps not the last and fewer than `enough` bytes before it: no line is
-/// answered after one whose reply could not be sent.
+/// perhaps not the last, and after one of the output perhaps not the last and fewer than `enough` bytes before it: so if one
+/// byte is enough, no line is answered after one whose reply could not be sent.
 ///
 /// Returns how the script ended, and the store.
 pub fn script_session<D: Disk, I: Source, O: Sink>(

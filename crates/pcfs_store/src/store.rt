@@ -169,7 +169,7 @@ impl<D: Disk> Store<D> {
             IsPinned D.clock D.left_since D.image self.old.other →
             IsReady D.clock D.left_since D.image self.new }
 
-        // A crash at any moment leaves the history as it was, or with the one event that the answer keeps.
+        // Of a ready store a crash at any moment leaves the history as it was, or with the one event that the answer keeps.
         ensures any_moment { IsReady D.clock D.left_since D.image self.old →
             StopsLeave D.clock D.left_since D.image self.old self.new (LeavesStep self.old pass clock request) }
 
@@ -235,7 +235,7 @@ impl<D: Disk> Store<D> {
             IsPinned D.clock D.left_since D.image self.old.other →
             IsReady D.clock D.left_since D.image self.new }
 
-        // A crash at any moment leaves the history as it was, or with the event if it may come next.
+        // Of a ready store a crash at any moment leaves the history as it was, or with the event if it may come next.
         ensures any_moment { IsReady D.clock D.left_since D.image self.old →
             StopsLeave D.clock D.left_since D.image self.old self.new (LeavesAdmitting self.old event) }
 
@@ -307,7 +307,7 @@ impl<D: Disk> Store<D> {
             IsPinned D.clock D.left_since D.image self.old.active →
             IsReady D.clock D.left_since D.image self.new }
 
-        // A crash at any moment leaves the history.
+        // Of a ready store a crash at any moment leaves the history.
         ensures any_moment { IsReady D.clock D.left_since D.image self.old →
             StopsLeave D.clock D.left_since D.image self.old self.new (SurvivesWholeClosed self.old.base self.old.events) }
 
@@ -317,7 +317,7 @@ impl<D: Disk> Store<D> {
             StopsNow D.clock D.left_since D.image self.new
             (SurvivesStopAt self.old.base self.old.events self.old.generation self.old.second_active None) }
 
-        // It is so too if the area lacked its closed gate and nothing was pending.
+        // It is so too, but for the closed gate, if the area lacked that and nothing was pending.
         ensures halts_at_rest { IsAtRest D.clock D.left_since D.image self.old →
             result ≡ CheckpointReply.Stopped →
             StopsNow D.clock D.left_since D.image self.new

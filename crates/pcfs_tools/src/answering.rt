@@ -63,8 +63,8 @@ fn write_end<O: Sink>(output: &mut O, end: ScriptEnd) -> u8
 
 /// Runs the script in the input over the store, and returns the status to end with, and the store. By the order of the code
 /// replies are written once they have `enough` bytes, and before more of the input is taken. Nothing is read after a read
-/// that failed, and nothing written after a write that failed; no line is answered after one whose reply could not be sent,
-/// and fewer than `enough` bytes of those before it are missing then, and none if memory ran out.
+/// that failed, and nothing written after a write that failed; if the last reply could not be sent, fewer than `enough` bytes
+/// of those before it are missing too, and none if memory ran out.
 pub fn run_over<D: Disk, I: Source, O: Sink>(
     alloc: Global,
     store: Store<D>,

@@ -276,8 +276,8 @@ pub data IsUndone (words : List (String Global)) (before after : Disks) : Type 0
 
 -- The status that a run ends with, and its cause. A script in memory ends as its lines say, and
 -- leaves the disks alone; its own disks are in memory, and fail only if memory runs out. A script
--- over the areas begins where they stand, and so do messages that are taken by their store; none of
--- its replies is buffered while the next line is answered. An export writes the messages of the
+-- over the areas begins where they stand, with none of its replies buffered at an end by a failed
+-- write or for want of memory; and messages are taken by their store. An export writes the messages of the
 -- events in the areas, or that they are gone, and leaves the bytes of the disks as they are. An
 -- inquiry ends as its lines say, and leaves the disks alone. Any other run writes its line, or the
 -- output failed, at its last call, and holds some first part of it; an audit, the lines of its

@@ -59,7 +59,7 @@ module _ (Answered : List (List ℕ) → List LineReply → Type 0) where
 
   -- How a session with this nonce ends: the greeting and all those replies were written. Or the
   -- output failed at the greeting, of which some first part was written: no line was answered, and
-  -- nothing was asked of the input. Or the output failed or memory ran out later: the greeting was
+  -- nothing was taken of the input. Or the output failed or memory ran out later: the greeting was
   -- written, and of the lines that were answered all replies but the last, of which some first part
   -- was, or that the next line is too long.
   pub data SessionEndsBy (nonce : List ℕ) (before : Streams) : SessionEnd → Streams → Type 0 where

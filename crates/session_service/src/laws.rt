@@ -54,9 +54,9 @@ pub fn done_answers_all_lines<L: Listener, C: TurnClock>(net: &L, clock: &C)
     let _ = clock;
 }
 
-/// At the end of a session its output holds what it held, the greeting and all replies to its lines, as far as no port failed
-/// and memory did not run out; else all of these but some end of the last reply, or, if the output failed at it, of the
-/// greeting.
+/// At the end of a session its output holds what it held, the greeting and all replies to its lines, and after a line that is
+/// too long that it is, unless the output failed or memory ran out; then all of these but some end of the last, or, if the
+/// output failed at it, of the greeting.
 pub fn outputs_hold_their_own<L: Listener, C: TurnClock>(net: &L, clock: &C)
     ensures { (queue : Option (List (L.In × L.Out))) (nonces : Option (List ℕ)) →
         OutputsHoldTheirOwn (C.gives clock.now)

@@ -65,7 +65,7 @@ fn answer_lines<R: Wait, I: Source, O: Sink, D: Disk, C: TurnClock, K: Checker>(
 /// Holds a session over a shared store, with this nonce, under this pass; a proof is checked by this checker, by the order of
 /// the code outside the lock.
 ///
-/// The greeting is written whole, unless the output fails; then nothing is asked of the input. By the order of the code, and
+/// The greeting is written whole, unless the output fails; then nothing is taken of the input. By the order of the code, and
 /// no clause, the greeting is out before the first read, and each reply before more of the input is taken. At `Done` the
 /// input was read to its end and each of its lines was answered. No call of the input failed, unless the session ends by
 /// that, and none of the output, unless it ends by that. Each reply has its place in each history that begins with what the

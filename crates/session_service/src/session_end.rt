@@ -10,7 +10,7 @@ pub enum SessionEnd {
     LineTooLong,
     /// The input failed.
     ReadFault,
-    /// The output failed, and may lack any of its end.
+    /// The output failed, and may lack some of the last reply, or of the greeting.
     WriteFault,
     /// Memory ran out, after the greeting.
     NoMemory,
