@@ -1,1 +1,0 @@
-/opt/rattle/toolchain/bin/clang --target=x86_64-unknown-linux-gnu --sysroot=/work/h/rig/tc -march=x86-64 --no-default-config -no-canonical-prefixes -S -emit-llvm -o - -x ir $1 -Xclang -disable-llvm-passes
